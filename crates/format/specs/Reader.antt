@@ -1,0 +1,59 @@
+-- Reading left to right over one list of bytes. A reader is a function of the place reached: it gives a value and the place
+-- after it, or stops with a refusal's number and place. What is read for a record hands on p, the place that its refusals name.
+use Prim.Native.Nat.{ℕ, zero, suc, _+_, _*_, _/_, _%_}
+use mathlib.Core.Bool.{Bool, true, false, cond}
+use mathlib.Core.List.{List, [], _∷_}
+use lib.ListN.{length, getD}
+use lib.Dec.{ltb}
+use Rattle.model.specs.Refusals.{ended}
+
+infixl 20 _>>=_
+infixl 20 _>>_
+pub data Read (A : Type 0) : Type 0 where
+  got : A → ℕ → Read A
+  stopped : ℕ → ℕ → Read A
+
+abbrev pub Reader : Type 0 → Type 0
+Reader A = ℕ → Read A
+
+abbrev pub andThen : {A B : Type 0} → Read A → (A → Reader B) → Read B
+andThen (got a next) f = f a next
+andThen (stopped k p) f = stopped k p
+
+abbrev pub _>>=_ : {A B : Type 0} → Reader A → (A → Reader B) → Reader B
+_>>=_ m f = λ at. andThen (m at) f
+
+abbrev pub _>>_ : {A B : Type 0} → Reader A → Reader B → Reader B
+_>>_ m f = λ at. andThen (m at) (λ _. f)
+
+abbrev pub give : {A : Type 0} → A → Reader A
+give a = λ at. got a at
+
+abbrev pub stop : {A : Type 0} → ℕ → ℕ → Reader A
+stop k p = λ at. stopped k p
+
+-- goes on where the test holds, else stops with the number k at place p
+abbrev pub need : Bool → ℕ → ℕ → Reader (Unit {0})
+need true k p = give tt
+need false k p = stop k p
+
+-- a record's reader at the place reached: its refusals name that place
+abbrev pub here : {A : Type 0} → (ℕ → Reader A) → Reader A
+here f = λ at. f at at
+
+module _ (s : List ℕ) where
+  unfoldable pub byte : ℕ → Reader ℕ
+  byte p = λ at. cond (ltb at (length s)) (got (getD s at 0) (suc at)) (stopped ended p)
+
+  -- a number of k bytes, low byte first
+  unfoldable pub number : ℕ → ℕ → Reader ℕ
+  number zero p = give 0
+  number (suc k) p = do
+    b ← byte p
+    n ← number k p
+    give (n * 256 + b)
+
+-- a number written as k bytes, low byte first
+unfoldable pub bytesOf : ℕ → ℕ → List ℕ
+bytesOf zero n = []
+bytesOf (suc k) n = n % 256 ∷ bytesOf k (n / 256)

@@ -1,0 +1,28 @@
+-- Every limit of document 01, named once. Definitions and theorems cite the names and never the numbers.
+use Prim.Native.Nat.{ℕ, _+_, _*_}
+
+-- the largest static size, 2^53
+abbrev pub maxSize : ℕ
+maxSize = 9007199254740992
+
+-- opening sizes of a shape; closing sizes of a shape
+abbrev pub maxSizes : ℕ
+maxSizes = 8
+
+-- bytes of a Def's name; its fields
+abbrev pub maxName : ℕ
+maxName = 16
+
+abbrev pub maxFields : ℕ
+maxFields = 31
+
+-- types in one type, itself counted; the outermost is at depth 1
+abbrev pub maxTypes : ℕ
+maxTypes = 32
+
+abbrev pub maxDepth : ℕ
+maxDepth = 8
+
+-- bytes that suffice for any type
+abbrev pub maxBytes : ℕ
+maxBytes = 4992

@@ -1,3 +1,7 @@
 pub mod Reader
 pub mod Records
 pub mod Outcome
+pub mod ReaderLaws
+pub mod WriteRead
+pub mod ReadWrite
+pub mod Suffices

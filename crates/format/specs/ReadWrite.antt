@@ -13,9 +13,9 @@ use Rattle.model.specs.Limits.{maxSize, maxSizes, maxName, maxFields, maxTypes,
 use Rattle.model.specs.Refusals.{unmarked, outOfRange, oversized, tooMany, trailing}
 use Rattle.model.specs.Types.{Dim, static, unknown, Shape, shape, Kind, bool, nat, int, num, complex, ascii, char, stream, any, Scalar, plain, boxAny, boxAll, boxDef, Fields, noFields, field, Ty, ty, boxOf, fieldOf, fieldCount, inside, among, types, below, deepest, depth}
 use Rattle.model.specs.Within.{All, Each, DimWithin, DimsWithin, ShapeWithin, Printing, NameWithin, ScalarWithin, FieldsWithin, RecordsWithin, Within}
-use Rattle.format.specs.Reader.{Read, got, stopped, Reader, andThen, _>>=_, _>>_, give, stop, need, here, byte, number, bytesOf}
-use Rattle.format.specs.ReaderLaws.{Bytes, Took, took-none, took-join, split, gave, needed, took-byte, took-number}
-use Rattle.format.specs.Records.{Mark, mark, shapeMark, scalarMark, boxMark, markBytes, absent, ones, code, boxCode, kindOf, dimNumber, writeDims, countOf, listOf, writeShape, boxStart, writeScalar, writeFields, writeTy, dimOf, isCount, listCount, optional, isPrinting, form, orStop, readMark, readDim, readDims, shapeFrom, readShape, readName, readFields, defFrom, allFrom, boxFrom, plainFrom, scalarFrom, readTy, readType}
+use Rattle.format.specs.Reader.{Read, got, stopped, Reader, andThen, _>>=_, _>>_, give, stop, need, here, byte, judged, number, bytesOf}
+use Rattle.format.specs.ReaderLaws.{Bytes, Took, took-none, took-join, split, gave, needed, took-byte, took-judged, took-number}
+use Rattle.format.specs.Records.{Mark, mark, shapeMark, scalarMark, boxMark, markBytes, absent, ones, code, boxCode, kindOf, dimNumber, writeDims, countOf, listOf, writeShape, boxStart, writeScalar, writeFields, writeTy, dimOf, isCount, isOptional, listCount, optional, isPrinting, form, orStop, readMark, readDim, readDims, shapeFrom, readShape, readName, readFields, defFrom, allFrom, boxFrom, plainFrom, scalarFrom, readTy, readType}
 use Rattle.format.specs.Outcome.{Outcome, accepted, refused, alone, lone}
 
 -- ---- codes and counts
@@ -48,7 +48,7 @@ record Optional {A : Type 0} (P : A → Type 0) (most n : ℕ) (xs : List A) : T
   held : listOf (optional n xs) ≡ xs
   within : Each (λ ys. (length ys ≤ most) × All P ys) (optional n xs)
 
-optional-back : {A : Type 0} (P : A → Type 0) (most n : ℕ) (xs : List A) → isCount most n ≡ true → length xs ≡ listCount n → All P xs → Optional P most n xs
+optional-back : {A : Type 0} (P : A → Type 0) (most n : ℕ) (xs : List A) → isOptional most n ≡ true → length xs ≡ listCount n → All P xs → Optional P most n xs
 optional-back {A = A} P most n xs t h all = go (eqb n absent) refl xs t h all
   where
     go : (b : Bool) → eqb n absent ≡ b → (xs : List A) → (leb n most || b) ≡ true → length xs ≡ cond b 0 n → All P xs → Optional P most n xs
@@ -122,33 +122,33 @@ module _ (s : List ℕ) (small : Bytes s) where
   unfolding shapeFrom writeShape
   took-shape p at t n e =
       split (readMark s shapeMark p at) e λ u m₁ e₁ e₂.
-      split (byte s p m₁) e₂ λ a m₂ e₃ e₄.
-      needed (leb a maxSizes) _ _ _ _ e₄ λ t₁ e₅.
-      split (byte s p m₂) e₅ λ b m₃ e₆ e₇.
-      needed (isCount maxSizes b) _ _ _ _ e₇ λ t₂ e₈.
-      split (readDims s a p m₃) e₈ λ o m₄ e₉ e₁₀.
-      split (readDims s (listCount b) p m₄) e₁₀ λ c m₅ e₁₁ e₁₂.
-      gave e₁₂ λ x y.
-      let h = took-dims a p m₃ o m₄ e₉ in
-      let g = took-dims (listCount b) p m₄ c m₅ e₁₁ in
-      let k = optional-back DimWithin maxSizes b c t₂ (g .2) (g .1) in
+      split (judged s (isCount maxSizes) p m₁) e₂ λ a m₂ e₃ e₄.
+      split (judged s (isOptional maxSizes) p m₂) e₄ λ b m₃ e₅ e₆.
+      split (readDims s a p m₃) e₆ λ o m₄ e₇ e₈.
+      split (readDims s (listCount b) p m₄) e₈ λ c m₅ e₉ e₁₀.
+      gave e₁₀ λ x y.
+      let i = took-judged s small (isCount maxSizes) p m₁ a m₂ e₃ in
+      let j = took-judged s small (isOptional maxSizes) p m₂ b m₃ e₅ in
+      let h = took-dims a p m₃ o m₄ e₇ in
+      let g = took-dims (listCount b) p m₄ c m₅ e₉ in
+      let k = optional-back DimWithin maxSizes b c (j .1) (g .2) (g .1) in
       rw (← x, ← y)
       (rw (h .2, k .count, k .held)
       (took-join (took-mark shapeMark p at u m₁ e₁)
-      (took-join (took-byte s small p m₁ a m₂ e₃ .0)
-      (took-join (took-byte s small p m₂ b m₃ e₆ .0)
-      (took-join (h .0) (g .0)))), ((leb-true a maxSizes t₁, h .1), k .within)))
+      (took-join (i .0)
+      (took-join (j .0)
+      (took-join (h .0) (g .0)))), ((leb-true a maxSizes (i .1), h .1), k .within)))
 
   took-name : (k p at : ℕ) (r : List ℕ) (n : ℕ) → readName s k p at ≡ got r n → Took s at r n × All Printing r × (length r ≡ k)
   unfolding readName
   took-name zero p at r n e = gave e λ x y. rw (← x, ← y) (took-none, tt, refl)
   took-name (suc k) p at r n e =
-      split (byte s p at) e λ b m e₁ e₂.
-      needed (isPrinting b) _ _ _ _ e₂ λ t e₃.
-      split (readName s k p m) e₃ λ r′ m′ e₄ e₅.
-      gave e₅ λ x y.
-      let h = took-name k p m r′ m′ e₄ in
-      rw (← x, ← y) (took-join (took-byte s small p at b m e₁ .0) (h .0), (printing-back b t, h .1), ap suc (h .2))
+      split (judged s isPrinting p at) e λ b m e₁ e₂.
+      split (readName s k p m) e₂ λ r′ m′ e₃ e₄.
+      gave e₄ λ x y.
+      let i = took-judged s small isPrinting p at b m e₁ in
+      let h = took-name k p m r′ m′ e₃ in
+      rw (← x, ← y) (took-join (i .0) (h .0), (printing-back b (i .1), h .1), ap suc (h .2))
 
   -- A reader of types that keeps these laws to depth d.
   record Keeps (d : ℕ) (go : ℕ → Reader Ty) : Type 0 where
@@ -188,20 +188,20 @@ module _ (s : List ℕ) (small : Bytes s) where
         content : (t : Ty) (m₁ : ℕ) → Took-ty s d n at t m₁ → Took-scalar s d n at₀ (boxOf t) m₁
         content (ty t l) m₁ h = record { bytes = took-join b (h .bytes); records = h .records; few = h .few; shallow = h .shallow }
     took-form (suc (suc zero)) n p at₀ at k m b e =
-        split (byte s p at) e λ c m₁ e₁ e₂.
-        needed (isCount maxName c) _ _ _ _ e₂ λ t₁ e₃.
-        split (readName s (listCount c) p m₁) e₃ λ name m₂ e₄ e₅.
-        split (byte s p m₂) e₅ λ j m₃ e₆ e₇.
-        needed (leb j maxFields) _ _ _ _ e₇ λ t₂ e₈.
-        split (readFields s go j n m₃) e₈ λ f m₄ e₉ e₁₀.
-        gave e₁₀ λ x y.
-        let h = took-name (listCount c) p m₁ name m₂ e₄ in
-        let o = optional-back Printing maxName c name t₁ (h .2) (h .1) in
-        let (q, fc) = took-fields j n m₃ f m₄ e₉ in
+        split (judged s (isOptional maxName) p at) e λ c m₁ e₁ e₂.
+        split (readName s (listCount c) p m₁) e₂ λ name m₂ e₃ e₄.
+        split (judged s (isCount maxFields) p m₂) e₄ λ j m₃ e₅ e₆.
+        split (readFields s go j n m₃) e₆ λ f m₄ e₇ e₈.
+        gave e₈ λ x y.
+        let i = took-judged s small (isOptional maxName) p at c m₁ e₁ in
+        let l = took-judged s small (isCount maxFields) p m₂ j m₃ e₅ in
+        let h = took-name (listCount c) p m₁ name m₂ e₃ in
+        let o = optional-back Printing maxName c name (i .1) (h .2) (h .1) in
+        let (q, fc) = took-fields j n m₃ f m₄ e₇ in
         rw (← x, ← y)
         (record {
-          bytes = rw (o .count, o .held, fc) (took-join b (took-join (took-byte s small p at c m₁ e₁ .0) (took-join (h .0) (took-join (took-byte s small p m₂ j m₃ e₆ .0) (q .bytes)))));
-          records = (o .within, rw fc (leb-true j maxFields t₂), q .records);
+          bytes = rw (o .count, o .held, fc) (took-join b (took-join (i .0) (took-join (h .0) (took-join (l .0) (q .bytes)))));
+          records = (o .within, rw fc (leb-true j maxFields (l .1)), q .records);
           few = q .few;
           shallow = q .shallow;
         })

@@ -5,7 +5,7 @@ use mathlib.Core.Bool.{Bool, true, false, cond}
 use mathlib.Core.List.{List, [], _∷_}
 use lib.ListN.{length, getD}
 use lib.Dec.{ltb}
-use Rattle.model.specs.Refusals.{ended}
+use Rattle.model.specs.Refusals.{ended, outOfRange}
 
 infixl 20 _>>=_
 infixl 20 _>>_
@@ -19,6 +19,10 @@ Reader A = ℕ → Read A
 abbrev pub andThen : {A B : Type 0} → Read A → (A → Reader B) → Read B
 andThen (got a next) f = f a next
 andThen (stopped k p) f = stopped k p
+
+abbrev pub mapRead : {A B : Type 0} → (A → B) → Read A → Read B
+mapRead f (got a next) = got (f a) next
+mapRead f (stopped k p) = stopped k p
 
 abbrev pub _>>=_ : {A B : Type 0} → Reader A → (A → Reader B) → Reader B
 _>>=_ m f = λ at. andThen (m at) f
@@ -44,6 +48,13 @@ here f = λ at. f at at
 module _ (s : List ℕ) where
   unfoldable pub byte : ℕ → Reader ℕ
   byte p = λ at. cond (ltb at (length s)) (got (getD s at 0) (suc at)) (stopped ended p)
+
+  -- a byte that is judged as it is read: a count, a code or a byte of a name
+  unfoldable pub judged : (ℕ → Bool) → ℕ → Reader ℕ
+  judged fits p = do
+    b ← byte p
+    need (fits b) outOfRange p
+    give b
 
   -- a number of k bytes, low byte first
   unfoldable pub number : ℕ → ℕ → Reader ℕ

@@ -11,7 +11,7 @@ use lib.Dec.{eqb, leb}
 use Rattle.model.specs.Limits.{maxSize, maxSizes, maxName, maxFields, maxTypes, maxDepth}
 use Rattle.model.specs.Refusals.{unmarked, outOfRange, oversized, tooMany, trailing}
 use Rattle.model.specs.Types.{Dim, static, unknown, Shape, shape, Kind, bool, nat, int, num, complex, ascii, char, stream, any, Scalar, plain, boxAny, boxAll, boxDef, Fields, noFields, field, Ty, ty, boxOf, fieldOf, fieldCount, types}
-use Rattle.format.specs.Reader.{Read, got, stopped, Reader, andThen, _>>=_, _>>_, give, stop, need, here, byte, number, bytesOf}
+use Rattle.format.specs.Reader.{Read, got, stopped, Reader, andThen, _>>=_, _>>_, give, stop, need, here, byte, judged, number, bytesOf}
 
 -- ---- marks and codes
 
@@ -105,9 +105,12 @@ writeTy (ty s k) = writeShape s ++ writeScalar k
 abbrev pub dimOf : ℕ → Dim
 dimOf n = cond (eqb n ones) unknown (static n)
 
--- a count of at most `most`, or the byte for a list that is absent
 abbrev pub isCount : ℕ → ℕ → Bool
-isCount most n = leb n most || eqb n absent
+isCount most n = leb n most
+
+-- a count, or the byte for a list that is absent
+abbrev pub isOptional : ℕ → ℕ → Bool
+isOptional most n = leb n most || eqb n absent
 
 abbrev pub listCount : ℕ → ℕ
 listCount n = cond (eqb n absent) 0 n
@@ -152,10 +155,8 @@ module _ (s : List ℕ) where
   unfoldable pub shapeFrom : ℕ → Reader Shape
   shapeFrom p = do
     readMark shapeMark p
-    m ← byte s p
-    need (leb m maxSizes) outOfRange p
-    n ← byte s p
-    need (isCount maxSizes n) outOfRange p
+    m ← judged s (isCount maxSizes) p
+    n ← judged s (isOptional maxSizes) p
     o ← readDims m p
     c ← readDims (listCount n) p
     give (shape o (optional n c))
@@ -166,8 +167,7 @@ module _ (s : List ℕ) where
   unfoldable pub readName : ℕ → ℕ → Reader (List ℕ)
   readName zero p = give []
   readName (suc k) p = do
-    b ← byte s p
-    need (isPrinting b) outOfRange p
+    b ← judged s isPrinting p
     n ← readName k p
     give (b ∷ n)
 
@@ -181,11 +181,9 @@ module _ (s : List ℕ) where
 
   unfoldable pub defFrom : (ℕ → Reader Ty) → ℕ → ℕ → Reader Scalar
   defFrom go n p = do
-    c ← byte s p
-    need (isCount maxName c) outOfRange p
+    c ← judged s (isOptional maxName) p
     name ← readName (listCount c) p
-    k ← byte s p
-    need (leb k maxFields) outOfRange p
+    k ← judged s (isCount maxFields) p
     f ← readFields go k n
     give (boxDef (optional c name) f)
 

@@ -14,9 +14,9 @@ use Rattle.model.specs.Limits.{maxSize, maxSizes, maxName, maxFields, maxTypes,
 use Rattle.model.specs.Refusals.{ended, unmarked, outOfRange, oversized, tooMany, trailing}
 use Rattle.model.specs.Types.{Dim, static, unknown, Shape, shape, Kind, bool, nat, int, num, complex, ascii, char, stream, any, Scalar, plain, boxAny, boxAll, boxDef, Fields, noFields, field, Ty, ty, boxOf, fieldOf, fieldCount, inside, among, types, below, deepest, depth}
 use Rattle.model.specs.Within.{All, Each, DimWithin, DimsWithin, ShapeWithin, Printing, NameWithin, ScalarWithin, FieldsWithin, RecordsWithin, Within}
-use Rattle.format.specs.Reader.{Read, got, stopped, Reader, andThen, _>>=_, _>>_, give, stop, need, here, byte, number, bytesOf}
-use Rattle.format.specs.ReaderLaws.{Reads, reads-give, reads-bind, reads-byte, reads-need, reads-here, reads-last, reads-number}
-use Rattle.format.specs.Records.{Mark, mark, shapeMark, scalarMark, boxMark, markBytes, absent, ones, code, boxCode, kindOf, dimNumber, writeDims, countOf, listOf, writeShape, boxStart, writeScalar, writeFields, writeTy, dimOf, isCount, listCount, optional, isPrinting, form, orStop, readMark, readDim, readDims, shapeFrom, readShape, readName, readFields, defFrom, allFrom, boxFrom, plainFrom, scalarFrom, readTy, readType}
+use Rattle.format.specs.Reader.{Read, got, stopped, Reader, andThen, _>>=_, _>>_, give, stop, need, here, byte, judged, number, bytesOf}
+use Rattle.format.specs.ReaderLaws.{Reads, reads-give, reads-bind, reads-byte, reads-judged, reads-here, reads-last, reads-number}
+use Rattle.format.specs.Records.{Mark, mark, shapeMark, scalarMark, boxMark, markBytes, absent, ones, code, boxCode, kindOf, dimNumber, writeDims, countOf, listOf, writeShape, boxStart, writeScalar, writeFields, writeTy, dimOf, isCount, isOptional, listCount, optional, isPrinting, form, orStop, readMark, readDim, readDims, shapeFrom, readShape, readName, readFields, defFrom, allFrom, boxFrom, plainFrom, scalarFrom, readTy, readType}
 use Rattle.format.specs.Outcome.{Outcome, accepted, refused, alone, lone}
 
 -- ---- codes and counts
@@ -47,7 +47,7 @@ code-unboxed any = refl
 
 -- A list that may be absent, of at most `most` elements, where `most` is below the byte for an absent one.
 module _ {A : Type 0} (most : ℕ) (small : most < absent) where
-  count-ok : (c : Option (List A)) → length (listOf c) ≤ most → isCount most (countOf c) ≡ true
+  count-ok : (c : Option (List A)) → length (listOf c) ≤ most → isOptional most (countOf c) ≡ true
   count-ok none h = go (leb absent most)
     where
       go : (t : Bool) → (t || true) ≡ true
@@ -95,17 +95,15 @@ module _ (s : List ℕ) where
   reads-shape p (shape o c) h =
       let (few, each) = closing-within c (h .1) in
       reads-bind _ (reads-mark shapeMark p)
-      (reads-byte p _
-      (reads-need (leb (length o) maxSizes) outOfRange p (le-leb (length o) maxSizes (h .0 .0))
-      (reads-byte p _
-      (reads-need (isCount maxSizes (countOf c)) outOfRange p (count-ok maxSizes (lit< tt) c few)
+      (reads-judged (isCount maxSizes) p _ (le-leb (length o) maxSizes (h .0 .0))
+      (reads-judged (isOptional maxSizes) p _ (count-ok maxSizes (lit< tt) c few)
       (reads-bind _ (reads-dims p o (h .0 .1))
-      (reads-last _ (reads-closing p c few each) (ap (shape o) (optional-ok maxSizes (lit< tt) c few))))))))
+      (reads-last _ (reads-closing p c few each) (ap (shape o) (optional-ok maxSizes (lit< tt) c few))))))
 
   reads-name : (p : ℕ) (n : List ℕ) → All Printing n → Reads s (readName s (length n) p) n n
   unfolding readName
   reads-name p [] h = reads-give
-  reads-name p (b ∷ n) h = reads-byte p _ (reads-need (isPrinting b) outOfRange p (rw (le-leb 32 b (h .0 .0), le-leb b 126 (h .0 .1))) (reads-last _ (reads-name p n (h .1)) refl))
+  reads-name p (b ∷ n) h = reads-judged isPrinting p _ (rw (le-leb 32 b (h .0 .0), le-leb b 126 (h .0 .1))) (reads-last _ (reads-name p n (h .1)) refl)
 
   name-within : (n : Option (List ℕ)) → Each NameWithin n → (length (listOf n) ≤ maxName) × All Printing (listOf n)
   name-within none h = (lit≤ tt, tt)
@@ -145,12 +143,10 @@ module _ (s : List ℕ) where
     reads-scalar (boxDef m f) o d n h c p =
         let (few, each) = name-within m (o .0) in
         box-start (readTy s d) n p 2 λ q.
-        reads-byte q _
-        (reads-need (isCount maxName (countOf m)) outOfRange q (count-ok maxName (lit< tt) m few)
+        reads-judged (isOptional maxName) q _ (count-ok maxName (lit< tt) m few)
         (reads-bind _ (reads-named q m few each)
-        (reads-byte q _
-        (reads-need (leb (fieldCount f) maxFields) outOfRange q (le-leb (fieldCount f) maxFields (o .1))
-        (reads-last _ (reads-fields f (o .2) d n (omega arith) (omega arith)) (ap (λ x. boxDef x f) (optional-ok maxName (lit< tt) m few)))))))
+        (reads-judged (isCount maxFields) q _ (le-leb (fieldCount f) maxFields (o .1))
+        (reads-last _ (reads-fields f (o .2) d n (omega arith) (omega arith)) (ap (λ x. boxDef x f) (optional-ok maxName (lit< tt) m few)))))
 
     reads-fields : (f : Fields) → FieldsWithin f → (d n : ℕ) → deepest f ≤ d → among f ≤ n → Reads s (readFields s (readTy s d) (fieldCount f) n) (writeFields f) f
     reads-fields noFields o d n h c = reads-give

@@ -1,0 +1,3 @@
+pub mod Known
+mod ByteLaws
+mod ShapeLaws

@@ -1,0 +1,45 @@
+-- What the answers of this crate say, in the terms of the definitions.
+use Prim.Native.Nat.{ℕ, _+_, _*_}
+use mathlib.Core.Bool.{cond}
+use mathlib.Core.List.{List, map}
+use mathlib.Core.Option.{none, some}
+use lib.ListN.{take, getD}
+use Rattle.model.specs.Types.{Dim, Shape, shape}
+use Rattle.format.specs.Reader.{Read, got, stopped, mapRead}
+use Rattle.format.specs.Records.{dimOf}
+use Rattle.record.specs.declared.Answer.{Answer}
+use Rattle.record.specs.declared.Answer.the-variants.{Got, Refused}
+use Rattle.record.specs.declared.Dims.{Dims}
+use Rattle.record.specs.declared.DynShape.{DynShape}
+use Rattle.record.specs.declared.DimsRead.{DimsRead}
+use Rattle.record.specs.declared.ShapeRead.{ShapeRead}
+
+abbrev pub answerOf : Answer → Read ℕ
+answerOf (Got v n) = got v n
+answerOf (Refused k p) = stopped k p
+
+-- for what is passed over, the value is 0
+abbrev pub nothing : {A : Type 0} → A → ℕ
+nothing a = 0
+
+-- eight bytes from a place on, low byte first
+abbrev pub eightBytes : List ℕ → ℕ → ℕ
+eightBytes s at =
+    getD s at 0 + 256 * (getD s (at + 1) 0 + 256 * (getD s (at + 2) 0 + 256 * (getD s (at + 3) 0 + 256 * (getD s (at + 4) 0 + 256 * (getD s (at + 5) 0 + 256 * (getD s (at + 6) 0 + 256 * getD s (at + 7) 0))))))
+
+abbrev pub dimsOf : Dims → List Dim
+dimsOf d = map dimOf (take (d .count) (d .sizes))
+
+abbrev pub shapeFor : DynShape → Shape
+shapeFor s = shape (dimsOf (s .dims)) (cond (s .closed) none (some (dimsOf (s .suffix))))
+
+-- a value that stands beside its answer
+abbrev pub beside : {A : Type 0} → Answer → A → Read A
+beside (Got v n) a = got a n
+beside (Refused k p) a = stopped k p
+
+abbrev pub dimsReadOf : DimsRead → Read (List Dim)
+dimsReadOf r = beside (r .answer) (dimsOf (r .dims))
+
+abbrev pub shapeReadOf : ShapeRead → Read Shape
+shapeReadOf r = beside (r .answer) (shapeFor (r .shape))

@@ -1,0 +1,189 @@
+// Bytes, counts, marks, sizes and names. In each function `place` is the first byte of the record that the bytes at `at`
+// belong to, which its refusals name.
+use crate::Answer;
+use crate::limits::ABSENT;
+use crate::limits::MAX_SIZE;
+use crate::limits::UNKNOWN;
+use crate::refusal::ENDED;
+use crate::refusal::OUT_OF_RANGE;
+use crate::refusal::OVERSIZED;
+use crate::refusal::UNMARKED;
+ghost use mathlib.Core.Path.{_≡_};
+ghost use Prim.Native.Nat.{_+_, _≤_, _<_};
+ghost use lib.ListN.{length};
+ghost use Rattle.format.specs.Reader.{mapRead, byte, judged};
+ghost use Rattle.format.specs.Records.{mark, dimNumber, isCount, isOptional, isPrinting, readMark, readDim, readName};
+ghost use Rattle.record.specs.Answers.{answerOf, nothing, eightBytes};
+
+fn wide(x: u8) -> u64
+    ensures { λ r. ⌜ (r ≡ x) × (r < 256) ⌝ }
+{
+    x as u64
+}
+
+pub fn read_byte(s: &[u8], place: usize, at: usize) -> Answer
+    ensures { λ r. ⌜ answerOf r ≡ byte (now (s .entry)) place at ⌝ }
+{
+    if at < s.len() {
+        return Answer::Got {
+            value: wide(s[at]),
+            next: at + 1,
+        };
+    }
+    Answer::Refused {
+        number: ENDED,
+        place,
+    }
+}
+
+pub fn read_count(s: &[u8], place: usize, at: usize, most: u64) -> Answer
+    ensures { λ r. ⌜ answerOf r ≡ judged (now (s .entry)) (isCount most) place at ⌝ }
+{
+    let b = read_byte(s, place, at);
+    let Answer::Got { value, next: _ } = b else {
+        return b;
+    };
+    if value <= most {
+        return b;
+    }
+    Answer::Refused {
+        number: OUT_OF_RANGE,
+        place,
+    }
+}
+
+// A count, or the byte for a list that is absent.
+pub fn read_optional(s: &[u8], place: usize, at: usize, most: u64) -> Answer
+    ensures { λ r. ⌜ answerOf r ≡ judged (now (s .entry)) (isOptional most) place at ⌝ }
+{
+    let b = read_byte(s, place, at);
+    let Answer::Got { value, next: _ } = b else {
+        return b;
+    };
+    if value <= most {
+        return b;
+    }
+    if value == ABSENT {
+        return b;
+    }
+    Answer::Refused {
+        number: OUT_OF_RANGE,
+        place,
+    }
+}
+
+fn read_printing(s: &[u8], place: usize, at: usize) -> Answer
+    ensures { λ r. ⌜ answerOf r ≡ judged (now (s .entry)) isPrinting place at ⌝ }
+{
+    let b = read_byte(s, place, at);
+    let Answer::Got { value, next: _ } = b else {
+        return b;
+    };
+    if value < 32 {
+        return Answer::Refused {
+            number: OUT_OF_RANGE,
+            place,
+        };
+    }
+    if 126 < value {
+        return Answer::Refused {
+            number: OUT_OF_RANGE,
+            place,
+        };
+    }
+    b
+}
+
+// A mark is judged once both its bytes are there.
+pub fn read_mark(s: &[u8], place: usize, at: usize, first: u64, second: u64) -> Answer
+    ensures { λ r. ⌜ answerOf r ≡ mapRead nothing (readMark (now (s .entry)) (mark first second) place at) ⌝ }
+{
+    let a = read_byte(s, place, at);
+    let Answer::Got { value: x, next } = a else {
+        return a;
+    };
+    let b = read_byte(s, place, next);
+    let Answer::Got { value: y, next: end } = b else {
+        return b;
+    };
+    if x == first {
+        if y == second {
+            return Answer::Got {
+                value: 0,
+                next: end,
+            };
+        }
+    }
+    Answer::Refused {
+        number: UNMARKED,
+        place,
+    }
+}
+
+// Eight bytes, low byte first.
+fn number_at(s: &[u8], at: usize) -> u64
+    requires { ⌜ at + 8 ≤ length (now s) ⌝ }
+    ensures { λ r. ⌜ r ≡ eightBytes (now (s .entry)) at ⌝ }
+{
+    let a = wide(s[at]);
+    let b = wide(s[at + 1]);
+    let c = wide(s[at + 2]);
+    let d = wide(s[at + 3]);
+    let e = wide(s[at + 4]);
+    let f = wide(s[at + 5]);
+    let g = wide(s[at + 6]);
+    let h = wide(s[at + 7]);
+    a + 256 * (b + 256 * (c + 256 * (d + 256 * (e + 256 * (f + 256 * (g + 256 * h))))))
+}
+
+// A size is judged once all its bytes are there.
+pub fn read_size(s: &[u8], place: usize, at: usize) -> Answer
+    ensures { λ r. ⌜ answerOf r ≡ mapRead dimNumber (readDim (now (s .entry)) place at) ⌝ }
+{
+    if s.len() < 8 {
+        return Answer::Refused {
+            number: ENDED,
+            place,
+        };
+    }
+    if s.len() - 8 < at {
+        return Answer::Refused {
+            number: ENDED,
+            place,
+        };
+    }
+    let size = number_at(s, at);
+    if size <= MAX_SIZE {
+        return Answer::Got {
+            value: size,
+            next: at + 8,
+        };
+    }
+    if size == UNKNOWN {
+        return Answer::Got {
+            value: size,
+            next: at + 8,
+        };
+    }
+    Answer::Refused {
+        number: OVERSIZED,
+        place,
+    }
+}
+
+// The bytes of a name, each judged as it is read.
+pub fn read_name(s: &[u8], place: usize, start: usize, count: u64) -> Answer
+    ensures { λ r. ⌜ answerOf r ≡ mapRead nothing (readName (now (s .entry)) count place start) ⌝ }
+{
+    let mut at = start;
+    let mut left = count;
+    while 0 < left {
+        let b = read_printing(s, place, at);
+        let Answer::Got { value: _, next } = b else {
+            return b;
+        };
+        at = next;
+        left -= 1;
+    }
+    Answer::Got { value: 0, next: at }
+}

@@ -1,0 +1,46 @@
+// Reading records from any bytes. Each function reads what one definition of `format` reads, in its order, and answers
+// what was read with the place after it, or the refusal.
+mod bytes;
+pub mod limits;
+pub mod refusal;
+mod shape;
+
+pub use shape::no_dims;
+pub use shape::read_shape;
+
+
+// A value with the place after it, or a refusal's number and place.
+pub enum Answer {
+    Got { value: u64, next: usize },
+    Refused { number: u8, place: usize },
+}
+
+// A list of at most eight sizes: the first `count` of the array.
+pub struct Dims {
+    pub sizes: [u64; 8],
+    pub count: usize,
+}
+
+// A shape: its opening sizes, and its closing sizes unless it is closed.
+pub struct DynShape {
+    pub dims: Dims,
+    pub suffix: Dims,
+    pub closed: bool,
+}
+
+// What was read where that holds an array, which stands beside the answer.
+pub struct DimsRead {
+    pub answer: Answer,
+    pub dims: Dims,
+}
+
+pub struct ShapeRead {
+    pub answer: Answer,
+    pub shape: DynShape,
+}
+
+// A lone type, or its refusal.
+pub enum Lone {
+    Accepted,
+    Refused { number: u8, place: usize },
+}

@@ -1,3 +1,4 @@
 pub mod Known
 mod ByteLaws
 mod ShapeLaws
+mod TypeLaws

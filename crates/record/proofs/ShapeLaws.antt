@@ -93,7 +93,7 @@ module _ (s : List ℕ) (p : ℕ) where
 
 -- ---- a whole record, as far as it was read
 
-passed-over : (r : Read (Unit {0})) {v n : ℕ} → mapRead nothing r ≡ got v n → r ≡ got tt n
+pub passed-over : (r : Read (Unit {0})) {v n : ℕ} → mapRead nothing r ≡ got v n → r ≡ got tt n
 passed-over (got u m) {v} {n} e = let x : m ≡ n = cc in rw x
 passed-over (stopped k p) e = let z : _≡_ {A = ℕ} 0 1 = cc in absurd (omega arith)
 

@@ -4,9 +4,11 @@ mod bytes;
 pub mod limits;
 pub mod refusal;
 mod shape;
+mod types;
 
 pub use shape::no_dims;
 pub use shape::read_shape;
+pub use types::read_type;
 
 
 // A value with the place after it, or a refusal's number and place.

@@ -1,0 +1,155 @@
+// Types: a shape's record and a scalar's, whose box may hold types again, with a falling depth. In each function `left` is
+// how many types may still stand here, and the value answered is how many may still follow.
+use crate::Answer;
+use crate::Lone;
+use crate::bytes::read_byte;
+use crate::bytes::read_count;
+use crate::bytes::read_mark;
+use crate::bytes::read_name;
+use crate::bytes::read_optional;
+use crate::limits::ABSENT;
+use crate::limits::BOX;
+use crate::limits::LAST_KIND;
+use crate::limits::MAX_DEPTH;
+use crate::limits::MAX_FIELDS;
+use crate::limits::MAX_NAME;
+use crate::limits::MAX_TYPES;
+use crate::refusal::OUT_OF_RANGE;
+use crate::refusal::TOO_MANY;
+use crate::refusal::TRAILING;
+use crate::shape::read_shape;
+ghost use mathlib.Core.Path.{_≡_};
+ghost use Prim.Native.Nat.{_-_};
+ghost use Rattle.model.specs.Types.{types, inside, among};
+ghost use Rattle.format.specs.Reader.{mapRead};
+ghost use Rattle.format.specs.Records.{listCount, readFields, defFrom, boxFrom, scalarFrom, readTy};
+ghost use Rattle.record.specs.Answers.{answerOf};
+
+// A type at most `depth` deep. One more of either is refused before its bytes are looked at.
+pub fn read_type(s: &[u8], at: usize, depth: u64, left: u64) -> Answer
+    ensures { λ r. ⌜ answerOf r ≡ mapRead (λ t. left - types t) (readTy (now (s .entry)) depth left at) ⌝ }
+{
+    if depth == 0 {
+        return Answer::Refused {
+            number: TOO_MANY,
+            place: at,
+        };
+    }
+    if left == 0 {
+        return Answer::Refused {
+            number: TOO_MANY,
+            place: at,
+        };
+    }
+    let shape = read_shape(s, at);
+    let answer = shape.answer;
+    let Answer::Got { value: _, next } = answer else {
+        return answer;
+    };
+    read_scalar(s, next, depth - 1, left - 1)
+}
+
+// A scalar, whose contents are at most `depth` deep.
+fn read_scalar(s: &[u8], at: usize, depth: u64, left: u64) -> Answer
+    ensures { λ r. ⌜ answerOf r ≡ mapRead (λ k. left - inside k) (scalarFrom (now (s .entry)) (readTy (now (s .entry)) depth) left at at) ⌝ }
+{
+    let mark = read_mark(s, at, at, 0x53, 0x43);
+    let Answer::Got { value: _, next: a } = mark else {
+        return mark;
+    };
+    let kind = read_byte(s, at, a);
+    let Answer::Got { value: code, next: b } = kind else {
+        return kind;
+    };
+    if code == BOX {
+        return read_box(s, b, depth, left);
+    }
+    if LAST_KIND < code {
+        return Answer::Refused {
+            number: OUT_OF_RANGE,
+            place: at,
+        };
+    }
+    Answer::Got {
+        value: left,
+        next: b,
+    }
+}
+
+fn read_box(s: &[u8], at: usize, depth: u64, left: u64) -> Answer
+    ensures { λ r. ⌜ answerOf r ≡ mapRead (λ k. left - inside k) (boxFrom (now (s .entry)) (readTy (now (s .entry)) depth) left at at) ⌝ }
+{
+    let mark = read_mark(s, at, at, 0x42, 0x58);
+    let Answer::Got { value: _, next: a } = mark else {
+        return mark;
+    };
+    let form = read_byte(s, at, a);
+    let Answer::Got { value: code, next: b } = form else {
+        return form;
+    };
+    if code == 0 {
+        return Answer::Got {
+            value: left,
+            next: b,
+        };
+    }
+    if code == 1 {
+        return read_type(s, b, depth, left);
+    }
+    if code == 2 {
+        return read_def(s, at, b, depth, left);
+    }
+    Answer::Refused {
+        number: OUT_OF_RANGE,
+        place: at,
+    }
+}
+
+fn list_count(n: u64) -> u64
+    ensures { λ r. ⌜ r ≡ listCount n ⌝ }
+{
+    if n == ABSENT {
+        return 0;
+    }
+    n
+}
+
+// The rest of a Def, whose box begins at `place`: its name and its fields.
+fn read_def(s: &[u8], place: usize, at: usize, depth: u64, left: u64) -> Answer
+    ensures { λ r. ⌜ answerOf r ≡ mapRead (λ k. left - inside k) (defFrom (now (s .entry)) (readTy (now (s .entry)) depth) left place at) ⌝ }
+{
+    let length = read_optional(s, place, at, MAX_NAME);
+    let Answer::Got { value: n, next: a } = length else {
+        return length;
+    };
+    let name = read_name(s, place, a, list_count(n));
+    let Answer::Got { value: _, next: b } = name else {
+        return name;
+    };
+    let fields = read_count(s, place, b, MAX_FIELDS);
+    let Answer::Got { value: count, next: c } = fields else {
+        return fields;
+    };
+    read_fields(s, c, depth, left, count)
+}
+
+fn read_fields(s: &[u8], start: usize, depth: u64, left: u64, count: u64) -> Answer
+    ensures { λ r. ⌜ answerOf r ≡ mapRead (λ f. left - among f) (readFields (now (s .entry)) (readTy (now (s .entry)) depth) count left start) ⌝ }
+{
+    let mut at = start;
+    let mut still = left;
+    let mut todo = count;
+    while 0 < todo {
+        let field = read_type(s, at, depth, still);
+        let Answer::Got { value, next } = field else {
+            return field;
+        };
+        at = next;
+        still = value;
+        todo -= 1;
+    }
+    Answer::Got {
+        value: still,
+        next: at,
+    }
+}

@@ -1,0 +1,23 @@
+-- What `deliver` comes to, for each way out of a call.
+use Prim.Native.Nat.{ℕ, _≤_, _<_}
+use mathlib.Core.List.{List}
+use mathlib.Core.Path.{_≡_, refl, sym, _∙_, ap}
+use lib.ListN.{length}
+use borrow.Author.Tests.{le-leb, lt-leb}
+use Rattle.model.specs.Refusals.{tooShort}
+use Rattle.format.specs.Outcome.{Outcome, accepted, refused, Delivery, delivery, deliver}
+use Rattle.lent.specs.Over.{over, over-front}
+
+module _ (buffer : List ℕ) where
+  pub deliver-refused : {o : Outcome (List ℕ)} {k p : ℕ} → o ≡ refused k p → deliver o buffer ≡ delivery (refused k p) buffer
+  unfolding deliver
+  deliver-refused e = rw e
+
+  module _ {o : Outcome (List ℕ)} {w : List ℕ} (e : o ≡ accepted w) where
+    pub deliver-short : length buffer < length w → deliver o buffer ≡ delivery (refused tooShort 0) buffer
+    unfolding deliver
+    deliver-short h = rw (e, lt-leb (length w) (length buffer) h)
+
+    pub deliver-fits : length w ≤ length buffer → deliver o buffer ≡ delivery (accepted (length w)) (over buffer 0 w)
+    unfolding deliver
+    deliver-fits h = rw (e, le-leb (length w) (length buffer) h) (ap (delivery (accepted (length w))) (sym (over-front buffer w)))

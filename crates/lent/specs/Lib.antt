@@ -1,0 +1,3 @@
+pub mod Over
+pub mod Written
+pub mod Delivers

@@ -1,0 +1,7 @@
+pub mod Sizes
+pub mod Shapes
+pub mod Pervade
+pub mod Order
+pub mod Scalars
+pub mod Types
+pub mod Cases

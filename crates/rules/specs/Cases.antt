@@ -38,7 +38,7 @@ closed o = shape o none
 abbrev pub ending : List Dim → Shape
 ending c = shape [] (some c)
 
-pub cases : List Case
+unfoldable pub cases : List Case
 cases =
     -- (a) The larger of 1 and ? is ?; of 0 and ? it is 0; of 0 and 1 it is 1.
     theLarger (static 1) unknown unknown

@@ -5,3 +5,4 @@ pub mod Order
 pub mod Scalars
 pub mod Types
 pub mod Cases
+pub mod SizesLaws

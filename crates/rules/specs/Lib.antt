@@ -5,4 +5,6 @@ pub mod Order
 pub mod Scalars
 pub mod Types
 pub mod Cases
+pub mod Lists
 pub mod SizesLaws
+pub mod ShapesLaws

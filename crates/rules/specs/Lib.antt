@@ -8,3 +8,4 @@ pub mod Cases
 pub mod Lists
 pub mod SizesLaws
 pub mod ShapesLaws
+pub mod ShapesSteps

@@ -9,3 +9,5 @@ pub mod Lists
 pub mod SizesLaws
 pub mod ShapesLaws
 pub mod ShapesSteps
+pub mod PervadeLaws
+pub mod PervadeSteps

@@ -11,3 +11,5 @@ pub mod ShapesLaws
 pub mod ShapesSteps
 pub mod PervadeLaws
 pub mod PervadeSteps
+pub mod OrderLaws
+pub mod ScalarsLaws

@@ -24,9 +24,9 @@ pub cmpNumber-same : (m n : ℕ) → cmpNumber m n ≡ same → m ≡ n
 cmpNumber-same m n h = go (ltb m n) (eqb m n) refl h
   where
     go : (t u : Bool) → eqb m n ≡ u → cond t less (cond u same more) ≡ same → m ≡ n
-    go true u e h = let z : _≡_ {A = ℕ} 0 1 = cc in absurd (omega arith)
+    go true u e h = cc
     go false true e h = eqb-true m n e
-    go false false e h = let z : _≡_ {A = ℕ} 0 1 = cc in absurd (omega arith)
+    go false false e h = cc
 
 -- the other way round
 abbrev pub flip : Order → Order

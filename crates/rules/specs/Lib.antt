@@ -13,3 +13,6 @@ pub mod PervadeLaws
 pub mod PervadeSteps
 pub mod OrderLaws
 pub mod ScalarsLaws
+pub mod FieldsLaws
+pub mod RowsLaws
+pub mod TypesLaws

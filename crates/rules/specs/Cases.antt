@@ -1,6 +1,5 @@
 -- The cases of document 01, in one list and of one statement: (a) to (e) and (h) to (k).
 -- A case names a rule, what goes in and what comes out; `Holds` says that the rule gives it.
-use Prim.Native.Nat.{ℕ}
 use mathlib.Core.Bool.{Bool, true, false}
 use mathlib.Core.List.{List, [], _∷_}
 use mathlib.Core.Option.{Option, none, some}

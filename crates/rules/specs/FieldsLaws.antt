@@ -2,14 +2,14 @@
 -- asked for, and that field n's stretch of a Def's bytes is what is written for that field.
 use Prim.Native.Nat.{ℕ, zero, suc, _+_, _≤_}
 use native.Mathlib.Omega.{arith}
-use mathlib.Core.List.{List, [], _∷_, _++_, append-assoc}
+use mathlib.Core.List.{List, _++_, append-assoc}
 use mathlib.Core.Option.{Option, none, some}
 use mathlib.Core.Path.{_≡_, refl, sym, _∙_, ap}
 use lib.ListN.{length, take, drop}
 use lib.Seq.{take-append-seam, drop-append-seam, drop-drop}
-use Rattle.model.specs.Types.{Shape, Scalar, plain, boxAny, boxAll, boxDef, Fields, noFields, field, Ty, ty, fieldCount, types, depth, among, deepest}
+use Rattle.model.specs.Types.{Shape, plain, boxAny, boxAll, boxDef, Fields, noFields, field, Ty, ty, fieldCount, types, depth, among, deepest}
 use Rattle.model.specs.Within.{FieldsWithin, RecordsWithin}
-use Rattle.format.specs.Records.{countOf, listOf, boxStart, writeShape, writeScalar, writeFields, writeTy}
+use Rattle.format.specs.Records.{writeShape, writeScalar, writeFields, writeTy}
 use Rattle.rules.specs.Types.{anyTy, fieldIn, firstField, lastField, orElse, nthField, copies, fieldAt, Stretch, stretch, stretchIn, beforeFields, fieldPlace}
 
 -- ---- of each field

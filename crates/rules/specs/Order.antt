@@ -3,7 +3,7 @@
 use Prim.Native.Nat.{ℕ}
 use mathlib.Core.List.{List, [], _∷_}
 use mathlib.Core.Option.{Option, none, some}
-use Rattle.model.specs.Types.{Dim, Shape, shape, Scalar, plain, boxAny, boxAll, boxDef, Fields, noFields, field, Ty, ty}
+use Rattle.model.specs.Types.{Shape, shape, Scalar, plain, boxAny, boxAll, boxDef, Fields, noFields, field, Ty, ty}
 use Rattle.format.specs.Records.{code, boxCode}
 use Rattle.rules.specs.Sizes.{Order, less, same, more, cmpNumber, cmpDim}
 

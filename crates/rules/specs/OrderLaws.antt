@@ -3,8 +3,8 @@ use Prim.Native.Nat.{ℕ}
 use native.Mathlib.Omega.{arith}
 use mathlib.Core.List.{List, [], _∷_}
 use mathlib.Core.Option.{Option, none, some}
-use mathlib.Core.Path.{_≡_, refl, sym, _∙_, ap}
-use Rattle.model.specs.Types.{Dim, Shape, shape, Kind, bool, nat, int, num, complex, ascii, char, stream, any, Scalar, plain, boxAny, boxAll, boxDef, Fields, noFields, field, Ty, ty}
+use mathlib.Core.Path.{_≡_, refl, sym, ap}
+use Rattle.model.specs.Types.{Shape, shape, Kind, bool, nat, int, num, complex, ascii, char, stream, any, Scalar, plain, boxAny, boxAll, boxDef, Fields, noFields, field, Ty, ty}
 use Rattle.format.specs.Records.{code, kindOf, boxCode}
 use Rattle.rules.specs.Sizes.{Order, less, same, more, cmpNumber, cmpDim}
 use Rattle.rules.specs.Order.{codeOf, thenBy, cmpList, cmpOption, cmpShape, cmpName, cmpScalar, cmpFields, compare}

@@ -1,10 +1,9 @@
 -- Pervading (document 01, "mod.rs": `pervade_dyn_shapes`), index by index: 1 against absent is ?; 1 or absent yields to the other;
 -- ? yields; equal statics stay; else the larger, if the smaller's side is filled. The first shape's fill is f, the second's g.
-use Prim.Native.Nat.{ℕ, zero, suc}
-use mathlib.Core.Bool.{Bool, true, false, cond}
+use Prim.Native.Nat.{ℕ, suc}
+use mathlib.Core.Bool.{Bool, cond}
 use mathlib.Core.List.{List, [], _∷_}
 use mathlib.Core.Option.{Option, none, some}
-use lib.Dec.{eqb}
 use Rattle.model.specs.Types.{Dim, static, unknown, Shape, shape}
 use Rattle.rules.specs.Sizes.{Order, less, same, more, cmpDim, isOne}
 

@@ -1,13 +1,12 @@
 -- Laws about pervading: what its answer says of the two lists, that it keeps to the limits, and that the two sides may change
 -- places together with their fills.
-use Prim.Native.Nat.{ℕ, zero, suc, _<_, max, min}
+use Prim.Native.Nat.{ℕ, suc, _<_, max, min}
 use native.Mathlib.Omega.{arith}
 use mathlib.Core.Bool.{Bool, true, false, cond}
 use mathlib.Core.List.{List, [], _∷_}
 use mathlib.Core.Option.{Option, none, some}
 use mathlib.Core.Path.{_≡_, refl, sym, _∙_, ap}
 use lib.ListN.{length}
-use lib.Dec.{eqb}
 use borrow.Author.Tests.{eqb-true}
 use Rattle.model.specs.Types.{Dim, static, unknown, Shape, shape}
 use Rattle.model.specs.Within.{All, Each, DimWithin, DimsWithin, ShapeWithin}

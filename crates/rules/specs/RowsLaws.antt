@@ -1,16 +1,15 @@
 -- Laws about rows: they keep to the limits. A row can lengthen: of a Def without fields it is a box with [..] of Any in it, two
 -- types and two deep; in all other cases it has no more types and is no deeper.
-use Prim.Native.Nat.{ℕ, suc, _≤_, max}
+use Prim.Native.Nat.{ℕ, _≤_, max}
 use native.Mathlib.Omega.{arith}
 use mathlib.Core.Bool.{Bool, true, false, cond}
 use mathlib.Core.List.{List}
 use mathlib.Core.Option.{Option}
 use mathlib.Core.Path.{_≡_, refl}
 use lib.Dec.{eqb}
-use Rattle.model.specs.Limits.{maxTypes, maxDepth}
 use Rattle.model.specs.Types.{Shape, Scalar, plain, boxAny, boxAll, boxDef, Fields, Ty, ty, boxOf, types, depth, inside, below}
 use Rattle.model.specs.Within.{ScalarWithin, RecordsWithin, Within}
-use Rattle.rules.specs.Shapes.{rank, rowShape}
+use Rattle.rules.specs.Shapes.{rank}
 use Rattle.rules.specs.Types.{firstField, lastField, nthField, rowScalar, rowBy, intoRow, intoFirstRow, intoLastRow, intoNthRow}
 use Rattle.rules.specs.ShapesLaws.{rowShape-within}
 use Rattle.rules.specs.FieldsLaws.{fields-within, fields-among, fields-deepest, Chooses, first-chooses, last-chooses, nth-chooses, anyTy-within}

@@ -3,7 +3,7 @@
 use Prim.Native.Nat.{ℕ}
 use mathlib.Core.Bool.{Bool, _&&_, _||_, cond}
 use lib.Dec.{eqb, leb}
-use Rattle.model.specs.Types.{Shape, Kind, bool, nat, int, num, complex, ascii, char, stream, any, Scalar, plain, boxAny, boxAll, boxDef, Fields, noFields, field, Ty, ty, boxOf}
+use Rattle.model.specs.Types.{Kind, bool, nat, int, num, complex, ascii, char, stream, any, Scalar, plain, boxAny, boxAll, boxDef, Fields, noFields, field, Ty, ty, boxOf}
 use Rattle.format.specs.Records.{code, boxCode}
 use Rattle.rules.specs.Sizes.{laterBy}
 use Rattle.rules.specs.Shapes.{compatibleShapes}

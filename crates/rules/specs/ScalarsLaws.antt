@@ -1,18 +1,15 @@
 -- Laws about scalars: a scalar is a superset of itself and compatible with itself; a union is one of the two or a plain Any or a
 -- box Any, so it passes no limit that both keep; unrefining twice is unrefining once, and changes no count, depth or limit.
-use Prim.Native.Nat.{ℕ, suc, _+_, _≤_, max}
+use Prim.Native.Nat.{ℕ, _≤_}
 use native.Mathlib.Omega.{arith}
-use mathlib.Core.Bool.{Bool, true, false, _&&_, _||_, cond, or-true}
-use mathlib.Core.Option.{Option, none, some}
-use mathlib.Core.Path.{_≡_, refl, sym, _∙_, ap}
-use lib.Dec.{eqb, leb}
+use mathlib.Core.Bool.{Bool, true, false, _&&_, cond, or-true}
+use mathlib.Core.Path.{_≡_, refl, ap}
 use borrow.Author.Tests.{eq-eqb}
-use Rattle.model.specs.Types.{Shape, shape, Kind, bool, nat, int, num, complex, ascii, char, stream, any, Scalar, plain, boxAny, boxAll, boxDef, Fields, noFields, field, Ty, ty, boxOf, fieldCount, inside, among, below, deepest}
+use Rattle.model.specs.Types.{Kind, bool, nat, int, num, complex, ascii, char, stream, any, Scalar, plain, boxAny, boxAll, boxDef, Fields, noFields, field, ty, boxOf, fieldCount, inside, among, below, deepest}
 use Rattle.model.specs.Within.{ScalarWithin, FieldsWithin}
-use Rattle.format.specs.Records.{code, boxCode}
 use Rattle.rules.specs.Shapes.{compatibleShapes}
 use Rattle.rules.specs.Order.{codeOf, compare}
-use Rattle.rules.specs.Scalars.{supersetCodes, compatibleCodes, streamOrBox, supersetOf, compatibleScalars, compatibleWithBoxes, wider, laterTy, union, unrefineKind, unrefine, unrefineFields}
+use Rattle.rules.specs.Scalars.{supersetCodes, compatibleCodes, supersetOf, compatibleScalars, compatibleWithBoxes, wider, laterTy, union, unrefineKind, unrefine, unrefineFields}
 use Rattle.rules.specs.SizesLaws.{laterBy-either}
 use Rattle.rules.specs.ShapesLaws.{compatibleShapes-refl}
 

@@ -1,15 +1,15 @@
 -- Laws about shapes: how long each list rule's result is, and that row, merge and join keep to the limits.
-use Prim.Native.Nat.{ℕ, zero, suc, _+_, _≤_, _<_, max, min}
+use Prim.Native.Nat.{suc, max, min}
 use native.Mathlib.Omega.{arith}
 use mathlib.Core.Bool.{Bool, true, false, _&&_}
 use mathlib.Core.List.{List, [], _∷_, reverse}
 use mathlib.Core.Option.{Option, none, some}
-use mathlib.Core.Path.{_≡_, refl, sym, _∙_, ap}
-use lib.ListN.{length, take, length-take, length-reverse}
-use Rattle.model.specs.Types.{Dim, static, unknown, Shape, shape}
+use mathlib.Core.Path.{_≡_, refl, ap}
+use lib.ListN.{length, length-take, length-reverse}
+use Rattle.model.specs.Types.{Dim, unknown, Shape, shape}
 use Rattle.model.specs.Within.{All, Each, DimWithin, DimsWithin, ShapeWithin}
-use Rattle.rules.specs.Sizes.{larger, rowCompatible, joinDim}
-use Rattle.rules.specs.Shapes.{rank, rowShape, isScalar, scalarShape, compatibleDims, compatibleShapes, mergeDims, mergeClosing, mergeFrom, joinDims, joinLonger, joinEnds, joinClosing, joinShapes}
+use Rattle.rules.specs.Sizes.{rowCompatible}
+use Rattle.rules.specs.Shapes.{rowShape, isScalar, scalarShape, compatibleDims, compatibleShapes, mergeDims, mergeClosing, mergeFrom, joinDims, joinLonger, joinEnds, joinClosing, joinShapes}
 use Rattle.rules.specs.SizesLaws.{larger-within, rowCompatible-refl, joinDim-within}
 use Rattle.rules.specs.Lists.{all-take, all-reverse}
 

@@ -1,16 +1,16 @@
 -- What a loop over the indices needs of the list rules of shapes: one index, then the indices after it (`..-step`), the same
 -- seen as the result's element (`..-at`), and what is left of a result after some indices (`..-drop`).
-use Prim.Native.Nat.{ℕ, zero, suc, _+_, _-_, _≤_, _<_, max}
+use Prim.Native.Nat.{ℕ, zero, suc, _-_, _<_, max}
 use native.Mathlib.Omega.{arith}
 use mathlib.Core.Bool.{Bool, true, false, _&&_, cond}
 use mathlib.Core.List.{List, [], _∷_, reverse}
 use mathlib.Core.Option.{Option, none, some}
-use mathlib.Core.Path.{_≡_, refl, sym, _∙_, ap}
-use lib.ListN.{length, take, drop, getD, getElem?, length-reverse, List·getD-eq-default}
+use mathlib.Core.Path.{_≡_, refl, sym, _∙_}
+use lib.ListN.{length, drop, getD, getElem?, length-reverse, List·getD-eq-default}
 use lib.Dec.{leb}
 use lib.Seq.{drop-nil, drop-cons, getD-take}
-use borrow.Author.Tests.{leb-true, leb-false, le-leb, lt-leb}
-use Rattle.model.specs.Types.{Dim, static, unknown}
+use borrow.Author.Tests.{leb-true, leb-false, le-leb}
+use Rattle.model.specs.Types.{Dim, unknown}
 use Rattle.rules.specs.Sizes.{larger, rowCompatible, joinDim}
 use Rattle.rules.specs.Shapes.{compatibleDims, mergeDims, joinDims, joinLonger, joinEnds}
 use Rattle.rules.specs.SizesLaws.{joinDim-unknown}

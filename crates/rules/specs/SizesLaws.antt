@@ -2,12 +2,12 @@
 use Prim.Native.Nat.{ℕ, _<_}
 use native.Mathlib.Omega.{arith}
 use mathlib.Core.Bool.{Bool, true, false, cond}
-use mathlib.Core.Path.{_≡_, refl, sym, _∙_, ap}
+use mathlib.Core.Path.{_≡_, refl, sym, ap}
 use lib.Dec.{eqb, ltb}
 use borrow.Author.Tests.{eqb-true, eqb-false, eq-eqb, ne-eqb, lt-ltb, le-ltb, ltb-true, ltb-false}
 use Rattle.model.specs.Types.{Dim, static, unknown}
 use Rattle.model.specs.Within.{DimWithin}
-use Rattle.rules.specs.Sizes.{Order, less, same, more, cmpNumber, laterBy, cmpDim, larger, isOne, compatible, rowCompatible, joinDim}
+use Rattle.rules.specs.Sizes.{Order, less, same, more, cmpNumber, laterBy, cmpDim, larger, compatible, rowCompatible, joinDim}
 
 -- ---- numbers
 

@@ -1,7 +1,7 @@
 -- Types (document 01, "ty.rs"): the join of types, the rows, `unboxed`, `as_boxes`, and field n of a Def.
 -- Where the Rust has a default type, it is [..] of Any.
 use Prim.Native.Nat.{ℕ, zero, suc, _+_}
-use mathlib.Core.Bool.{Bool, cond}
+use mathlib.Core.Bool.{cond}
 use mathlib.Core.List.{List, [], _∷_, _++_}
 use mathlib.Core.Option.{Option, none, some}
 use lib.ListN.{length}

@@ -2,18 +2,16 @@
 use Prim.Native.Nat.{ℕ, suc, _≤_, max}
 use native.Mathlib.Omega.{arith}
 use mathlib.Core.Bool.{Bool, true, false, cond}
-use mathlib.Core.List.{List}
-use mathlib.Core.Option.{Option, none, some}
+use mathlib.Core.Option.{none, some}
 use mathlib.Core.Path.{_≡_, refl}
 use lib.Dec.{leb}
 use borrow.Author.Tests.{leb-true}
-use Rattle.model.specs.Limits.{maxFields, maxTypes, maxDepth}
+use Rattle.model.specs.Limits.{maxFields}
 use Rattle.model.specs.Refusals.{tooMany}
-use Rattle.model.specs.Types.{Dim, static, unknown, Shape, Scalar, plain, boxAny, boxAll, boxDef, Fields, Ty, ty, fieldCount, types, depth, inside, below}
+use Rattle.model.specs.Types.{Dim, static, unknown, Shape, Scalar, plain, boxAny, boxAll, boxDef, Ty, ty, fieldCount, types, depth, inside, below}
 use Rattle.model.specs.Within.{Each, NameWithin, ScalarWithin, FieldsWithin, RecordsWithin, Within}
-use Rattle.format.specs.Outcome.{Outcome, accepted, refused}
-use Rattle.rules.specs.Shapes.{isScalar, rowCount, joinShapes}
-use Rattle.rules.specs.Scalars.{union}
+use Rattle.format.specs.Outcome.{accepted, refused}
+use Rattle.rules.specs.Shapes.{isScalar, rowCount}
 use Rattle.rules.specs.Types.{anyTy, joinTypes, firstField, unboxed, Boxes, boxes, copies, copiesFor, asBoxes}
 use Rattle.rules.specs.ShapesLaws.{join-within}
 use Rattle.rules.specs.ScalarsLaws.{union-within, union-inside, union-below}

@@ -11,7 +11,7 @@ use Rattle.rules.specs.Sizes.{cmpDim, larger, joinDim}
 use Rattle.rules.specs.Shapes.{rowShape, joinDims, joinLonger, joinEnds, joinClosing, joinShapes}
 use Rattle.rules.specs.Order.{codeOf}
 use Rattle.rules.specs.Scalars.{supersetCodes, supersetOf, union}
-use Rattle.rules.specs.Pervade.{alone, together, pervadeDims, pervadeClosing, pervade}
+use Rattle.rules.specs.Pervade.{againstAbsent, together, pervadeDims, pervadeClosing, pervade}
 
 pub data Case : Type 0 where
   -- the larger of two sizes, whichever stands first
@@ -68,5 +68,5 @@ cases =
     ∷ []
 
 pub cases-hold : All Holds cases
-unfolding cases cmpDim larger rowShape joinDim joinDims joinLonger joinEnds joinClosing joinShapes code codeOf supersetCodes supersetOf union alone together pervadeDims pervadeClosing pervade
+unfolding cases cmpDim larger rowShape joinDim joinDims joinLonger joinEnds joinClosing joinShapes code codeOf supersetCodes supersetOf union againstAbsent together pervadeDims pervadeClosing pervade
 cases-hold = ((refl, refl), ((refl, refl), ((refl, refl), (refl, (refl, (refl, (refl, (refl, (λ s k. refl, (λ s k. refl, (refl, (refl, (refl, (refl, (refl, (refl, (refl, tt)))))))))))))))))

@@ -12,6 +12,7 @@ pub mod ShapesSteps
 pub mod PervadeLaws
 pub mod PervadeSteps
 pub mod OrderLaws
+pub mod OrderSteps
 pub mod ScalarsLaws
 pub mod FieldsLaws
 pub mod RowsLaws

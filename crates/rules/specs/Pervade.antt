@@ -10,8 +10,8 @@ use Rattle.rules.specs.Sizes.{Order, less, same, more, cmpDim, isOne}
 -- ---- one index
 
 -- A size against an absent one.
-unfoldable pub alone : Dim → Dim
-alone d = cond (isOne d) unknown d
+unfoldable pub againstAbsent : Dim → Dim
+againstAbsent d = cond (isOne d) unknown d
 
 abbrev pub filled : Bool → Dim → Option Dim
 filled f d = cond f (some d) none
@@ -46,8 +46,8 @@ thenRest (some d) (clash i) = clash (suc i)
 
 unfoldable pub pervadeDims : Bool → Bool → List Dim → List Dim → Pervaded
 pervadeDims f g [] [] = sizes []
-pervadeDims f g [] (e ∷ p) = thenRest (some (alone e)) (pervadeDims f g [] p)
-pervadeDims f g (d ∷ o) [] = thenRest (some (alone d)) (pervadeDims f g o [])
+pervadeDims f g [] (e ∷ p) = thenRest (some (againstAbsent e)) (pervadeDims f g [] p)
+pervadeDims f g (d ∷ o) [] = thenRest (some (againstAbsent d)) (pervadeDims f g o [])
 pervadeDims f g (d ∷ o) (e ∷ p) = thenRest (together f g d e) (pervadeDims f g o p)
 
 -- ---- closing sizes, and shapes

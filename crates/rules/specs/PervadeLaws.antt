@@ -7,12 +7,35 @@ use mathlib.Core.List.{List, [], _∷_}
 use mathlib.Core.Option.{Option, none, some}
 use mathlib.Core.Path.{_≡_, refl, sym, _∙_, ap}
 use lib.ListN.{length}
-use borrow.Author.Tests.{eqb-true}
+use lib.Dec.{eqb, ltb}
+use borrow.Author.Tests.{eqb-true, ltb-true}
 use Rattle.model.specs.Types.{Dim, static, unknown, Shape, shape}
 use Rattle.model.specs.Within.{All, Each, DimWithin, DimsWithin, ShapeWithin}
 use Rattle.rules.specs.Sizes.{Order, less, same, more, cmpDim, isOne}
 use Rattle.rules.specs.SizesLaws.{flip, cmpDim-flip, cmpDim-same}
-use Rattle.rules.specs.Pervade.{alone, filled, unequal, neitherOne, together, Pervaded, sizes, clash, thenRest, pervadeDims, pervadeClosing, closedBy, pervade}
+use Rattle.rules.specs.Pervade.{againstAbsent, filled, unequal, neitherOne, together, Pervaded, sizes, clash, thenRest, pervadeDims, pervadeClosing, closedBy, pervade}
+
+-- ---- one index
+
+-- ? yields
+pub together-unknown : (f g : Bool) (e : Dim) → together f g unknown e ≡ some (againstAbsent e)
+unfolding together againstAbsent
+together-unknown f g e = go (isOne e)
+  where
+    go : (t : Bool) → cond t (some unknown) (some e) ≡ some (cond t unknown e)
+    go true = refl
+    go false = refl
+
+-- two statics, unfilled: 1 yields, equals stay
+pub together-unfilled : (m n : ℕ) → together false false (static m) (static n) ≡ cond (eqb m 1) (some (static n)) (cond (eqb n 1) (some (static m)) (cond (eqb m n) (some (static m)) none))
+unfolding together cmpDim
+together-unfilled m n = rw (go (ltb m n) (eqb m n) refl refl)
+  where
+    go : (t u : Bool) → ltb m n ≡ t → eqb m n ≡ u → unequal false false (cond t less (cond u same more)) (static m) (static n) ≡ cond u (some (static m)) none
+    go true true h k = let x = ltb-true m n h in let y = eqb-true m n k in absurd (omega arith)
+    go true false h k = refl
+    go false true h k = refl
+    go false false h k = refl
 
 -- ---- what the answer says of the two lists
 
@@ -25,10 +48,10 @@ pub pervade-length : (f g : Bool) (o p x : List Dim) → pervadeDims f g o p ≡
 unfolding pervadeDims
 pervade-length f g [] [] x h = let e : [] ≡ x = cc in rw (← e) (omega arith)
 pervade-length f g [] (e ∷ p) x h =
-    thenRest-sizes (some (alone e)) (pervadeDims f g [] p) h λ d y a b w.
+    thenRest-sizes (some (againstAbsent e)) (pervadeDims f g [] p) h λ d y a b w.
     let l = pervade-length f g [] p y b in rw (← w) (omega arith)
 pervade-length f g (d ∷ o) [] x h =
-    thenRest-sizes (some (alone d)) (pervadeDims f g o []) h λ d y a b w.
+    thenRest-sizes (some (againstAbsent d)) (pervadeDims f g o []) h λ d y a b w.
     let l = pervade-length f g o [] y b in rw (← w) (omega arith)
 pervade-length f g (d ∷ o) (e ∷ p) x h =
     thenRest-sizes (together f g d e) (pervadeDims f g o p) h λ d y a b w.
@@ -40,12 +63,12 @@ unfolding pervadeDims
 pervade-clash f g [] [] i h = let z : _≡_ {A = ℕ} 0 1 = cc in absurd (omega arith)
 pervade-clash f g [] (e ∷ p) i h = go (pervadeDims f g [] p) (pervade-clash f g [] p) h
   where
-    go : (r : Pervaded) → ((i : ℕ) → r ≡ clash i → i < min 0 (length p)) → thenRest (some (alone e)) r ≡ clash i → i < min 0 (suc (length p))
+    go : (r : Pervaded) → ((i : ℕ) → r ≡ clash i → i < min 0 (length p)) → thenRest (some (againstAbsent e)) r ≡ clash i → i < min 0 (suc (length p))
     go (sizes y) k h = let z : _≡_ {A = ℕ} 0 1 = cc in absurd (omega arith)
     go (clash j) k h = let z = k j refl in absurd (omega arith)
 pervade-clash f g (d ∷ o) [] i h = go (pervadeDims f g o []) (pervade-clash f g o []) h
   where
-    go : (r : Pervaded) → ((i : ℕ) → r ≡ clash i → i < min (length o) 0) → thenRest (some (alone d)) r ≡ clash i → i < min (suc (length o)) 0
+    go : (r : Pervaded) → ((i : ℕ) → r ≡ clash i → i < min (length o) 0) → thenRest (some (againstAbsent d)) r ≡ clash i → i < min (suc (length o)) 0
     go (sizes y) k h = let z : _≡_ {A = ℕ} 0 1 = cc in absurd (omega arith)
     go (clash j) k h = let z = k j refl in absurd (omega arith)
 pervade-clash f g (d ∷ o) (e ∷ p) i h = go (together f g d e) (pervadeDims f g o p) (pervade-clash f g o p) h
@@ -57,9 +80,9 @@ pervade-clash f g (d ∷ o) (e ∷ p) i h = go (together f g d e) (pervadeDims f
 
 -- ---- limits
 
-pub alone-within : (d : Dim) → DimWithin d → DimWithin (alone d)
-unfolding alone
-alone-within d h = go (isOne d)
+pub againstAbsent-within : (d : Dim) → DimWithin d → DimWithin (againstAbsent d)
+unfolding againstAbsent
+againstAbsent-within d h = go (isOne d)
   where
     go : (t : Bool) → DimWithin (cond t unknown d)
     go true = tt
@@ -101,8 +124,8 @@ then-all (some d) (clash i) h k = tt
 pervade-all : (f g : Bool) (o p : List Dim) → All DimWithin o → All DimWithin p → AllSizes (pervadeDims f g o p)
 unfolding pervadeDims
 pervade-all f g [] [] h k = tt
-pervade-all f g [] (e ∷ p) h k = then-all (some (alone e)) (pervadeDims f g [] p) (alone-within e (k .0)) (pervade-all f g [] p h (k .1))
-pervade-all f g (d ∷ o) [] h k = then-all (some (alone d)) (pervadeDims f g o []) (alone-within d (h .0)) (pervade-all f g o [] (h .1) k)
+pervade-all f g [] (e ∷ p) h k = then-all (some (againstAbsent e)) (pervadeDims f g [] p) (againstAbsent-within e (k .0)) (pervade-all f g [] p h (k .1))
+pervade-all f g (d ∷ o) [] h k = then-all (some (againstAbsent d)) (pervadeDims f g o []) (againstAbsent-within d (h .0)) (pervade-all f g o [] (h .1) k)
 pervade-all f g (d ∷ o) (e ∷ p) h k = then-all (together f g d e) (pervadeDims f g o p) (together-within f g d e (h .0) (k .0)) (pervade-all f g o p (h .1) (k .1))
 
 pub pervadeClosing-within : (c d : Option (List Dim)) → Each DimsWithin c → Each DimsWithin d → Each DimsWithin (pervadeClosing c d)

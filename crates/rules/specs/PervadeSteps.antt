@@ -9,15 +9,15 @@ use mathlib.Core.Path.{_≡_, refl, sym, ap}
 use lib.ListN.{length, drop, getElem?, length-append, drop-of-length-le}
 use lib.Seq.{drop-nil}
 use Rattle.model.specs.Types.{Dim}
-use Rattle.rules.specs.Pervade.{alone, together, Pervaded, sizes, clash, thenRest, pervadeDims}
+use Rattle.rules.specs.Pervade.{againstAbsent, together, Pervaded, sizes, clash, thenRest, pervadeDims}
 
 -- ---- one index, then the indices after it
 
 -- One index, by what stands there on either side.
 abbrev pub pervadeAt : Bool → Bool → Option Dim → Option Dim → Option Dim
 pervadeAt f g none none = none
-pervadeAt f g none (some e) = some (alone e)
-pervadeAt f g (some d) none = some (alone d)
+pervadeAt f g none (some e) = some (againstAbsent e)
+pervadeAt f g (some d) none = some (againstAbsent d)
 pervadeAt f g (some d) (some e) = together f g d e
 
 pub pervade-step : (f g : Bool) (i : ℕ) (o p : List Dim) → i < max (length o) (length p) → pervadeDims f g (drop i o) (drop i p) ≡ thenRest (pervadeAt f g (getElem? o i) (getElem? p i)) (pervadeDims f g (drop (suc i) o) (drop (suc i) p))

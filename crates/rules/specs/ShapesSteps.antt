@@ -1,12 +1,12 @@
 -- What a loop over the indices needs of the list rules of shapes: one index, then the indices after it (`..-step`), the same
 -- seen as the result's element (`..-at`), and what is left of a result after some indices (`..-drop`).
-use Prim.Native.Nat.{ℕ, zero, suc, _-_, _<_, max}
+use Prim.Native.Nat.{ℕ, zero, suc, _-_, _≤_, _<_, max}
 use native.Mathlib.Omega.{arith}
 use mathlib.Core.Bool.{Bool, true, false, _&&_, cond}
 use mathlib.Core.List.{List, [], _∷_, reverse}
 use mathlib.Core.Option.{Option, none, some}
 use mathlib.Core.Path.{_≡_, refl, sym, _∙_}
-use lib.ListN.{length, drop, getD, getElem?, length-reverse, List·getD-eq-default}
+use lib.ListN.{length, drop, getD, getElem?, length-reverse, drop-of-length-le, List·getD-eq-default}
 use lib.Dec.{leb}
 use lib.Seq.{drop-nil, drop-cons, getD-take}
 use borrow.Author.Tests.{leb-true, leb-false, le-leb}
@@ -25,6 +25,10 @@ compatible-step i [] p z h k = absurd (omega arith)
 compatible-step i (d ∷ o) [] z h k = absurd (omega arith)
 compatible-step zero (d ∷ o) (e ∷ p) z h k = refl
 compatible-step (suc i) (d ∷ o) (e ∷ p) z h k = compatible-step i o p z (omega arith) (omega arith)
+
+pub compatible-end : (i : ℕ) (o p : List Dim) → length o ≤ i → length p ≤ i → compatibleDims (drop i o) (drop i p) ≡ true
+unfolding compatibleDims
+compatible-end i o p h k = rw (drop-of-length-le o {i = i} h, drop-of-length-le p {i = i} k)
 
 -- ---- merge
 
@@ -45,6 +49,10 @@ merge-step zero (d ∷ o) (e ∷ p) h = refl
 merge-step (suc i) [] (e ∷ p) h = rw (drop-nil {A = Dim} i) at (merge-step i [] p (omega arith))
 merge-step (suc i) (d ∷ o) [] h = rw (drop-nil {A = Dim} i) at (merge-step i o [] (omega arith))
 merge-step (suc i) (d ∷ o) (e ∷ p) h = merge-step i o p (omega arith)
+
+pub merge-end : (i : ℕ) (o p : List Dim) → max (length o) (length p) ≤ i → mergeDims (drop i o) (drop i p) ≡ []
+unfolding mergeDims
+merge-end i o p h = rw (drop-of-length-le o {i = i} (omega arith), drop-of-length-le p {i = i} (omega arith))
 
 merge-nil : (o : List Dim) → mergeDims o [] ≡ o
 unfolding mergeDims

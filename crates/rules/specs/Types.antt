@@ -1,7 +1,7 @@
 -- Types (document 01, "ty.rs"): the join of types, the rows, `unboxed`, `as_boxes`, and field n of a Def.
 -- Where the Rust has a default type, it is [..] of Any.
 use Prim.Native.Nat.{ℕ, zero, suc, _+_}
-use mathlib.Core.Bool.{cond}
+use mathlib.Core.Bool.{Bool, _&&_, cond}
 use mathlib.Core.List.{List, [], _∷_, _++_}
 use mathlib.Core.Option.{Option, none, some}
 use lib.ListN.{length}
@@ -9,14 +9,19 @@ use lib.Dec.{eqb, leb}
 use Rattle.model.specs.Limits.{maxFields}
 use Rattle.model.specs.Refusals.{tooMany}
 use Rattle.model.specs.Types.{Dim, static, unknown, Shape, any, Scalar, plain, boxAny, boxAll, boxDef, Fields, noFields, field, Ty, ty, boxOf, fieldOf, fieldCount}
-use Rattle.format.specs.Records.{countOf, listOf, boxStart, writeShape, writeFields, writeTy}
+use Rattle.format.specs.Records.{code, countOf, listOf, boxStart, writeShape, writeFields, writeTy}
 use Rattle.format.specs.Outcome.{Outcome, accepted, refused}
-use Rattle.rules.specs.Shapes.{anyShape, isScalar, rank, rowCount, rowShape, joinShapes}
+use Rattle.rules.specs.Shapes.{anyShape, isScalar, isAny, rank, rowCount, rowShape, joinShapes}
+use Rattle.rules.specs.Order.{codeOf}
 use Rattle.rules.specs.Scalars.{union}
 
 -- [..] of Any
 abbrev pub anyTy : Ty
 anyTy = ty anyShape (plain any)
+
+-- A wholly Any type.
+unfoldable pub whollyAny : Ty → Bool
+whollyAny (ty s k) = isAny s && eqb (codeOf k) (code any)
 
 unfoldable pub joinTypes : Ty → Ty → Ty
 joinTypes (ty s k) (ty t l) = ty (joinShapes s t) (union k l)

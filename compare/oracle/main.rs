@@ -4,9 +4,13 @@
 //!     oracle generate SEED COUNT [MODE [WORD..]]  writes requests
 
 mod bytes;
+mod edges;
+mod generate;
+mod invent;
 mod requests;
 mod rules;
 mod sheet;
+mod specs;
 mod standins;
 #[path = "../target/uiua.rs"]
 mod uiua;
@@ -14,7 +18,25 @@ mod uiua;
 use std::io::{BufRead, BufWriter, Write, stdin, stdout};
 
 fn main() -> std::io::Result<()> {
-    answer_all()
+    let arguments: Vec<String> = std::env::args().skip(1).collect();
+    match arguments.as_slice() {
+        [] => answer_all(),
+        [word, seed, count, rest @ ..] if word == "generate" => {
+            let mode = rest.first().map_or("mix", String::as_str);
+            let words = rest.get(1..).unwrap_or(&[]);
+            generate::generate(number(seed), number(count), mode, words)
+        }
+        _ => fail("oracle, or oracle generate SEED COUNT [MODE [WORD..]]"),
+    }
+}
+
+fn number(word: &str) -> u64 {
+    word.parse().unwrap_or_else(|_| fail("SEED and COUNT are numbers"))
+}
+
+fn fail(why: &str) -> ! {
+    eprintln!("oracle: {why}");
+    std::process::exit(2)
 }
 
 fn answer_all() -> std::io::Result<()> {

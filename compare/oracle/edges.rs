@@ -1,0 +1,240 @@
+//! Requests that need no seed. `edges`: every limit with its neighbours, every cut of a few types
+//! and sheets, all numbers at borders. `pairs`: all pairs of small shapes and of scalars.
+
+use std::io::Result;
+
+use crate::bytes::{KINDS, scalar_bytes, shape_bytes, type_bytes};
+use crate::generate::{Lines, SIDES, hex_word, put, validate};
+use crate::invent::{self, BYTES, EDGE_SIZES, NUMBERS};
+use crate::requests::{Call, LENT, LINE, REQUESTS, hex, size};
+use crate::sheet;
+use crate::uiua::{Dim, DynShape, Scalar, ScalarBox, Type};
+
+pub fn edges(out: &mut Lines) -> Result<()> {
+    samples().iter().try_for_each(|ty| damaged(out, &type_bytes(ty)))?;
+    limits().iter().try_for_each(|ty| out.line("read", word(ty)))?;
+    copies(out)?;
+    values(out)?;
+    sizes(out)?;
+    sheets(out)?;
+    buffers(out)?;
+    for length in [LINE - 1, LINE, LINE + 1] {
+        out.line("read", format!(" {}", "0".repeat(length - "read ".len())))?;
+    }
+    Ok(())
+}
+
+fn word(ty: &Type) -> String {
+    format!(" {}", hex(&type_bytes(ty)))
+}
+
+fn num(shape: impl Into<DynShape>) -> Type {
+    Scalar::Num.shaped(shape)
+}
+
+fn open(dims: Vec<Dim>, closing: Vec<Dim>) -> DynShape {
+    DynShape { dims, suffix: Some(closing) }
+}
+
+/// A few types that between them have every record, count and kind of box.
+fn samples() -> Vec<Type> {
+    let open = open(vec![Dim::Static(2)], vec![Dim::Static(3)]);
+    let fields = vec![num(open), invent::all(Scalar::Char.shaped(Dim::Dyn))];
+    vec![
+        num([2, 3]),
+        Scalar::Box(ScalarBox::Any).shaped(2),
+        invent::def(Some("name"), fields.clone()),
+        invent::def(None, fields),
+        invent::nested(Type::default(), 7),
+    ]
+}
+
+/// Each cut and each changed byte.
+fn damaged(out: &mut Lines, bytes: &[u8]) -> Result<()> {
+    let whole = hex(bytes);
+    for at in 0..=bytes.len() {
+        let cut = hex_word(&bytes[..at]);
+        out.line("read", format!(" {cut}"))?;
+        out.line("join", format!(" {whole} {cut}"))?;
+        out.line("join", format!(" {cut} {whole}00"))?;
+    }
+    for (at, byte) in (0..bytes.len()).flat_map(|at| BYTES.map(|byte| (at, byte))) {
+        let mut changed = bytes.to_vec();
+        changed[at] = byte;
+        out.line("read", format!(" {}", hex(&changed)))?;
+    }
+    Ok(())
+}
+
+/// Types at each limit and past it.
+fn limits() -> Vec<Type> {
+    let mut types = vec![invent::largest()];
+    for count in [7, 8, 9, 254, 255] {
+        types.push(num(vec![Dim::Static(2); count]));
+        types.push(num(open(vec![], vec![Dim::Static(2); count])));
+    }
+    types.extend(EDGE_SIZES.map(|size| num([size])));
+    types.extend(EDGE_SIZES.map(|size| num(open(vec![Dim::Dyn], vec![size]))));
+    types.extend([0, 1, 15, 16, 17, 254, 255].map(|n| invent::def(Some(&"n".repeat(n)), vec![])));
+    types.extend((0..128u8).map(|byte| invent::def(Some(&(byte as char).to_string()), vec![])));
+    types.extend([30, 31, 32, 33, 254, 255].map(|n| invent::def(None, vec![num(1); n])));
+    types.extend([6, 7, 8, 31].map(|levels| invent::nested(num(1), levels)));
+    // 31, 32 and 33 types, the last of them in a box of its own.
+    let with_box = |n| invent::def(None, [vec![num(1); n], vec![invent::all(num(2))]].concat());
+    types.extend([28, 29, 30].map(with_box));
+    types
+}
+
+/// Copies that `as_boxes` or a named Def make.
+fn copies(out: &mut Lines) -> Result<()> {
+    let spec = word(&invent::def(Some("n"), vec![]));
+    for rows in [0, 1, 15, 16, 30, 31, 32, 33, 1 << 53] {
+        let boxes = [1, 2].map(|levels| invent::nested(num(rows), levels).scalar);
+        for scalar in [Scalar::Any, Scalar::Box(ScalarBox::Any)].into_iter().chain(boxes) {
+            let ty = word(&scalar.shaped(rows));
+            out.line("as_boxes", &ty)?;
+            out.line("check_scalar", spec.clone() + &ty)?;
+        }
+    }
+    Ok(())
+}
+
+/// Every number of the list as each kind of value, alone and between others.
+fn values(out: &mut Lines) -> Result<()> {
+    for (word, _) in REQUESTS.iter().filter(|(_, call)| matches!(call, Call::Value(_))) {
+        for bits in NUMBERS {
+            out.line(word, format!(" num {bits:016x}"))?;
+            out.line(word, format!(" list {bits:016x}"))?;
+            out.line(word, format!(" list 4008000000000000 {bits:016x} 7ff8000000000000"))?;
+        }
+        for count in [0, 1, 7, 8, 9, 7000] {
+            out.line(word, format!(" list{}", " 4008000000000000".repeat(count)))?;
+        }
+    }
+    for (a, b) in NUMBERS.iter().flat_map(|a| NUMBERS.map(|b| (a, b))) {
+        out.line("nums_scalar", format!(" {a:016x} {b:016x}"))?;
+    }
+    Ok(())
+}
+
+fn sizes(out: &mut Lines) -> Result<()> {
+    let sizes = [&EDGE_SIZES[..], &[Dim::Static(2), Dim::Static(3)]].concat();
+    for (word, _) in REQUESTS.iter().filter(|(_, call)| matches!(call, Call::Sizes(_))) {
+        for (&a, &b) in sizes.iter().flat_map(|a| sizes.iter().map(move |b| (a, b))) {
+            out.line(word, format!(" {} {}", size(a), size(b)))?;
+        }
+    }
+    Ok(())
+}
+
+/// A sheet with every kind of step.
+fn sample_sheet() -> Vec<u8> {
+    let two = [put(&num(3)), put(&num(Dim::Dyn)), [&sheet::PERVADE[..], &[0]].concat()].concat();
+    let checked = [validate(&num(DynShape::ANY)), sheet::ROW.into()].concat();
+    [two, checked, put(&num(2)), sheet::JOIN.into()].concat()
+}
+
+/// Cut and changed sheets, then steps, places and bytes at their limits.
+fn sheets(out: &mut Lines) -> Result<()> {
+    let mut sheet = |bytes: &[u8]| out.line("sheet", format!(" {}", hex_word(bytes)));
+    let all = sample_sheet();
+    for at in 0..=all.len() {
+        sheet(&all[..at])?;
+        for byte in BYTES {
+            sheet(&[&all[..at], &[byte], all.get(at + 1..).unwrap_or(&[])].concat())?;
+        }
+    }
+    for rows in [62, 63, 64] {
+        let steps = [put(&num(3)), sheet::ROW.repeat(rows)].concat();
+        sheet(&steps)?;
+        sheet(&[&steps[..], b"R"].concat())?;
+    }
+    for height in [0, 1, 2, 7, 8, 9] {
+        for step in [&b""[..], b"PU", b"RW", b"PV", b"PV\0", b"PV\x04", b"JN", b"VA", b"XX", b"P"] {
+            sheet(&[&put(&num(3)).repeat(height), step].concat())?;
+        }
+    }
+    [sheet::INPUT, sheet::INPUT + 1].iter().try_for_each(|&length| sheet(&vec![0; length]))
+}
+
+/// Lent buffers of every interesting length.
+fn buffers(out: &mut Lines) -> Result<()> {
+    let full = put(&invent::largest()).repeat(sheet::PLACES);
+    let lengths = [0, 39_935, 39_936, 39_937, LENT as usize];
+    for (scratch, result) in lengths.iter().flat_map(|a| lengths.map(|b| (a, b))) {
+        for bytes in [&full[..], &sample_sheet(), b"", b"XX"] {
+            out.line("sheet_call", format!(" {scratch} {result} {}", hex_word(bytes)))?;
+        }
+    }
+    for ty in samples().into_iter().chain([invent::largest()]) {
+        let lengths = [shape_bytes(&ty.shape).len(), scalar_bytes(&ty.scalar).len()];
+        for (request, length) in ["write_shape", "write_scalar"].into_iter().zip(lengths) {
+            for room in [0, length - 1, length, length + 1, LENT as usize] {
+                out.line(request, format!(" {room}{}", word(&ty)))?;
+                out.line(request, format!(" {room}{}00", word(&ty)))?;
+            }
+        }
+    }
+    Ok(())
+}
+
+pub fn pairs(out: &mut Lines) -> Result<()> {
+    let shapes: Vec<_> = small_shapes().into_iter().map(num).collect();
+    let scalars = small_scalars();
+    for ty in shapes.iter().chain(&scalars) {
+        for (request, _) in REQUESTS.iter().filter(|(_, call)| matches!(call, Call::One(_))) {
+            out.line(request, word(ty))?;
+        }
+    }
+    for (a, b) in scalars.iter().flat_map(|a| scalars.iter().map(move |b| (a, b))) {
+        let both = word(a) + &word(b);
+        for (request, _) in REQUESTS.iter().filter(|(_, call)| matches!(call, Call::Two(_))) {
+            out.line(request, &both)?;
+        }
+        out.line("validate", format!(" none{both}"))?;
+    }
+    shapes.iter().try_for_each(|a| shapes.iter().try_for_each(|b| shape_pair(out, a, b)))
+}
+
+fn shape_pair(out: &mut Lines, a: &Type, b: &Type) -> Result<()> {
+    let both = word(a) + &word(b);
+    for request in ["merge", "join_shapes", "compatible_shapes", "compare"] {
+        out.line(request, &both)?;
+    }
+    (0..4).try_for_each(|flag| out.line("pervade", format!(" {flag}{both}")))?;
+    SIDES.iter().try_for_each(|side| out.line("check_shape", format!(" {side}{both}")))
+}
+
+/// All lists of at most two of the sizes 0, 1, 2 and ?.
+fn small_lists() -> Vec<Vec<Dim>> {
+    let sizes = [Dim::Static(0), Dim::Static(1), Dim::Static(2), Dim::Dyn];
+    let mut lists = vec![vec![]];
+    lists.extend(sizes.map(|a| vec![a]));
+    lists.extend(sizes.iter().flat_map(|&a| sizes.map(|b| vec![a, b])));
+    lists
+}
+
+fn small_shapes() -> Vec<DynShape> {
+    let mut shapes = Vec::new();
+    for dims in small_lists() {
+        shapes.push(dims.clone().into());
+        shapes.extend(small_lists().into_iter().map(|closing| open(dims.clone(), closing)));
+    }
+    shapes
+}
+
+/// Every kind, and boxes of every kind, each with a few shapes.
+fn small_scalars() -> Vec<Type> {
+    let mut scalars = KINDS.to_vec();
+    for kind in &KINDS {
+        let (two, any) = (kind.clone().shaped(2), kind.clone().shaped(DynShape::ANY));
+        scalars.extend([1, 2].map(|levels| invent::nested(two.clone(), levels).scalar));
+        scalars.push(invent::all(any.clone()).scalar);
+        scalars.push(invent::def(None, vec![any.clone()]).scalar);
+        scalars.push(invent::def(Some("n"), vec![two, any]).scalar);
+    }
+    scalars.extend([None, Some(""), Some("m")].map(|name| invent::def(name, vec![]).scalar));
+    let shapes = [DynShape::SCALAR, DynShape::ANY, DynShape::from(2)];
+    let shaped = |scalar: Scalar| shapes.clone().map(|shape| scalar.clone().shaped(shape));
+    scalars.into_iter().flat_map(shaped).collect()
+}

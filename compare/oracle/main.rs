@@ -1,0 +1,52 @@
+//! The Rust side of the comparison.
+//!
+//!     oracle                                      answers the requests on its standard input
+//!     oracle generate SEED COUNT [MODE [WORD..]]  writes requests
+
+mod bytes;
+mod edges;
+mod generate;
+mod invent;
+mod requests;
+mod rules;
+mod sheet;
+mod specs;
+mod standins;
+#[path = "../target/uiua.rs"]
+mod uiua;
+
+use std::io::{BufRead, BufWriter, Write, stdin, stdout};
+
+fn main() -> std::io::Result<()> {
+    let arguments: Vec<String> = std::env::args().skip(1).collect();
+    match arguments.as_slice() {
+        [] => answer_all(),
+        [word, seed, count, rest @ ..] if word == "generate" => {
+            let mode = rest.first().map_or("mix", String::as_str);
+            let words = rest.get(1..).unwrap_or(&[]);
+            generate::generate(number(seed), number(count), mode, words)
+        }
+        _ => fail("oracle, or oracle generate SEED COUNT [MODE [WORD..]]"),
+    }
+}
+
+fn number(word: &str) -> u64 {
+    word.parse().unwrap_or_else(|_| fail("SEED and COUNT are numbers"))
+}
+
+fn fail(why: &str) -> ! {
+    eprintln!("oracle: {why}");
+    std::process::exit(2)
+}
+
+fn answer_all() -> std::io::Result<()> {
+    let mut input = stdin().lock();
+    let mut output = BufWriter::new(stdout().lock());
+    let mut line = Vec::new();
+    while input.read_until(b'\n', &mut line)? > 0 {
+        let end = line.len() - line.ends_with(b"\n") as usize;
+        writeln!(output, "{}", requests::answer(&line[..end]))?;
+        line.clear();
+    }
+    output.flush()
+}

@@ -1,0 +1,110 @@
+//! The sheet: up to 64 steps on a stack of eight types (document 01, "The sheet, added").
+
+use crate::bytes::{No, Reader, no, type_bytes};
+use crate::rules;
+use crate::uiua::Type;
+
+pub const STEPS: usize = 64;
+pub const PLACES: usize = 8;
+pub const INPUT: usize = 49_152;
+pub const BUFFER: usize = 39_936;
+
+pub const PUT: [u8; 2] = *b"PU";
+pub const ROW: [u8; 2] = *b"RW";
+pub const PERVADE: [u8; 2] = *b"PV";
+pub const JOIN: [u8; 2] = *b"JN";
+pub const VALIDATE: [u8; 2] = *b"VA";
+
+/// The sheet program: limits its input, and lends two buffers that suffice.
+pub fn program(sheet: &[u8]) -> Result<Vec<Type>, No> {
+    if sheet.len() > INPUT { no(7, 0) } else { call(BUFFER, BUFFER, sheet) }
+}
+
+/// The sheet check with buffers of these lengths.
+pub fn call(scratch: usize, result: usize, sheet: &[u8]) -> Result<Vec<Type>, No> {
+    if scratch < BUFFER {
+        return no(7, 0);
+    }
+    let left = run(sheet)?;
+    if length(&left) > result { no(7, sheet.len()) } else { Ok(left) }
+}
+
+pub fn length(types: &[Type]) -> usize {
+    types.iter().map(|ty| type_bytes(ty).len()).sum()
+}
+
+/// The types left, bottom first.
+pub fn run(sheet: &[u8]) -> Result<Vec<Type>, No> {
+    let mut reader = Reader::new(sheet);
+    let mut stack = Vec::new();
+    let mut steps = 0;
+    while !reader.ended() {
+        if steps == STEPS {
+            return no(12, reader.at);
+        }
+        step(&mut reader, &mut stack)?;
+        steps += 1;
+    }
+    Ok(stack)
+}
+
+/// One step: first its mark is judged, then the stack, then the step's bytes, then its rule.
+fn step(reader: &mut Reader, stack: &mut Vec<Type>) -> Result<(), No> {
+    let place = reader.at;
+    let mark = reader.mark()?;
+    let Some((takes, lays)) = needs(mark) else {
+        return no(2, place);
+    };
+    if stack.len() < takes {
+        return no(11, place);
+    }
+    if stack.len() - takes + lays > PLACES {
+        return no(12, place);
+    }
+    let made = match mark {
+        PUT => Ok(reader.outermost()?),
+        ROW => Ok(taken(stack).into_row()),
+        PERVADE => {
+            let flag = flag(reader, place)?;
+            let (top, below) = (taken(stack), taken(stack));
+            pervaded(flag, top, below)
+        }
+        JOIN => {
+            let (top, below) = (taken(stack), taken(stack));
+            Ok(top | below)
+        }
+        _ => {
+            let spec = reader.outermost()?;
+            rules::validated(None, spec, taken(stack))
+        }
+    };
+    stack.push(made.map_err(|refusal| No { place, ..refusal })?);
+    Ok(())
+}
+
+/// How many types a step takes off the stack and how many it lays down.
+fn needs(mark: [u8; 2]) -> Option<(usize, usize)> {
+    match mark {
+        PUT => Some((0, 1)),
+        ROW | VALIDATE => Some((1, 1)),
+        PERVADE | JOIN => Some((2, 1)),
+        _ => None,
+    }
+}
+
+fn taken(stack: &mut Vec<Type>) -> Type {
+    stack.pop().expect("the stack was judged")
+}
+
+fn flag(reader: &mut Reader, place: usize) -> Result<u64, No> {
+    match reader.byte(place)? {
+        flag @ 0..=3 => Ok(flag as u64),
+        _ => no(3, place),
+    }
+}
+
+fn pervaded(flag: u64, top: Type, below: Type) -> Result<Type, No> {
+    let shape = rules::pervade(flag, top.shape, below.shape)?;
+    let scalar = top.scalar.union(below.scalar);
+    Ok(Type { scalar, shape })
+}

@@ -7,6 +7,7 @@ use mathlib.Core.List.{List, [], _∷_, _++_, append-nil}
 use mathlib.Core.Option.{Option, none, some}
 use mathlib.Core.Path.{_≡_, refl, sym, _∙_, ap}
 use lib.ListN.{length, getD, drop, drop-of-length-le}
+use lib.Seq.{drop-append-seam}
 use lib.Dec.{eqb, leb, ltb, lit<, lit≤}
 use borrow.Author.Tests.{leb-true, eqb-true, eqb-false, ltb-true, ltb-false}
 use Rattle.model.specs.Limits.{maxSize, maxSizes, maxName, maxFields, maxTypes, maxDepth}
@@ -14,7 +15,8 @@ use Rattle.model.specs.Refusals.{unmarked, outOfRange, oversized, tooMany, trai
 use Rattle.model.specs.Types.{Dim, static, unknown, Shape, shape, Kind, bool, nat, int, num, complex, ascii, char, stream, any, Scalar, plain, boxAny, boxAll, boxDef, Fields, noFields, field, Ty, ty, boxOf, fieldOf, fieldCount, inside, among, types, below, deepest, depth}
 use Rattle.model.specs.Within.{All, Each, DimWithin, DimsWithin, ShapeWithin, Printing, NameWithin, ScalarWithin, FieldsWithin, RecordsWithin, Within}
 use Rattle.format.specs.Reader.{Read, got, stopped, Reader, andThen, _>>=_, _>>_, give, stop, need, here, byte, judged, number, bytesOf}
-use Rattle.format.specs.ReaderLaws.{Bytes, Took, took-none, took-join, split, gave, needed, took-byte, took-judged, took-number}
+use Rattle.format.specs.WriteRead.{reads-shape}
+use Rattle.format.specs.ReaderLaws.{Bytes, reads-here, Took, took-none, took-join, split, gave, needed, took-byte, took-judged, took-number}
 use Rattle.format.specs.Records.{Mark, mark, shapeMark, scalarMark, boxMark, markBytes, absent, ones, code, boxCode, kindOf, dimNumber, writeDims, countOf, listOf, writeShape, boxStart, writeScalar, writeFields, writeTy, dimOf, isCount, isOptional, listCount, optional, isPrinting, form, orStop, readMark, readDim, readDims, shapeFrom, readShape, readName, readFields, defFrom, allFrom, boxFrom, plainFrom, scalarFrom, readTy, readType}
 use Rattle.format.specs.Outcome.{Outcome, accepted, refused, alone, lone}
 
@@ -264,3 +266,11 @@ module _ (s : List ℕ) (small : Bytes s) where
       go : (r : Read Ty) → readType s 0 ≡ r → alone (length s) r ≡ accepted t → (writeTy t ≡ s) × Within t
       go (got a next) r e = whole a next r (ltb next (length s)) refl e
       go (stopped k p) r e = let z : _≡_ {A = ℕ} 0 1 = cc in absurd (omega arith)
+
+  -- The shape's record is what a lone type begins with, and its scalar's is the rest.
+  pub lone-parts : (o : Shape) (k : Scalar) → lone s ≡ accepted (ty o k) → (readShape s 0 ≡ got o (length (writeShape o))) × (drop (length (writeShape o)) s ≡ writeScalar k)
+  unfolding writeTy
+  lone-parts o k e =
+      let (bytes, within) = lone-write (ty o k) e in
+      let n : readShape s 0 ≡ got o (0 + length (writeShape o)) = reads-here (shapeFrom s) (λ p. reads-shape s p o (within .records .0)) .run 0 (writeScalar k) (sym bytes) in
+      (rw zero-add at n, rw (← bytes) (drop-append-seam (writeShape o) (writeScalar k)))

@@ -7,8 +7,11 @@ use lib.ListN.{take, getD}
 use Rattle.model.specs.Types.{Dim, Shape, shape}
 use Rattle.format.specs.Reader.{Read, got, stopped, mapRead}
 use Rattle.format.specs.Records.{dimOf}
+use Rattle.format.specs.Outcome.{Outcome, accepted, refused}
 use Rattle.record.specs.declared.Answer.{Answer}
 use Rattle.record.specs.declared.Answer.the-variants.{Got, Refused}
+use Rattle.record.specs.declared.Lone.{Lone}
+use Rattle.record.specs.declared.Lone.the-variants.{Accepted, Refused as Refuses}
 use Rattle.record.specs.declared.Dims.{Dims}
 use Rattle.record.specs.declared.DynShape.{DynShape}
 use Rattle.record.specs.declared.DimsRead.{DimsRead}
@@ -43,3 +46,7 @@ dimsReadOf r = beside (r .answer) (dimsOf (r .dims))
 
 abbrev pub shapeReadOf : ShapeRead → Read Shape
 shapeReadOf r = beside (r .answer) (shapeFor (r .shape))
+
+abbrev pub loneOf : Lone → Outcome ℕ
+loneOf Accepted = accepted 0
+loneOf (Refuses k p) = refused k p

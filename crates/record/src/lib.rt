@@ -8,6 +8,7 @@ mod types;
 
 pub use shape::no_dims;
 pub use shape::read_shape;
+pub use types::read_lone;
 pub use types::read_type;
 
 

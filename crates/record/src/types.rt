@@ -23,7 +23,8 @@ ghost use Prim.Native.Nat.{_-_};
 ghost use Rattle.model.specs.Types.{types, inside, among};
 ghost use Rattle.format.specs.Reader.{mapRead};
 ghost use Rattle.format.specs.Records.{listCount, readFields, defFrom, boxFrom, scalarFrom, readTy};
-ghost use Rattle.record.specs.Answers.{answerOf};
+ghost use Rattle.format.specs.Outcome.{mapped, lone};
+ghost use Rattle.record.specs.Answers.{answerOf, loneOf, nothing};
 
 // A type at most `depth` deep. One more of either is refused before its bytes are looked at.
 pub fn read_type(s: &[u8], at: usize, depth: u64, left: u64) -> Answer
@@ -151,5 +152,24 @@ fn read_fields(s: &[u8], start: usize, depth: u64, left: u64, count: u64) -> Ans
     Answer::Got {
         value: still,
         next: at,
+    }
+}
+
+// A lone type: nothing may stand after it.
+pub fn read_lone(s: &[u8]) -> Lone
+    ensures { λ r. ⌜ loneOf r ≡ mapped nothing (lone (now (s .entry))) ⌝ }
+{
+    let answer = read_type(s, 0, MAX_DEPTH, MAX_TYPES);
+    match answer {
+        Answer::Got { value: _, next } => {
+            if next < s.len() {
+                return Lone::Refused {
+                    number: TRAILING,
+                    place: next,
+                };
+            }
+            Lone::Accepted
+        }
+        Answer::Refused { number, place } => Lone::Refused { number, place },
     }
 }

@@ -1,0 +1,72 @@
+use mathlib.Core.Path.{_≡_, refl, sym, _∙_}
+use Prim.Native.Nat.{_+_, _*_, _-_, _≤_, _<_}
+use native.Mathlib.Omega.{arith}
+use borrow.Author.Needs.{needs}
+use lib.ListN.{length}
+use Rattle.format.specs.Suffices.{length-bytesOf}
+use Rattle.lent.specs.Over.{length-over}
+use Rattle.record.specs.Answers.{dimsOf}
+use Rattle.writer.proofs.Laws.{Laid, lay-none, lay-more, lay-all}
+use Rattle.writer.proofs.put_dims.Statement.{statement}
+use Rattle.writer.proofs.put_dims.Tie as tie
+use Rattle.writer.proofs.put_dims.Reads as reads
+use Rattle.writer.proofs.put_dims.Lts as lts
+use Rattle.writer.proofs.put_number.Reads as put-number-reads
+use Rattle.writer.proofs.size_count.Reads as size-count-reads
+
+abbrev Inv-loop : tie.InvT-loop
+Inv-loop out₀ start d n at₀ i₀ out at i = (i ≤ n) × (at ≡ start + 8 * i) × (length out ≡ length out₀) × Laid out₀ start (d .sizes) (d .count) out i
+
+abbrev μ-loop : tie.MeasureT-loop
+μ-loop out₀ start d n at₀ i₀ out at i = n - i
+
+size-count-requires : tie.Need-size-count-requires Inv-loop μ-loop
+size-count-requires c κs = search needs
+
+loop-holds : tie.Need-loop-holds Inv-loop μ-loop
+loop-holds c = (search needs, search needs, search needs, lay-none (c .before .before .args .out .now) (c .before .before .args .start) (c .before .before .args .t3 .sizes) (c .before .before .args .t3 .count))
+
+mul-put-number : tie.Need-mul-put-number Inv-loop μ-loop
+mul-put-number c = search needs
+
+element-copy-out-put-number : tie.Need-element-copy-out-put-number Inv-loop μ-loop
+element-copy-out-put-number c = search needs
+
+put-number-requires : tie.Need-put-number-requires Inv-loop μ-loop
+put-number-requires c κs = omega arith
+
+add-at : tie.Need-add-at Inv-loop μ-loop
+add-at c = search needs
+
+add-i : tie.Need-add-i Inv-loop μ-loop
+add-i c = search needs
+
+loop-less : tie.Need-loop-less Inv-loop μ-loop
+loop-less c = search needs
+
+loop-again : tie.Need-loop-again Inv-loop μ-loop
+loop-again c = let n : c .before .before .before .before .before .before .before .size-count .result ≡ length (dimsOf (c .before .before .before .before .before .before .before .before .before .args .t3)) = c .before .before .before .before .before .before .before .size-count .ensures .0 in let h : c .before .before .before .before .before .before .loop .i < length (dimsOf (c .before .before .before .before .before .before .before .before .before .args .t3)) = omega arith in (omega arith, omega arith, c .before .before .put-number .kept .0 ∙ c .before .before .before .before .before .before .loop .inv .2, c .before .before .put-number .ensures ∙ lay-more _ _ _ _ _ _ _ h (c .before .before .before .before .before .before .before .before .before .pre) (c .before .before .before .before .before .before .loop .inv .1) (c .before .before .before .before .before .before .loop .inv .3))
+
+same-length : tie.Need-same-length Inv-loop μ-loop
+same-length c = c .before .loop .inv .2
+
+returns : tie.Need-returns Inv-loop μ-loop
+returns c = let n : c .before .before .size-count .result ≡ length (dimsOf (c .before .before .before .before .args .t3)) = c .before .before .size-count .ensures .0 in let e : c .before .loop .i ≡ length (dimsOf (c .before .before .before .before .args .t3)) = omega arith in (omega arith, lay-all _ _ _ _ _ _ e (c .before .loop .inv .3))
+
+pub put-dims-spec : {M : Type 1} → statement M
+put-dims-spec =
+    tie.close
+    (tie.spec
+    Inv-loop
+    μ-loop
+    size-count-requires
+    loop-holds
+    mul-put-number
+    element-copy-out-put-number
+    put-number-requires
+    add-at
+    add-i
+    loop-less
+    loop-again
+    same-length
+    returns)

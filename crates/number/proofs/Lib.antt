@@ -1,0 +1,5 @@
+pub mod Ratio
+pub mod Fields
+pub mod Casts
+pub mod Walk
+pub mod Greatest

@@ -1,0 +1,7 @@
+pub mod Limits
+pub mod Class
+pub mod Size
+pub mod Sizes
+pub mod Kind
+pub mod Cases
+pub mod Answers

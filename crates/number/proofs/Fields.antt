@@ -55,15 +55,34 @@ fields-normal s x t n =
 -- ---- a pattern by its three parts
 
 module _ (b : ℕ) where
-  abbrev sign : Bool
+  abbrev pub sign : Bool
   sign = leb (2 ^ 63) b
 
-  abbrev exponent : ℕ
+  abbrev pub exponent : ℕ
   exponent = b % 2 ^ 63 / 2 ^ 52
 
-  abbrev digits : ℕ
+  abbrev pub digits : ℕ
   digits = b % 2 ^ 52
 
   by-fields : (x : ℕ) → exponent ≡ x → classOf (ofFields binary64 sign x digits) ≡ classOf (ofBits binary64 b)
   unfolding ofBits
   by-fields x e = rw e
+
+  pub bits-infinite : exponent ≡ 2047 → digits ≡ 0 → infinite sign ≡ classOf (ofBits binary64 b)
+  bits-infinite e d = sym (fields-infinite sign digits d) ∙ by-fields 2047 e
+
+  pub bits-nan : exponent ≡ 2047 → (digits ≡ 0 → ⊥) → notANumber ≡ classOf (ofBits binary64 b)
+  bits-nan e d = sym (fields-nan sign digits d) ∙ by-fields 2047 e
+
+  pub bits-zero : exponent ≡ 0 → digits ≡ 0 → whole sign ≡ classOf (ofBits binary64 b)
+  bits-zero e d = sym (fields-zero sign digits d) ∙ by-fields 0 e
+
+  pub bits-tiny : exponent ≡ 0 → (digits ≡ 0 → ⊥) → fraction ≡ classOf (ofBits binary64 b)
+  bits-tiny e d = sym (fields-tiny sign digits (omega arith) d) ∙ by-fields 0 e
+
+  at-exponent : (x : ℕ) → exponent ≡ x → (x ≡ 0 → ⊥) → (x ≡ 2047 → ⊥) → classOfRatio sign ((2 ^ 52 + digits) * 2 ^ x) (2 ^ 1075) ≡ classOf (ofBits binary64 b)
+  at-exponent zero e z t = absurd (z refl)
+  at-exponent (suc x) e z t = sym (fields-normal sign x digits t) ∙ by-fields (suc x) e
+
+  pub bits-normal : (exponent ≡ 0 → ⊥) → (exponent ≡ 2047 → ⊥) → classOfRatio sign ((2 ^ 52 + digits) * 2 ^ exponent) (2 ^ 1075) ≡ classOf (ofBits binary64 b)
+  bits-normal = at-exponent exponent refl

@@ -5,16 +5,16 @@ use mathlib.Core.Bool.{Bool, true, false, cond}
 use mathlib.Core.List.{List, [], _∷_, _++_, append-assoc, append-nil}
 use Prim.Native.Nat.{ℕ, suc, _+_, _≤_, _<_}
 use native.Mathlib.Numerals.{add-one}
-use borrow.Author.Tests.{eqb-true}
+use borrow.Author.Tests.{eqb-true, lt-ltb, le-ltb}
 use lib.Dec.{eqb}
 use lib.ListN.{length, take, drop, getD, set, drop-of-length-le}
 use lib.Seq.{take-suc-set, drop-cons}
 use lib.Ieee.{Float, nan}
-use Rattle.number.specs.Limits.{allOnes}
+use Rattle.number.specs.Limits.{maxSizes, allOnes, outOfRange}
 use Rattle.number.specs.declared.Sized.{Sized}
 use Rattle.number.specs.declared.Sized.the-variants.{Size, Refused}
 use Rattle.number.specs.Size.{SizeOutcome, size, unknown, listedDim}
-use Rattle.number.specs.Sizes.{SizesOutcome, sizes, refusedAt, before, atIndex, sizesFrom}
+use Rattle.number.specs.Sizes.{SizesOutcome, sizes, refusedAt, before, atIndex, sizesFrom, listedDims}
 use Rattle.number.specs.Answers.{sizeOutcome}
 
 -- sizes that stand before what a walk gives
@@ -37,6 +37,14 @@ at-size i n o = by-test (eqb n allOnes) refl
     by-test : (t : Bool) → eqb n allOnes ≡ t → atIndex i (cond t unknown (size n)) o ≡ before n o
     by-test true e = ap (λ (k : ℕ). before k o) (sym (eqb-true n allOnes e))
     by-test false e = refl
+
+-- ---- the count
+
+pub listed-many : (xs : List Float) → maxSizes < length xs → listedDims xs ≡ refusedAt outOfRange 0
+listed-many xs h = rw (lt-ltb maxSizes (length xs) h)
+
+pub listed-few : (xs : List Float) → length xs ≤ maxSizes → listedDims xs ≡ sizesFrom 0 xs
+listed-few xs h = rw (le-ltb maxSizes (length xs) h)
 
 -- ---- the walk over xs at the index i, with the array d
 

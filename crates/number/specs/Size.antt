@@ -1,9 +1,9 @@
 -- The size that a number stands for (document 01, "val.rs" with refusals 4 and 13): a whole number from 0 to 2^53 is that size, -0 is
 -- size 0, and infinity is ?. NaN, a negative number or a fraction is 13, a whole number above 2^53 is 4.
 -- The two readings part at minus infinity: ? for `as_dim`, 13 for `as_dims` and `spec`, which is case (g).
-use mathlib.Core.Bool.{Bool, cond, _&&_}
+use mathlib.Core.Bool.{Bool, cond}
 use Prim.Native.Nat.{ℕ}
-use lib.Dec.{ltb}
+use lib.Dec.{eqb}
 use lib.Ieee.{Float}
 use Rattle.number.specs.Limits.{oversized, notASize}
 use Rattle.number.specs.Class.{Class, notANumber, infinite, fraction, whole, larger, classOf, magnitude}
@@ -14,9 +14,9 @@ pub data SizeOutcome : Type 0 where
   unknown : SizeOutcome
   refused : ℕ → SizeOutcome
 
--- the whole number n, at most 2^53, negative where s is true and n is not 0
+-- the whole number n, at most 2^53, with a minus where s is true
 abbrev pub sizeOfWhole : Bool → ℕ → SizeOutcome
-sizeOfWhole s n = cond (s && ltb 0 n) (refused notASize) (size n)
+sizeOfWhole s n = cond (eqb n 0) (size 0) (cond s (refused notASize) (size n))
 
 -- a number of a class and a magnitude, where minus infinity is m
 abbrev pub sizeOf : SizeOutcome → Class → ℕ → SizeOutcome

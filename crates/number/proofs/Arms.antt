@@ -1,0 +1,54 @@
+-- What an arm of a `match` on a class tells, where it takes several classes together: `OneOf` says that the class's place in the enum is one
+-- of these. Assumes nothing.
+use mathlib.Core.Path.{_≡_, refl, sym, ap, _∙_}
+use mathlib.Core.Bool.{Bool, true, false}
+use mathlib.Core.List.{[], _∷_}
+use Prim.Native.Nat.{ℕ}
+use denote.Enum.Declared.{tagOf}
+use types.Run.{OneOf, miss}
+use lib.Ieee.{Float}
+use Rattle.number.specs.declared.Class as declared
+use Rattle.number.specs.declared.Class.the-variants.{NotANumber, Infinite, Fraction, Whole, Larger}
+use Rattle.number.specs.Limits.{notASize}
+use Rattle.number.specs.Class.{Class, infinite, classOf, magnitude}
+use Rattle.number.specs.Size.{SizeOutcome, unknown, refused, sizeOf, asDim, listedDim}
+use Rattle.number.specs.Kind.{unwhole}
+use Rattle.number.specs.Answers.{classOutcome}
+use Rattle.number.proofs.Class.{the-type}
+
+abbrev place : declared.Class → ℕ
+place r = tagOf the-type r
+
+-- ---- not infinite: the two readings of a size are one
+
+one-reading : (r : declared.Class) (n : ℕ) → OneOf (0 ∷ 2 ∷ 3 ∷ 4 ∷ []) (place r) → sizeOf (refused notASize) (classOutcome r) n ≡ sizeOf unknown (classOutcome r) n
+one-reading NotANumber n h = refl
+one-reading (Infinite s) n h = absurd (miss (0 ∷ 2 ∷ 3 ∷ 4 ∷ []) 1 tt h)
+one-reading Fraction n h = refl
+one-reading (Whole s) n h = refl
+one-reading (Larger s) n h = refl
+
+pub arm-finite : (r : declared.Class) (x : Float) → classOutcome r ≡ classOf x → OneOf (0 ∷ 2 ∷ 3 ∷ 4 ∷ []) (place r) → listedDim x ≡ asDim x
+arm-finite r x e h = rw (← e) (one-reading r (magnitude x) h)
+
+-- ---- infinite: one reading takes either sign
+
+pub infinite-unknown : (x : Float) (s : Bool) → classOf x ≡ infinite s → unknown ≡ asDim x
+infinite-unknown x true e = rw e
+infinite-unknown x false e = rw e
+
+-- ---- not whole, and whole
+
+pub arm-unwhole : (r : declared.Class) → OneOf (0 ∷ 1 ∷ 2 ∷ []) (place r) → unwhole (classOutcome r) ≡ true
+arm-unwhole NotANumber h = refl
+arm-unwhole (Infinite s) h = refl
+arm-unwhole Fraction h = refl
+arm-unwhole (Whole s) h = absurd (miss (0 ∷ 1 ∷ 2 ∷ []) 3 tt h)
+arm-unwhole (Larger s) h = absurd (miss (0 ∷ 1 ∷ 2 ∷ []) 4 tt h)
+
+pub arm-whole : (r : declared.Class) → OneOf (3 ∷ 4 ∷ []) (place r) → unwhole (classOutcome r) ≡ false
+arm-whole NotANumber h = absurd (miss (3 ∷ 4 ∷ []) 0 tt h)
+arm-whole (Infinite s) h = absurd (miss (3 ∷ 4 ∷ []) 1 tt h)
+arm-whole Fraction h = absurd (miss (3 ∷ 4 ∷ []) 2 tt h)
+arm-whole (Whole s) h = refl
+arm-whole (Larger s) h = refl

@@ -19,6 +19,18 @@ use Rattle.number.proofs.Class.{the-type}
 abbrev place : declared.Class → ℕ
 place r = tagOf the-type r
 
+-- ---- NaN or a fraction: no size
+
+no-size : (r : declared.Class) (m : SizeOutcome) (n : ℕ) → OneOf (0 ∷ 2 ∷ []) (place r) → sizeOf m (classOutcome r) n ≡ refused notASize
+no-size NotANumber m n h = refl
+no-size (Infinite s) m n h = absurd (miss (0 ∷ 2 ∷ []) 1 tt h)
+no-size Fraction m n h = refl
+no-size (Whole s) m n h = absurd (miss (0 ∷ 2 ∷ []) 3 tt h)
+no-size (Larger s) m n h = absurd (miss (0 ∷ 2 ∷ []) 4 tt h)
+
+pub arm-refused : (r : declared.Class) (x : Float) → classOutcome r ≡ classOf x → OneOf (0 ∷ 2 ∷ []) (place r) → listedDim x ≡ refused notASize
+arm-refused r x e h = rw (← e) (no-size r (refused notASize) (magnitude x) h)
+
 -- ---- not infinite: the two readings of a size are one
 
 one-reading : (r : declared.Class) (n : ℕ) → OneOf (0 ∷ 2 ∷ 3 ∷ 4 ∷ []) (place r) → sizeOf (refused notASize) (classOutcome r) n ≡ sizeOf unknown (classOutcome r) n

@@ -74,24 +74,24 @@ module _ (s : Bool) (q x : ℕ) (l : x ≤ 1075) where
   pub normal-fraction : (q % 2 ^ (1075 - x) ≡ 0 → ⊥) → classOfRatio s (q * 2 ^ x) (2 ^ 1075) ≡ fraction
   normal-fraction e = normal-units ∙ ratio-fraction s q (2 ^ (1075 - x)) e
 
--- exactly 2 ^ 53
-pub normal-limit : (s : Bool) → classOfRatio s (2 ^ 52 * 2 ^ 1076) (2 ^ 1075) ≡ whole s
-normal-limit s = refl
+-- exactly 2 ^ 53, where the number is 2 * q
+pub normal-limit : (s : Bool) (q x : ℕ) → 2 ^ 52 ≤ q → x ≡ 1076 → 2 * q ≤ maxSize → classOfRatio s (q * 2 ^ x) (2 ^ 1075) ≡ whole s
+normal-limit s q x h e l = let k : q ≡ 2 ^ 52 = omega arith in rw (e, k)
 
 -- above 2 ^ 53
-past-limit : (q j : ℕ) → 2 ^ 52 ≤ q → 1 ≤ j → (j ≡ 1 → q ≡ 2 ^ 52 → ⊥) → 2 ^ 53 < q * 2 ^ j
-past-limit q zero h a b = absurd (omega arith)
-past-limit q (suc zero) h a b = let z : q ≡ 2 ^ 52 → ⊥ = b refl in omega arith
-past-limit q (suc (suc j)) h a b =
+past-limit : (q j : ℕ) → 2 ^ 52 ≤ q → 1 ≤ j → (j ≡ 1 → maxSize < 2 * q) → maxSize < q * 2 ^ j
+past-limit q zero h a l = absurd (omega arith)
+past-limit q (suc zero) h a l = let k : maxSize < 2 * q = l refl in omega arith
+past-limit q (suc (suc j)) h a l =
     let w : 2 ^ 2 ≤ 2 ^ suc (suc j) = pow-mono {i = 2} {j = suc (suc j)} (omega arith) in
     let v : (2 ^ 52) * 2 ^ 2 ≤ q * 2 ^ suc (suc j) = mul-le-mul h w in
     omega arith
 
-pub normal-larger : (s : Bool) (q x : ℕ) → 2 ^ 52 ≤ q → 1075 < x → (x ≡ 1076 → q ≡ 2 ^ 52 → ⊥) → classOfRatio s (q * 2 ^ x) (2 ^ 1075) ≡ larger s
-normal-larger s q x h l n =
+pub normal-larger : (s : Bool) (q x : ℕ) → 2 ^ 52 ≤ q → 1075 < x → (x ≡ 1076 → maxSize < 2 * q) → classOfRatio s (q * 2 ^ x) (2 ^ 1075) ≡ larger s
+normal-larger s q x h a l =
     let j = x - 1075 in
     ratio-shift s q x 1075 j 0 (omega arith)
-    ∙ ratio-larger s (q * 2 ^ j) 1 (mod-one (q * 2 ^ j)) (rw div-one (past-limit q j h (omega arith) (λ a b. n (omega arith) b)))
+    ∙ ratio-larger s (q * 2 ^ j) 1 (mod-one (q * 2 ^ j)) (rw div-one (past-limit q j h (omega arith) (λ e. l (omega arith))))
 
 -- the power of two that the code shifts
 pub shifted : (n : ℕ) → n ≤ 52 → (1 * 2 ^ n) % 2 ^ 64 ≡ 2 ^ n

@@ -1,16 +1,19 @@
-// A number handed in: its class, told by its bits, the size and the kind that it stands for, and the same for a list of numbers.
+// Numbers handed in: what class a number is of, told by its bits; the size and the kind that it stands for; and the
+// same for a list of numbers.
 ghost use mathlib.Core.Path.{_≡_};
+ghost use mathlib.Core.Bool.{cond};
 ghost use mathlib.Core.List.{[], _∷_};
 ghost use Prim.Native.Nat.{_≤_, _<_, _*_, _^_};
 ghost use lib.Ieee.{ofBits, binary64};
-ghost use Rattle.number.specs.Limits.{maxSizes};
-ghost use Rattle.number.specs.Class.{classOf, classOfRatio, whole, magnitude};
-ghost use Rattle.number.specs.Size.{asDim, listedDim, sizeOfWhole};
-ghost use Rattle.number.specs.Sizes.{listedDims};
+ghost use Rattle.number.specs.Limits.{maxSizes, notASize};
+ghost use Rattle.number.specs.Class.{whole, classOfRatio, classOf, magnitude};
+ghost use Rattle.number.specs.Size.{refused, sizeOfWhole, asDim, listedDim};
+ghost use Rattle.number.specs.Sizes.{refusedAt, listedDims};
 ghost use Rattle.number.specs.Kind.{kindOf};
 ghost use Rattle.number.specs.Answers.{classOutcome, sizeOutcome, dimsOutcome, countOf};
 
-// The unknown size, ?.
+// The largest static size, 2^53, and the unknown one, ?.
+pub const MAX_SIZE: u64 = 9007199254740992;
 pub const UNKNOWN: u64 = 18446744073709551615;
 // How many sizes a list may have.
 pub const MAX_SIZES: usize = 8;
@@ -26,17 +29,16 @@ pub const NAT: u8 = 1;
 pub const INT: u8 = 2;
 pub const NUM: u8 = 3;
 
-// An f64 from its high bit down: the sign, 11 bits of exponent, 52 digits below a leading one.
-const SIGN: u64 = 0x8000_0000_0000_0000;
-const LEADING_ONE: u64 = 0x10_0000_0000_0000;
-// The exponent of infinities and NaN.
+// An f64 is, from its highest bit down, a sign, 11 bits of exponent and 52 digits below a leading one.
+const SIGN: u64 = 9223372036854775808;
+const LEADING_ONE: u64 = 4503599627370496;
+// The exponent of the infinities and NaN; that of the numbers from 1 to 2; those at which the last digit counts 1 and 2.
 const SPECIAL: u64 = 2047;
-// The exponents of 1, 2^52 and 2^53. At that of 2^52 the last digit counts one.
-const OF_ONE: u64 = 1023;
-const OF_UNITS: u64 = 1075;
-const OF_LIMIT: u64 = 1076;
+const FROM_ONE: u64 = 1023;
+const IN_ONES: u64 = 1075;
+const IN_TWOS: u64 = 1076;
 
-// Whole is up to 2^53 in magnitude, Larger is whole beyond that.
+// Whole is up to 2^53 in magnitude, and Larger is whole beyond that.
 pub enum Class {
     NotANumber,
     Infinite { negative: bool },
@@ -48,7 +50,7 @@ pub enum Class {
 pub fn classify(x: f64) -> Class
     ensures { λ r. ⌜ classOutcome r ≡ classOf x ⌝ }
 {
-    // Only a NaN differs from itself, and it alone has no bits of its own.
+    // Only a NaN differs from itself. It has many patterns, so its bits are not asked for.
     if x != x {
         return Class::NotANumber;
     }
@@ -67,7 +69,7 @@ fn classify_bits(bits: u64) -> Class
         }
         return Class::NotANumber;
     }
-    // Without a leading one: zero, or less than any whole number.
+    // No leading one: zero, or far below 1.
     if exponent == 0 {
         if digits == 0 {
             return Class::Whole { negative };
@@ -82,18 +84,19 @@ fn classify_normal(negative: bool, exponent: u64, significand: u64) -> Class
     requires { ⌜ (2 ^ 52 ≤ significand) × (significand < 2 ^ 53) ⌝ }
     ensures { λ r. ⌜ classOutcome r ≡ classOfRatio negative (significand * 2 ^ exponent) (2 ^ 1075) ⌝ }
 {
-    if exponent < OF_ONE {
+    if exponent < FROM_ONE {
         return Class::Fraction;
     }
-    if exponent <= OF_UNITS {
-        let one = 1u64 << (OF_UNITS - exponent);
+    if exponent <= IN_ONES {
+        let one = 1u64 << (IN_ONES - exponent);
         if significand % one == 0 {
             return Class::Whole { negative };
         }
         return Class::Fraction;
     }
-    if exponent == OF_LIMIT {
-        if significand == LEADING_ONE {
+    // Whole from here on, and past the limit unless it is exactly 2^53.
+    if exponent == IN_TWOS {
+        if 2 * significand <= MAX_SIZE {
             return Class::Whole { negative };
         }
     }
@@ -106,6 +109,7 @@ pub enum Sized {
     Refused(u8),
 }
 
+// The size that a number alone stands for: either infinity is unknown.
 pub fn as_dim(x: f64) -> Sized
     ensures { λ r. ⌜ sizeOutcome r ≡ asDim x ⌝ }
 {
@@ -115,31 +119,32 @@ pub fn as_dim(x: f64) -> Sized
     listed_dim(x)
 }
 
+// The size that a number of a list stands for: minus infinity is a negative number.
 pub fn listed_dim(x: f64) -> Sized
     ensures { λ r. ⌜ sizeOutcome r ≡ listedDim x ⌝ }
 {
     match classify(x) {
-        Class::NotANumber => Sized::Refused(NOT_A_SIZE),
-        Class::Infinite { negative } => if negative {
-            Sized::Refused(NOT_A_SIZE)
-        } else {
-            Sized::Size(UNKNOWN)
-        },
-        Class::Fraction => Sized::Refused(NOT_A_SIZE),
-        Class::Whole { negative } => whole_size(x, negative),
-        Class::Larger { negative } => if negative {
-            Sized::Refused(NOT_A_SIZE)
-        } else {
-            Sized::Refused(OVERSIZED)
-        },
+        Class::NotANumber | Class::Fraction => Sized::Refused(NOT_A_SIZE),
+        Class::Infinite { negative } => refuse_negative(negative, Sized::Size(UNKNOWN)),
+        Class::Whole { negative } => cast_whole(x, negative),
+        Class::Larger { negative } => refuse_negative(negative, Sized::Refused(OVERSIZED)),
     }
 }
 
-fn whole_size(x: f64, negative: bool) -> Sized
+fn refuse_negative(negative: bool, otherwise: Sized) -> Sized
+    ensures { λ r. ⌜ sizeOutcome r ≡ cond negative (refused notASize) (sizeOutcome otherwise) ⌝ }
+{
+    if negative {
+        return Sized::Refused(NOT_A_SIZE);
+    }
+    otherwise
+}
+
+fn cast_whole(x: f64, negative: bool) -> Sized
     requires { ⌜ classOf x ≡ whole negative ⌝ }
     ensures { λ r. ⌜ sizeOutcome r ≡ sizeOfWhole negative (magnitude x) ⌝ }
 {
-    // -0 too, which has the sign of a negative number and no cast.
+    // -0 has the sign of a negative number, and a cast would lose it.
     if x == 0.0 {
         return Sized::Size(0);
     }
@@ -154,22 +159,19 @@ pub enum Answer {
     Refused { number: u8, place: usize },
 }
 
-// The sizes of a list: the first Count of the array.
+// The sizes of a list of numbers are the first Count of the array.
 pub struct Dims {
     pub answer: Answer,
-    pub list: [u64; 8],
+    pub list: [u64; MAX_SIZES],
 }
 
 pub fn dims_of(xs: &[f64]) -> Dims
     ensures { λ r. ⌜ (dimsOutcome r ≡ listedDims (now (xs .entry))) × (countOf (r .answer) ≤ maxSizes) ⌝ }
 {
-    let mut list = [0u64; MAX_SIZES];
     if MAX_SIZES < xs.len() {
-        return Dims {
-            answer: Answer::Refused { number: OUT_OF_RANGE, place: 0 },
-            list,
-        };
+        return refuse_dims(OUT_OF_RANGE, 0);
     }
+    let mut list = [0u64; MAX_SIZES];
     let mut i = 0;
     while i < xs.len() {
         match listed_dim(xs[i]) {
@@ -177,15 +179,21 @@ pub fn dims_of(xs: &[f64]) -> Dims
                 list[i] = n;
             }
             Sized::Refused(number) => {
-                return Dims {
-                    answer: Answer::Refused { number, place: i },
-                    list,
-                };
+                return refuse_dims(number, i);
             }
         }
         i += 1;
     }
     Dims { answer: Answer::Count(i), list }
+}
+
+fn refuse_dims(number: u8, place: usize) -> Dims
+    ensures { λ r. ⌜ (dimsOutcome r ≡ refusedAt number place) × (countOf (r .answer) ≡ 0) ⌝ }
+{
+    Dims {
+        answer: Answer::Refused { number, place },
+        list: [0u64; MAX_SIZES],
+    }
 }
 
 pub fn kind_of_number(x: f64) -> u8
@@ -205,7 +213,7 @@ pub fn kind_of_number(x: f64) -> u8
     }
 }
 
-// The greatest of the numbers' kinds: they are coded in the order in which one decides for all.
+// The kinds' codes are in the order in which one number's kind outweighs another's, so the list has the greatest.
 pub fn kind_of(xs: &[f64]) -> u8
     ensures { λ r. ⌜ r ≡ kindOf (now (xs .entry)) ⌝ }
 {

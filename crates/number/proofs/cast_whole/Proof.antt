@@ -5,10 +5,10 @@ use borrow.Author.Tests.{ne-eqb}
 use Rattle.number.specs.Limits.{allOnes}
 use Rattle.number.specs.Class.{classOf, magnitude, whole}
 use Rattle.number.proofs.Casts.{whole-small, zero-magnitude, some-magnitude, may-cast, cast-magnitude}
-use Rattle.number.proofs.whole_size.Statement.{statement}
-use Rattle.number.proofs.whole_size.Tie as tie
-use Rattle.number.proofs.whole_size.Reads as reads
-use Rattle.number.proofs.whole_size.Lts as lts
+use Rattle.number.proofs.cast_whole.Statement.{statement}
+use Rattle.number.proofs.cast_whole.Tie as tie
+use Rattle.number.proofs.cast_whole.Reads as reads
+use Rattle.number.proofs.cast_whole.Lts as lts
 
 -- src/lib.rt:144:9
 returns : tie.Need-returns
@@ -26,5 +26,5 @@ float-to-int-t4 c = may-cast (c .before .before .before .args .x) (rw (c .before
 returns-3 : tie.Need-returns-3
 returns-3 c = let x = c .before .before .before .args .x in let w : classOf x ≡ whole false = rw (c .before .if2 .left) at (c .before .before .before .pre) in let m = whole-small x false w in simp (ne-eqb (magnitude x) 0 (some-magnitude x false w (c .before .before .if1 .left)), c .before .if2 .left, cast-magnitude x (may-cast x w), ne-eqb (magnitude x) allOnes (λ e. omega arith))
 
-pub whole-size-spec : {M : Type 1} → statement M
-whole-size-spec = tie.close (tie.spec returns returns-2 float-to-int-t4 returns-3)
+pub cast-whole-spec : {M : Type 1} → statement M
+cast-whole-spec = tie.close (tie.spec returns returns-2 float-to-int-t4 returns-3)

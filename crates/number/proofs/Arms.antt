@@ -1,6 +1,6 @@
 -- What an arm of a `match` on a class tells, where it takes several classes together: `OneOf` says that the class's place in the enum is one
 -- of these. Assumes nothing.
-use mathlib.Core.Path.{_≡_, refl, sym, ap, _∙_}
+use mathlib.Core.Path.{_≡_, refl}
 use mathlib.Core.Bool.{Bool, true, false}
 use mathlib.Core.List.{[], _∷_}
 use Prim.Native.Nat.{ℕ}
@@ -12,7 +12,7 @@ use Rattle.number.specs.declared.Class.the-variants.{NotANumber, Infinit
 use Rattle.number.specs.Limits.{notASize}
 use Rattle.number.specs.Class.{Class, infinite, classOf, magnitude}
 use Rattle.number.specs.Size.{SizeOutcome, unknown, refused, sizeOf, asDim, listedDim}
-use Rattle.number.specs.Kind.{unwhole}
+use Rattle.number.specs.Kind.{unwhole, notWhole}
 use Rattle.number.specs.Answers.{classOutcome}
 use Rattle.number.proofs.Class.{the-type}
 
@@ -51,16 +51,22 @@ infinite-unknown x false e = rw e
 
 -- ---- not whole, and whole
 
-pub arm-unwhole : (r : declared.Class) → OneOf (0 ∷ 1 ∷ 2 ∷ []) (place r) → unwhole (classOutcome r) ≡ true
-arm-unwhole NotANumber h = refl
-arm-unwhole (Infinite s) h = refl
-arm-unwhole Fraction h = refl
-arm-unwhole (Whole s) h = absurd (miss (0 ∷ 1 ∷ 2 ∷ []) 3 tt h)
-arm-unwhole (Larger s) h = absurd (miss (0 ∷ 1 ∷ 2 ∷ []) 4 tt h)
+unwhole-true : (r : declared.Class) → OneOf (0 ∷ 1 ∷ 2 ∷ []) (place r) → unwhole (classOutcome r) ≡ true
+unwhole-true NotANumber h = refl
+unwhole-true (Infinite s) h = refl
+unwhole-true Fraction h = refl
+unwhole-true (Whole s) h = absurd (miss (0 ∷ 1 ∷ 2 ∷ []) 3 tt h)
+unwhole-true (Larger s) h = absurd (miss (0 ∷ 1 ∷ 2 ∷ []) 4 tt h)
 
-pub arm-whole : (r : declared.Class) → OneOf (3 ∷ 4 ∷ []) (place r) → unwhole (classOutcome r) ≡ false
-arm-whole NotANumber h = absurd (miss (3 ∷ 4 ∷ []) 0 tt h)
-arm-whole (Infinite s) h = absurd (miss (3 ∷ 4 ∷ []) 1 tt h)
-arm-whole Fraction h = absurd (miss (3 ∷ 4 ∷ []) 2 tt h)
-arm-whole (Whole s) h = refl
-arm-whole (Larger s) h = refl
+pub arm-unwhole : (r : declared.Class) (x : Float) → classOutcome r ≡ classOf x → OneOf (0 ∷ 1 ∷ 2 ∷ []) (place r) → notWhole x ≡ true
+arm-unwhole r x e h = rw (← e) (unwhole-true r h)
+
+unwhole-false : (r : declared.Class) → OneOf (3 ∷ 4 ∷ []) (place r) → unwhole (classOutcome r) ≡ false
+unwhole-false NotANumber h = absurd (miss (3 ∷ 4 ∷ []) 0 tt h)
+unwhole-false (Infinite s) h = absurd (miss (3 ∷ 4 ∷ []) 1 tt h)
+unwhole-false Fraction h = absurd (miss (3 ∷ 4 ∷ []) 2 tt h)
+unwhole-false (Whole s) h = refl
+unwhole-false (Larger s) h = refl
+
+pub arm-whole : (r : declared.Class) (x : Float) → classOutcome r ≡ classOf x → OneOf (3 ∷ 4 ∷ []) (place r) → notWhole x ≡ false
+arm-whole r x e h = rw (← e) (unwhole-false r h)

@@ -14,28 +14,38 @@ ghost use Rattle.number.specs.Answers.{classOutcome, sizeOutcome, dimsOu
 
 // The largest static size, 2^53, and the unknown one, ?.
 pub const MAX_SIZE: u64 = 9007199254740992;
+
 pub const UNKNOWN: u64 = 18446744073709551615;
 // How many sizes a list may have.
 pub const MAX_SIZES: usize = 8;
 
 // Refusals, as the paper numbers them.
 pub const OUT_OF_RANGE: u8 = 3;
+
 pub const OVERSIZED: u8 = 4;
+
 pub const NOT_A_SIZE: u8 = 13;
 
 // Kinds, as the paper codes them.
 pub const BOOL: u8 = 0;
+
 pub const NAT: u8 = 1;
+
 pub const INT: u8 = 2;
+
 pub const NUM: u8 = 3;
 
 // An f64 is, from its highest bit down, a sign, 11 bits of exponent and 52 digits below a leading one.
 const SIGN: u64 = 9223372036854775808;
+
 const LEADING_ONE: u64 = 4503599627370496;
 // The exponent of the infinities and NaN; that of the numbers from 1 to 2; those at which the last digit counts 1 and 2.
 const SPECIAL: u64 = 2047;
+
 const FROM_ONE: u64 = 1023;
+
 const IN_ONES: u64 = 1075;
+
 const IN_TWOS: u64 = 1076;
 
 // Whole is up to 2^53 in magnitude, and Larger is whole beyond that.
@@ -184,7 +194,10 @@ pub fn dims_of(xs: &[f64]) -> Dims
         }
         i += 1;
     }
-    Dims { answer: Answer::Count(i), list }
+    Dims {
+        answer: Answer::Count(i),
+        list,
+    }
 }
 
 fn refuse_dims(number: u8, place: usize) -> Dims

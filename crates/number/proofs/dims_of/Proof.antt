@@ -1,3 +1,5 @@
+-- `number::dims_of` meets its contract. The loop's invariant: what the list gives is the sizes put down up to `i`, before what its numbers
+-- from `i` on give. Assumes nothing.
 use mathlib.Core.Path.{_≡_, sym, _∙_}
 use mathlib.Core.List.{[]}
 use Prim.Native.Nat.{_-_, _≤_}
@@ -7,10 +9,6 @@ use lib.ListN.{length, length-set}
 use Rattle.number.proofs.Walk.{listed-many, listed-few, Walked, walk-starts, walk-puts, walk-refuses, walk-ends}
 use Rattle.number.proofs.dims_of.Statement.{statement}
 use Rattle.number.proofs.dims_of.Tie as tie
-use Rattle.number.proofs.dims_of.Reads as reads
-use Rattle.number.proofs.dims_of.Lts as lts
-use Rattle.number.proofs.listed_dim.Reads as listed-dim-reads
-use Rattle.number.proofs.refuse_dims.Reads as refuse-dims-reads
 
 abbrev Inv-loop : tie.InvT-loop
 Inv-loop xs list₀ i₀ list i = (i ≤ length xs) × (length list ≡ 8) × Walked xs list i
@@ -18,80 +16,74 @@ Inv-loop xs list₀ i₀ list i = (i ≤ length xs) × (length list ≡ 8) × Wa
 abbrev μ-loop : tie.MeasureT-loop
 μ-loop xs list₀ i₀ list i = length xs - i
 
--- src/lib.rt:171:9
 refuse-dims-requires : tie.Need-refuse-dims-requires Inv-loop μ-loop
 refuse-dims-requires c κs = search needs
 
--- src/lib.rt:171:9
 returns : tie.Need-returns Inv-loop μ-loop
-returns c = (c .refuse-dims .ensures .0 ∙ sym (listed-many (c .before .before .before .args .xs .now) (c .before .if1 .taken)), omega arith)
+returns c =
+    let many = listed-many (c .before .before .before .args .xs .now) (c .before .if1 .taken) in
+    (c .refuse-dims .ensures .0 ∙ sym many, omega arith)
 
--- src/lib.rt:175:5
 loop-holds : tie.Need-loop-holds Inv-loop μ-loop
 loop-holds c = (search needs, search needs, walk-starts (c .before .before .args .xs .now) [])
 
--- src/lib.rt:176:26
 mul-listed-dim : tie.Need-mul-listed-dim Inv-loop μ-loop
-mul-listed-dim c = scaled-fits (c .before .loop .i) (length (c .before .before .before .before .args .xs .now)) 8 (c .loop-test .taken) (c .before .before .before .before .good .0 .1)
+mul-listed-dim c =
+    let s = c .before .before .before .before in
+    scaled-fits (c .before .loop .i) (length (s .args .xs .now)) 8 (c .loop-test .taken) (s .good .0 .1)
 
--- src/lib.rt:176:26
 shared-slice-read-listed-dim : tie.Need-shared-slice-read-listed-dim Inv-loop μ-loop
 shared-slice-read-listed-dim c = search needs
 
--- src/lib.rt:176:15
 listed-dim-requires : tie.Need-listed-dim-requires Inv-loop μ-loop
 listed-dim-requires c κs = search needs
 
--- src/lib.rt:177:25
 enum-known-n : tie.Need-enum-known-n Inv-loop μ-loop
 enum-known-n c = search needs
 
--- src/lib.rt:178:17
 mul-list : tie.Need-mul-list Inv-loop μ-loop
 mul-list c = search needs
 
--- src/lib.rt:178:17
 array-write-list : tie.Need-array-write-list Inv-loop μ-loop
 array-write-list c = search needs
 
--- src/lib.rt:180:28
 enum-known-number : tie.Need-enum-known-number Inv-loop μ-loop
 enum-known-number c = search needs
 
--- src/lib.rt:181:17
 refuse-dims-requires-2 : tie.Need-refuse-dims-requires-2 Inv-loop μ-loop
 refuse-dims-requires-2 c κs = search needs
 
--- src/lib.rt:181:17
 returns-2 : tie.Need-returns-2 Inv-loop μ-loop
-returns-2 c = 
-    let xs = c .before .before .before .before .before .before .before .before .before .before .args .xs .now in
-    let l = c .before .before .before .before .before .before .before .loop in
-    let e = walk-refuses xs (l .list) (l .i) (l .inv .2) (c .before .before .number .given .0 .0) (c .before .before .before .before .before .before .loop-test .taken) cc in
-    (c .refuse-dims2 .ensures .0 ∙ sym (listed-few xs (c .before .before .before .before .before .before .before .before .if1 .left) ∙ e), omega arith)
+returns-2 c =
+    let k = c .before .before .number .given .0 .0 in
+    let t = c .before .before .before .before .before .before in
+    let l = t .before .loop in
+    let s = t .before .before in
+    let xs = s .before .before .args .xs .now in
+    let e = walk-refuses xs (l .list) (l .i) (l .inv .2) k (t .loop-test .taken) cc in
+    (c .refuse-dims2 .ensures .0 ∙ sym (listed-few xs (s .if1 .left) ∙ e), omega arith)
 
--- src/lib.rt:184:9
 add-i : tie.Need-add-i Inv-loop μ-loop
 add-i c = search needs
 
--- src/lib.rt:175:5
 loop-less : tie.Need-loop-less Inv-loop μ-loop
 loop-less c = search needs
 
--- src/lib.rt:175:5
 loop-again : tie.Need-loop-again Inv-loop μ-loop
-loop-again c = 
-    let l = c .before .before .before .before .before .before .loop in
+loop-again c =
     let n = c .before .n .given .0 .0 in
-    let w = walk-puts (c .before .before .before .before .before .before .before .before .before .args .xs .now) (l .list) (l .i) (l .inv .2) n (c .before .before .before .before .before .loop-test .taken) (omega arith) cc in
+    let t = c .before .before .before .before .before in
+    let l = t .before .loop in
+    let xs = t .before .before .before .before .args .xs .now in
+    let w = walk-puts xs (l .list) (l .i) (l .inv .2) n (t .loop-test .taken) (omega arith) cc in
     (omega arith, length-set (l .list) (l .i) n ∙ l .inv .1, w)
 
--- src/lib.rt:167:1
 returns-3 : tie.Need-returns-3 Inv-loop μ-loop
-returns-3 c = 
-    let xs = c .before .before .before .before .args .xs .now in
+returns-3 c =
     let l = c .before .loop in
-    (sym (listed-few xs (c .before .before .if1 .left) ∙ walk-ends xs (l .list) (l .i) (l .inv .2) (c .loop-test .left)), omega arith)
+    let s = c .before .before in
+    let xs = s .before .before .args .xs .now in
+    (sym (listed-few xs (s .if1 .left) ∙ walk-ends xs (l .list) (l .i) (l .inv .2) (c .loop-test .left)), omega arith)
 
 pub dims-of-spec : {M : Type 1} → statement M
 dims-of-spec =

@@ -41,10 +41,10 @@ at-size i n o = by-test (eqb n allOnes) refl
 -- ---- the count
 
 pub listed-many : (xs : List Float) → maxSizes < length xs → listedDims xs ≡ refusedAt outOfRange 0
-listed-many xs h = rw (lt-ltb maxSizes (length xs) h)
+listed-many xs h = ap (λ (many : Bool). cond many (refusedAt outOfRange 0) (sizesFrom 0 xs)) (lt-ltb maxSizes (length xs) h)
 
 pub listed-few : (xs : List Float) → length xs ≤ maxSizes → listedDims xs ≡ sizesFrom 0 xs
-listed-few xs h = rw (le-ltb maxSizes (length xs) h)
+listed-few xs h = ap (λ (many : Bool). cond many (refusedAt outOfRange 0) (sizesFrom 0 xs)) (le-ltb maxSizes (length xs) h)
 
 -- ---- the walk over xs at the index i, with the array d
 

@@ -15,11 +15,11 @@ pub data Class : Type 0 where
   whole : Bool → Class
   larger : Bool → Class
 
--- the whole number n
+-- the whole number n, with a minus where s is true
 abbrev pub classOfWhole : Bool → ℕ → Class
 classOfWhole s n = cond (leb n maxSize) (whole s) (larger s)
 
--- the number a / c
+-- the number a / c, with a minus where s is true
 abbrev pub classOfRatio : Bool → ℕ → ℕ → Class
 classOfRatio s a c = cond (eqb (a % c) 0) (classOfWhole s (a / c)) fraction
 

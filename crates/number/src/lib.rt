@@ -12,21 +12,25 @@ ghost use Rattle.number.specs.Sizes.{refusedAt, listedDims};
 ghost use Rattle.number.specs.Kind.{kindOf};
 ghost use Rattle.number.specs.Answers.{classOutcome, sizeOutcome, dimsOutcome, countOf};
 
-// The largest static size, 2^53, and the unknown one, ?.
+// The largest static size, 2^53.
 pub const MAX_SIZE: u64 = 9007199254740992;
 
+// The unknown size, ?: all ones.
 pub const UNKNOWN: u64 = 18446744073709551615;
+
 // How many sizes a list may have.
 pub const MAX_SIZES: usize = 8;
 
-// Refusals, as the paper numbers them.
+// Refusal 3: more than eight numbers.
 pub const OUT_OF_RANGE: u8 = 3;
 
+// Refusal 4: a size above 2^53.
 pub const OVERSIZED: u8 = 4;
 
+// Refusal 13: NaN, a negative number or a fraction as a size.
 pub const NOT_A_SIZE: u8 = 13;
 
-// Kinds, as the paper codes them.
+// The codes of the kinds that numbers have, from here on.
 pub const BOOL: u8 = 0;
 
 pub const NAT: u8 = 1;
@@ -38,14 +42,19 @@ pub const NUM: u8 = 3;
 // An f64 is, from its highest bit down, a sign, 11 bits of exponent and 52 digits below a leading one.
 const SIGN: u64 = 9223372036854775808;
 
+// The weight of the leading one.
 const LEADING_ONE: u64 = 4503599627370496;
-// The exponent of the infinities and NaN; that of the numbers from 1 to 2; those at which the last digit counts 1 and 2.
+
+// The exponent of the infinities and of NaN.
 const SPECIAL: u64 = 2047;
 
+// The exponent of the numbers from 1 up to 2.
 const FROM_ONE: u64 = 1023;
 
+// The exponent at which the last digit counts 1.
 const IN_ONES: u64 = 1075;
 
+// The exponent at which the last digit counts 2.
 const IN_TWOS: u64 = 1076;
 
 // Whole is up to 2^53 in magnitude, and Larger is whole beyond that.
@@ -98,6 +107,7 @@ fn classify_normal(negative: bool, exponent: u64, significand: u64) -> Class
         return Class::Fraction;
     }
     if exponent <= IN_ONES {
+        // How many of the last digit make 1.
         let one = 1u64 << (IN_ONES - exponent);
         if significand % one == 0 {
             return Class::Whole { negative };
@@ -164,12 +174,13 @@ fn cast_whole(x: f64, negative: bool) -> Sized
     Sized::Size(x as u64)
 }
 
+// How many sizes there are, or a refusal.
 pub enum Answer {
     Count(usize),
     Refused { number: u8, place: usize },
 }
 
-// The sizes of a list of numbers are the first Count of the array.
+// An enum cannot hold an array, so the sizes stand beside it: the first Count of the list.
 pub struct Dims {
     pub answer: Answer,
     pub list: [u64; MAX_SIZES],
@@ -178,6 +189,7 @@ pub struct Dims {
 pub fn dims_of(xs: &[f64]) -> Dims
     ensures { λ r. ⌜ (dimsOutcome r ≡ listedDims (now (xs .entry))) × (countOf (r .answer) ≤ maxSizes) ⌝ }
 {
+    // Before any number is looked at.
     if MAX_SIZES < xs.len() {
         return refuse_dims(OUT_OF_RANGE, 0);
     }
@@ -209,6 +221,7 @@ fn refuse_dims(number: u8, place: usize) -> Dims
     }
 }
 
+// The kind of a number alone: that of the list of this one number.
 pub fn kind_of_number(x: f64) -> u8
     ensures { λ r. ⌜ r ≡ kindOf (x ∷ []) ⌝ }
 {

@@ -8,7 +8,7 @@ use mathlib.Core.List.{List, [], _∷_, _++_}
 use mathlib.Core.Option.{Option, none, some}
 use lib.ListN.{length, getD}
 use lib.Dec.{eqb, leb}
-use Rattle.model.specs.Limits.{maxSize, maxSizes, maxName, maxFields, maxTypes, maxDepth}
+use Rattle.model.specs.Limits.{maxSize, ones, maxSizes, maxName, maxFields, maxTypes, maxDepth}
 use Rattle.model.specs.Refusals.{unmarked, outOfRange, oversized, tooMany, trailing}
 use Rattle.model.specs.Types.{Dim, static, unknown, Shape, shape, Kind, bool, nat, int, num, complex, ascii, char, stream, any, Scalar, plain, boxAny, boxAll, boxDef, Fields, noFields, field, Ty, ty, boxOf, fieldOf, fieldCount, types}
 use Rattle.format.specs.Reader.{Read, got, stopped, Reader, andThen, _>>=_, _>>_, give, stop, need, here, byte, judged, number, bytesOf}
@@ -34,10 +34,6 @@ markBytes (mark a b) = a ∷ b ∷ []
 -- The byte that stands for a missing count: of closing sizes in a closed shape, of a name where there is none.
 abbrev pub absent : ℕ
 absent = 255
-
--- Eight bytes of ones, for an unknown size.
-abbrev pub ones : ℕ
-ones = 18446744073709551615
 
 -- The code of each kind, and of a box, in the paper's order.
 unfoldable pub code : Kind → ℕ

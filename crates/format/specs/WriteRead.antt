@@ -10,13 +10,13 @@ use mathlib.Core.Path.{_≡_, refl, sym, _∙_, ap}
 use lib.ListN.{length, getD, drop}
 use lib.Dec.{eqb, leb, lit<, lit≤}
 use borrow.Author.Tests.{le-leb, lt-ltb, eq-eqb, ne-eqb, le-ltb}
-use Rattle.model.specs.Limits.{maxSize, maxSizes, maxName, maxFields, maxTypes, maxDepth}
+use Rattle.model.specs.Limits.{ones, maxSize, maxSizes, maxName, maxFields, maxTypes, maxDepth}
 use Rattle.model.specs.Refusals.{ended, unmarked, outOfRange, oversized, tooMany, trailing}
 use Rattle.model.specs.Types.{Dim, static, unknown, Shape, shape, Kind, bool, nat, int, num, complex, ascii, char, stream, any, Scalar, plain, boxAny, boxAll, boxDef, Fields, noFields, field, Ty, ty, boxOf, fieldOf, fieldCount, inside, among, types, below, deepest, depth}
 use Rattle.model.specs.Within.{All, Each, DimWithin, DimsWithin, ShapeWithin, Printing, NameWithin, ScalarWithin, FieldsWithin, RecordsWithin, Within}
 use Rattle.format.specs.Reader.{Read, got, stopped, Reader, andThen, _>>=_, _>>_, give, stop, need, here, byte, judged, number, bytesOf}
 use Rattle.format.specs.ReaderLaws.{Reads, reads-give, reads-bind, reads-byte, reads-judged, reads-here, reads-last, reads-number}
-use Rattle.format.specs.Records.{Mark, mark, shapeMark, scalarMark, boxMark, markBytes, absent, ones, code, boxCode, kindOf, dimNumber, writeDims, countOf, listOf, writeShape, boxStart, writeScalar, writeFields, writeTy, dimOf, isCount, isOptional, listCount, optional, isPrinting, form, orStop, readMark, readDim, readDims, shapeFrom, readShape, readName, readFields, defFrom, allFrom, boxFrom, plainFrom, scalarFrom, readTy, readType}
+use Rattle.format.specs.Records.{Mark, mark, shapeMark, scalarMark, boxMark, markBytes, absent, code, boxCode, kindOf, dimNumber, writeDims, countOf, listOf, writeShape, boxStart, writeScalar, writeFields, writeTy, dimOf, isCount, isOptional, listCount, optional, isPrinting, form, orStop, readMark, readDim, readDims, shapeFrom, readShape, readName, readFields, defFrom, allFrom, boxFrom, plainFrom, scalarFrom, readTy, readType}
 use Rattle.format.specs.Outcome.{Outcome, accepted, refused, alone, lone}
 
 -- ---- codes and counts

@@ -1,13 +1,11 @@
 // Lent buffers: bytes laid over a part of one, and a result delivered to the front of one or refused.
+use limits::refusal::TOO_SHORT;
 ghost use mathlib.Core.Path.{_≡_};
 ghost use Prim.Native.Nat.{_+_, _≤_};
 ghost use lib.ListN.{length};
 ghost use Rattle.format.specs.Outcome.{accepted, deliver};
 ghost use Rattle.lent.specs.Over.{over};
 ghost use Rattle.lent.specs.Written.{delivered};
-
-// A result that is too short for what is to be written.
-pub const TOO_SHORT: u8 = 7;
 
 // How many bytes a call wrote to its result, or its refusal.
 pub enum Written {

@@ -5,6 +5,10 @@ use Prim.Native.Nat.{ℕ, _+_, _*_}
 abbrev pub maxSize : ℕ
 maxSize = 9007199254740992
 
+-- the number that stands for an unknown size: eight bytes, all ones
+abbrev pub ones : ℕ
+ones = 18446744073709551615
+
 -- opening sizes of a shape; closing sizes of a shape
 abbrev pub maxSizes : ℕ
 maxSizes = 8

@@ -9,10 +9,10 @@ use mathlib.Core.Path.{_≡_, refl, sym, _∙_, ap}
 use lib.ListN.{length, getD}
 use lib.Dec.{eqb, leb, ltb}
 use borrow.Author.Tests.{lt-ltb, le-ltb, le-leb, lt-leb, eq-eqb, ne-eqb, ltb-true, ltb-false}
-use Rattle.model.specs.Limits.{maxSize}
+use Rattle.model.specs.Limits.{ones, maxSize}
 use Rattle.model.specs.Refusals.{ended, unmarked, outOfRange, oversized}
 use Rattle.format.specs.Reader.{Read, got, stopped, Reader, andThen, mapRead, give, need, byte, judged, number}
-use Rattle.format.specs.Records.{mark, ones, absent, dimNumber, dimOf, isCount, isOptional, isPrinting, readMark, readDim, readName}
+use Rattle.format.specs.Records.{mark, absent, dimNumber, dimOf, isCount, isOptional, isPrinting, readMark, readDim, readName}
 use Rattle.record.specs.Answers.{nothing, eightBytes}
 use Rattle.record.proofs.Known.{stopped-map, got-map}
 

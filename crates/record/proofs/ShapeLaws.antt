@@ -11,11 +11,11 @@ use lib.ListN.{length, getD, take, set}
 use lib.Seq.{take-suc-set}
 use lib.Dec.{eqb, leb, ltb}
 use borrow.Author.Tests.{eq-eqb, ne-eqb, leb-true}
-use Rattle.model.specs.Limits.{maxSize, maxSizes}
+use Rattle.model.specs.Limits.{ones, maxSize, maxSizes}
 use Rattle.model.specs.Refusals.{outOfRange, oversized}
 use Rattle.model.specs.Types.{Dim, static, unknown, shape}
 use Rattle.format.specs.Reader.{Read, got, stopped, Reader, andThen, mapRead, give, need, byte, judged, number}
-use Rattle.format.specs.Records.{shapeMark, ones, absent, dimNumber, dimOf, isCount, isOptional, readMark, readDim, readDims, shapeFrom, readShape}
+use Rattle.format.specs.Records.{shapeMark, absent, dimNumber, dimOf, isCount, isOptional, readMark, readDim, readDims, shapeFrom, readShape}
 use Rattle.record.specs.Answers.{nothing}
 use Rattle.record.proofs.Known.{stopped-map}
 

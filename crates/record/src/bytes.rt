@@ -1,13 +1,13 @@
 // Bytes, counts, marks, sizes and names. In each function `place` is the first byte of the record that the bytes at `at`
 // belong to, which its refusals name.
 use crate::Answer;
-use crate::limits::ABSENT;
-use crate::limits::MAX_SIZE;
-use crate::limits::UNKNOWN;
-use crate::refusal::ENDED;
-use crate::refusal::OUT_OF_RANGE;
-use crate::refusal::OVERSIZED;
-use crate::refusal::UNMARKED;
+use limits::ABSENT;
+use limits::MAX_SIZE;
+use limits::UNKNOWN;
+use limits::refusal::ENDED;
+use limits::refusal::OUT_OF_RANGE;
+use limits::refusal::OVERSIZED;
+use limits::refusal::UNMARKED;
 ghost use mathlib.Core.Path.{_≡_};
 ghost use Prim.Native.Nat.{_+_, _≤_, _<_};
 ghost use lib.ListN.{length};

@@ -1,11 +1,10 @@
 // Reading records from any bytes. Each function reads what one definition of `format` reads, in its order, and answers
 // what was read with the place after it, or the refusal.
 mod bytes;
-pub mod limits;
-pub mod refusal;
 mod shape;
 mod types;
 
+use limits::MAX_SIZES;
 pub use shape::no_dims;
 pub use shape::read_shape;
 pub use types::read_lone;
@@ -20,7 +19,7 @@ pub enum Answer {
 
 // A list of at most eight sizes: the first `count` of the array.
 pub struct Dims {
-    pub sizes: [u64; 8],
+    pub sizes: [u64; MAX_SIZES],
     pub count: usize,
 }
 

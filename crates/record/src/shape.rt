@@ -8,8 +8,8 @@ use crate::bytes::read_count;
 use crate::bytes::read_mark;
 use crate::bytes::read_optional;
 use crate::bytes::read_size;
-use crate::limits::ABSENT;
-use crate::limits::MAX_SIZES;
+use limits::ABSENT;
+use limits::MAX_SIZES;
 ghost use mathlib.Core.Path.{_≡_};
 ghost use Prim.Native.Nat.{_≤_};
 ghost use Rattle.format.specs.Records.{readDims, readShape};
@@ -19,7 +19,7 @@ pub fn no_dims() -> Dims
     ensures { λ r. ⌜ r .count ≡ 0 ⌝ }
 {
     Dims {
-        sizes: [0u64; 8],
+        sizes: [0u64; MAX_SIZES],
         count: 0,
     }
 }
@@ -28,7 +28,7 @@ fn read_dims(s: &[u8], place: usize, start: usize, count: usize) -> DimsRead
     requires { ⌜ count ≤ 8 ⌝ }
     ensures { λ r. ⌜ dimsReadOf r ≡ readDims (now (s .entry)) count place start ⌝ }
 {
-    let mut sizes = [0u64; 8];
+    let mut sizes = [0u64; MAX_SIZES];
     let mut i = 0;
     let mut at = start;
     while i < count {
@@ -69,11 +69,11 @@ pub fn read_shape(s: &[u8], at: usize) -> ShapeRead
     let Answer::Got { value: _, next: a } = mark else {
         return no_shape(mark);
     };
-    let opening = read_count(s, at, a, MAX_SIZES);
+    let opening = read_count(s, at, a, MAX_SIZES as u64);
     let Answer::Got { value: m, next: b } = opening else {
         return no_shape(opening);
     };
-    let closing = read_optional(s, at, b, MAX_SIZES);
+    let closing = read_optional(s, at, b, MAX_SIZES as u64);
     let Answer::Got { value: n, next: c } = closing else {
         return no_shape(closing);
     };

@@ -7,16 +7,19 @@ use crate::bytes::read_count;
 use crate::bytes::read_mark;
 use crate::bytes::read_name;
 use crate::bytes::read_optional;
-use crate::limits::ABSENT;
-use crate::limits::BOX;
-use crate::limits::LAST_KIND;
-use crate::limits::MAX_DEPTH;
-use crate::limits::MAX_FIELDS;
-use crate::limits::MAX_NAME;
-use crate::limits::MAX_TYPES;
-use crate::refusal::OUT_OF_RANGE;
-use crate::refusal::TOO_MANY;
-use crate::refusal::TRAILING;
+use limits::ABSENT;
+use limits::ANY;
+use limits::BOX;
+use limits::BOX_ALL;
+use limits::BOX_ANY;
+use limits::BOX_DEF;
+use limits::MAX_DEPTH;
+use limits::MAX_FIELDS;
+use limits::MAX_NAME;
+use limits::MAX_TYPES;
+use limits::refusal::OUT_OF_RANGE;
+use limits::refusal::TOO_MANY;
+use limits::refusal::TRAILING;
 use crate::shape::read_shape;
 ghost use mathlib.Core.Path.{_≡_};
 ghost use Prim.Native.Nat.{_-_};
@@ -65,7 +68,7 @@ fn read_scalar(s: &[u8], at: usize, depth: u64, left: u64) -> Answer
     if code == BOX {
         return read_box(s, b, depth, left);
     }
-    if LAST_KIND < code {
+    if ANY < code {
         return Answer::Refused {
             number: OUT_OF_RANGE,
             place: at,
@@ -88,16 +91,16 @@ fn read_box(s: &[u8], at: usize, depth: u64, left: u64) -> Answer
     let Answer::Got { value: code, next: b } = form else {
         return form;
     };
-    if code == 0 {
+    if code == BOX_ANY {
         return Answer::Got {
             value: left,
             next: b,
         };
     }
-    if code == 1 {
+    if code == BOX_ALL {
         return read_type(s, b, depth, left);
     }
-    if code == 2 {
+    if code == BOX_DEF {
         return read_def(s, at, b, depth, left);
     }
     Answer::Refused {

@@ -10,9 +10,10 @@ use lib.Seq.{sets, sets-eq, take-suc, take-length, getD-take, length-take-le, pa
 use Rattle.format.specs.Suffices.{length-writeDims}
 use lib.Dec.{eqb}
 use borrow.Author.Tests.{eqb-true}
+use Rattle.model.specs.Limits.{ones}
 use Rattle.model.specs.Types.{Dim, static, unknown}
 use Rattle.format.specs.Reader.{bytesOf}
-use Rattle.format.specs.Records.{ones, dimNumber, dimOf, writeDims}
+use Rattle.format.specs.Records.{dimNumber, dimOf, writeDims}
 use Rattle.lent.specs.Over.{over, over-over}
 
 pub eight-stores : (out : List ℕ) (at a b c d e f g h : ℕ) → at + 8 ≤ length out → set (set (set (set (set (set (set (set out at a) (at + 1) b) (at + 2) c) (at + 3) d) (at + 4) e) (at + 5) f) (at + 6) g) (at + 7) h ≡ over out at (a ∷ b ∷ c ∷ d ∷ e ∷ f ∷ g ∷ h ∷ [])

@@ -1,11 +1,11 @@
 // Writing records: a shape by value, and the shape and the scalar of a whole type.
 use lent::Written;
+use limits::ABSENT;
 use record::Answer;
 use record::Dims;
 use record::DynShape;
 use record::Lone;
-use record::limits::ABSENT;
-use record::refusal::TOO_SHORT;
+use limits::refusal::TOO_SHORT;
 ghost use mathlib.Core.Path.{_≡_};
 ghost use Prim.Native.Nat.{_+_, _*_, _≤_};
 ghost use lib.ListN.{length};

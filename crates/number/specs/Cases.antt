@@ -1,0 +1,106 @@
+-- Worked cases of document 01: (f) and (g), its examples of refusals 4 and 13, and corners of the rules on numbers. Each holds by
+-- computation. `fin s m e` is the number m * 2 ^ e, negative where s is true.
+use mathlib.Core.Path.{_≡_, refl}
+use mathlib.Core.Bool.{true, false}
+use mathlib.Core.List.{List, [], _∷_}
+use lib.IntN.{pos, negsuc}
+use lib.Ieee.{Float, nan, inf, fin, lt}
+use Rattle.model.specs.Limits.{maxSize, ones}
+use Rattle.model.specs.Refusals.{outOfRange, oversized, notASize}
+use Rattle.number.specs.Size.{size, unknown, refused, asDim, listedDim}
+use Rattle.number.specs.Sizes.{sizes, refusedAt, sizesFrom, listedDims}
+use Rattle.number.specs.Kind.{bool, nat, int, num, kindOf}
+
+abbrev zero : Float
+zero = fin false 0 (pos 0)
+
+abbrev minusZero : Float
+minusZero = fin true 0 (pos 0)
+
+abbrev half : Float
+half = fin false 1 (negsuc 0)
+
+abbrev one : Float
+one = fin false 1 (pos 0)
+
+abbrev minusOne : Float
+minusOne = fin true 1 (pos 0)
+
+abbrev two : Float
+two = fin false 1 (pos 1)
+
+-- 2^53, and the next number above it
+abbrev limit : Float
+limit = fin false 1 (pos 53)
+
+abbrev pastLimit : Float
+pastLimit = fin false 4503599627370497 (pos 1)
+
+-- 2^60 and -2^60
+abbrev huge : Float
+huge = fin false 1 (pos 60)
+
+abbrev minusHuge : Float
+minusHuge = fin true 1 (pos 60)
+
+abbrev infinity : Float
+infinity = inf false
+
+abbrev minusInfinity : Float
+minusInfinity = inf true
+
+abbrev eightOnes : List Float
+eightOnes = one ∷ one ∷ one ∷ one ∷ one ∷ one ∷ one ∷ one ∷ []
+
+-- ---- kinds
+
+pub case-f : (kindOf (one ∷ zero ∷ minusZero ∷ []) ≡ bool) × (kindOf (minusOne ∷ two ∷ []) ≡ int) × (kindOf (infinity ∷ []) ≡ num)
+unfolding lt
+case-f = (refl, refl, refl)
+
+pub kind-empty : kindOf [] ≡ bool
+kind-empty = refl
+
+-- too large for a size, and whole all the same
+pub kind-huge : (kindOf (huge ∷ []) ≡ nat) × (kindOf (minusHuge ∷ []) ≡ int)
+unfolding lt
+kind-huge = (refl, refl)
+
+-- one fraction or NaN outweighs every other number, wherever it stands
+pub kind-mixed : (kindOf (minusOne ∷ two ∷ half ∷ []) ≡ num) × (kindOf (nan ∷ minusOne ∷ []) ≡ num)
+unfolding lt
+kind-mixed = (refl, refl)
+
+-- ---- a number as a size
+
+pub case-g : (asDim minusInfinity ≡ unknown) × (listedDim minusInfinity ≡ refused notASize) × (listedDims (minusInfinity ∷ []) ≡ refusedAt notASize 0)
+unfolding sizesFrom
+case-g = (refl, refl, refl)
+
+pub infinity-unknown : (asDim infinity ≡ unknown) × (listedDim infinity ≡ unknown)
+infinity-unknown = (refl, refl)
+
+pub refusal-4 : (asDim huge ≡ refused oversized) × (asDim pastLimit ≡ refused oversized)
+refusal-4 = (refl, refl)
+
+pub refusal-13 : (asDim half ≡ refused notASize) × (asDim nan ≡ refused notASize) × (asDim minusOne ≡ refused notASize) × (asDim minusHuge ≡ refused notASize)
+refusal-13 = (refl, refl, refl, refl)
+
+pub size-ends : (asDim zero ≡ size 0) × (asDim minusZero ≡ size 0) × (asDim limit ≡ size maxSize)
+size-ends = (refl, refl, refl)
+
+-- ---- a list of sizes
+
+pub listed-sizes : (listedDims [] ≡ sizes []) × (listedDims (two ∷ infinity ∷ minusZero ∷ []) ≡ sizes (2 ∷ ones ∷ 0 ∷ []))
+unfolding sizesFrom
+listed-sizes = (refl, refl)
+
+-- the first bad index, whatever stands after it
+pub listed-first : listedDims (two ∷ huge ∷ half ∷ []) ≡ refusedAt oversized 1
+unfolding sizesFrom
+listed-first = refl
+
+-- eight numbers are a shape, and nine are too many before any of them is looked at
+pub listed-count : (listedDims eightOnes ≡ sizes (1 ∷ 1 ∷ 1 ∷ 1 ∷ 1 ∷ 1 ∷ 1 ∷ 1 ∷ [])) × (listedDims (nan ∷ eightOnes) ≡ refusedAt outOfRange 0)
+unfolding sizesFrom
+listed-count = (refl, refl)

@@ -1,0 +1,6 @@
+pub mod Class
+pub mod Size
+pub mod Sizes
+pub mod Kind
+pub mod Cases
+pub mod Answers

@@ -10,7 +10,6 @@ pub use shape::read_shape;
 pub use types::read_lone;
 pub use types::read_type;
 
-
 // A value with the place after it, or a refusal's number and place.
 pub enum Answer {
     Got { value: u64, next: usize },

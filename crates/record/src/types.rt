@@ -7,6 +7,7 @@ use crate::bytes::read_count;
 use crate::bytes::read_mark;
 use crate::bytes::read_name;
 use crate::bytes::read_optional;
+use crate::shape::read_shape;
 use limits::ABSENT;
 use limits::ANY;
 use limits::BOX;
@@ -20,7 +21,6 @@ use limits::MAX_TYPES;
 use limits::refusal::OUT_OF_RANGE;
 use limits::refusal::TOO_MANY;
 use limits::refusal::TRAILING;
-use crate::shape::read_shape;
 ghost use mathlib.Core.Path.{_≡_};
 ghost use Prim.Native.Nat.{_-_};
 ghost use Rattle.model.specs.Types.{types, inside, among};
@@ -62,7 +62,11 @@ fn read_scalar(s: &[u8], at: usize, depth: u64, left: u64) -> Answer
         return mark;
     };
     let kind = read_byte(s, at, a);
-    let Answer::Got { value: code, next: b } = kind else {
+    let Answer::Got {
+        value: code,
+        next: b,
+    } = kind
+    else {
         return kind;
     };
     if code == BOX {
@@ -88,7 +92,11 @@ fn read_box(s: &[u8], at: usize, depth: u64, left: u64) -> Answer
         return mark;
     };
     let form = read_byte(s, at, a);
-    let Answer::Got { value: code, next: b } = form else {
+    let Answer::Got {
+        value: code,
+        next: b,
+    } = form
+    else {
         return form;
     };
     if code == BOX_ANY {
@@ -131,7 +139,11 @@ fn read_def(s: &[u8], place: usize, at: usize, depth: u64, left: u64) -> Answer
         return name;
     };
     let fields = read_count(s, place, b, MAX_FIELDS);
-    let Answer::Got { value: count, next: c } = fields else {
+    let Answer::Got {
+        value: count,
+        next: c,
+    } = fields
+    else {
         return fields;
     };
     read_fields(s, c, depth, left, count)

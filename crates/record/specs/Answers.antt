@@ -25,6 +25,9 @@ answerOf (Refused k p) = stopped k p
 abbrev pub nothing : {A : Type 0} → A → ℕ
 nothing a = 0
 
+abbrev pub nothings : {A B : Type 0} → A → B → Outcome ℕ
+nothings a b = accepted 0
+
 -- eight bytes from a place on, low byte first
 abbrev pub eightBytes : List ℕ → ℕ → ℕ
 eightBytes s at =

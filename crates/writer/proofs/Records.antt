@@ -8,17 +8,12 @@ use mathlib.Core.Option.{Option, none, some}
 use mathlib.Core.Path.{_≡_, refl, sym, _∙_, ap}
 use lib.ListN.{length, set, take, drop, length-append, length-drop}
 use lib.Seq.{sets, sets-eq, take-length}
-use Rattle.model.specs.Types.{Dim, Shape, shape, Scalar, Ty, ty}
-use Rattle.format.specs.Reader.{Read, got, stopped}
-use Rattle.format.specs.ReaderLaws.{Bytes}
-use Rattle.format.specs.Records.{shapeMark, markBytes, absent, countOf, listOf, writeDims, writeShape, writeScalar, writeTy, readShape}
+use Rattle.model.specs.Types.{Dim, Shape, shape, Ty, ty, shapeOf}
+use Rattle.format.specs.Records.{shapeMark, markBytes, absent, countOf, listOf, writeDims, writeShape}
 use Rattle.format.specs.Suffices.{length-writeDims}
-use Rattle.format.specs.Outcome.{Outcome, accepted, refused, mapped, lone, shapeRecord, scalarRecord}
-use Rattle.format.specs.ReadWrite.{lone-parts, lone-write}
+use Rattle.format.specs.Outcome.{Outcome, accepted, refused, mapped, shapeRecord}
 use Rattle.lent.specs.Over.{over, over-over, length-over}
-use Rattle.record.specs.Answers.{dimsOf, closingFor, shapeFor, beside, nothing}
-use Rattle.record.specs.declared.Answer.{Answer}
-use Rattle.record.specs.declared.Answer.the-variants.{Got, Refused}
+use Rattle.record.specs.Answers.{dimsOf, closingFor, shapeFor}
 use Rattle.record.specs.declared.DynShape.{DynShape}
 
 abbrev head : ℕ → ℕ → List ℕ
@@ -69,40 +64,9 @@ module _ (out : List ℕ) (at : ℕ) (o : List Dim) (c : Option (List Dim)) (fit
 -- ---- the parts of a lone type
 
 -- the rest of a list, as a part of a slice has it
-pub rest-is : (s : List ℕ) {n m : ℕ} → n ≡ m → take (length s - n) (drop n s) ≡ drop m s
-rest-is s {n} {m} e = rw (← e) (ap (λ k. take k (drop n s)) (sym (length-drop n s)) ∙ take-length (drop n s))
+pub rest-is : (s : List ℕ) (n : ℕ) → take (length s - n) (drop n s) ≡ drop n s
+rest-is s n = ap (λ k. take k (drop n s)) (sym (length-drop n s)) ∙ take-length (drop n s)
 
-beside-got : {A : Type 0} (r : Answer) (a : A) {b : A} {n : ℕ} → beside r a ≡ got b n → a ≡ b
-beside-got (Got v m) a e = cc
-beside-got (Refused k p) a e = let z : _≡_ {A = ℕ} 0 1 = cc in absurd (omega arith)
-
-module _ (s : List ℕ) (small : Bytes s) where
-  -- what a lone type is, once it is accepted
-  found : {C : Type 0} → mapped nothing (lone s) ≡ accepted 0 → ((t : Shape) (k : Scalar) → lone s ≡ accepted (ty t k) → C) → C
-  found {C} e f = go (lone s) refl e
-    where
-      go : (o : Outcome Ty) → lone s ≡ o → mapped nothing o ≡ accepted 0 → C
-      go (accepted (ty t k)) h e = f t k h
-      go (refused j p) h e = let z : _≡_ {A = ℕ} 0 1 = cc in absurd (omega arith)
-
-  pub part-refused : {A : Type 0} (g : Ty → A) {k p : ℕ} → mapped nothing (lone s) ≡ refused k p → mapped g (lone s) ≡ refused k p
-  part-refused g {k} {p} e = go (lone s) e
-    where
-      go : (o : Outcome Ty) → mapped nothing o ≡ refused k p → mapped g o ≡ refused k p
-      go (accepted t) e = let z : _≡_ {A = ℕ} 0 1 = cc in absurd (omega arith)
-      go (refused j q) e = let x : j ≡ k = cc in let y : q ≡ p = cc in rw (x, y)
-
-  module _ (accepts : mapped nothing (lone s) ≡ accepted 0) (r : Answer) (d : DynShape) (read : beside r (shapeFor d) ≡ readShape s 0) where
-    pub part-shape : mapped shapeRecord (lone s) ≡ accepted (writeShape (shapeFor d))
-    part-shape = found accepts λ t k e. rw e (ap (λ x. accepted (writeShape x)) (sym (beside-got r (shapeFor d) (read ∙ lone-parts s small t k e .0))))
-
-    pub part-scalar : mapped scalarRecord (lone s) ≡ accepted (drop (length (writeShape (shapeFor d))) s)
-    part-scalar = found accepts λ t k e.
-        let same : shapeFor d ≡ t = beside-got r (shapeFor d) (read ∙ lone-parts s small t k e .0) in
-        rw (e, same, lone-parts s small t k e .1)
-
-    pub shape-inside : length (writeShape (shapeFor d)) ≤ length s
-    unfolding writeTy
-    shape-inside = found accepts λ t k e.
-        let same : shapeFor d ≡ t = beside-got r (shapeFor d) (read ∙ lone-parts s small t k e .0) in
-        rw same (omega (arith, length-append (writeShape t) (writeScalar k), ap length (lone-write s small (ty t k) e .0)))
+pub shape-record-is : (o : Outcome Ty) {s : Shape} → mapped shapeOf o ≡ accepted s → mapped shapeRecord o ≡ accepted (writeShape s)
+shape-record-is (accepted (ty t k)) {s} e = let x : t ≡ s = cc in rw x
+shape-record-is (refused k p) e = let z : _≡_ {A = ℕ} 0 1 = cc in absurd (omega arith)

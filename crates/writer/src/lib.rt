@@ -6,8 +6,9 @@ use limits::refusal::TOO_SHORT;
 use record::Dims;
 use record::DynShape;
 use record::Lone;
+use record::lone_scalar;
+use record::lone_shape;
 use record::read_lone;
-use record::read_shape;
 ghost use mathlib.Core.Path.{_≡_};
 ghost use mathlib.Core.List.{[], _∷_, _++_};
 ghost use Prim.Native.Nat.{_+_, _*_, _≤_};
@@ -137,12 +138,10 @@ pub fn shape_record(ty: &[u8], result: &mut [u8]) -> Written
     if let Lone::Refused { number, place } = answer {
         return Written::Refused { number, place };
     }
-    let read = read_shape(ty, 0);
-    let shape = read.shape;
-    write_shape(shape, &mut *result)
+    write_shape(lone_shape(ty), &mut *result)
 }
 
-// The record of a type's scalar, which stands after its shape's.
+// The record of a type's scalar.
 pub fn scalar_record(ty: &[u8], result: &mut [u8]) -> Written
     ensures { λ r. ⌜ delivered r (now (result .exit)) ≡ deliver (mapped scalarRecord (lone (now (ty .entry)))) (now (result .entry)) ⌝ }
 {
@@ -150,8 +149,6 @@ pub fn scalar_record(ty: &[u8], result: &mut [u8]) -> Written
     if let Lone::Refused { number, place } = answer {
         return Written::Refused { number, place };
     }
-    let read = read_shape(ty, 0);
-    let shape = read.shape;
-    let start = shape_length(shape);
+    let start = lone_scalar(ty);
     hand_over(&ty[start..], &mut *result)
 }

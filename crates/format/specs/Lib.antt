@@ -5,3 +5,4 @@ pub mod ReaderLaws
 pub mod WriteRead
 pub mod ReadWrite
 pub mod Suffices
+pub mod Views

@@ -4,6 +4,7 @@ pub mod Pervade
 pub mod Order
 pub mod Scalars
 pub mod Types
+pub mod Views
 pub mod Cases
 pub mod Lists
 pub mod SizesLaws

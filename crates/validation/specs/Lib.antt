@@ -4,3 +4,6 @@ pub mod CheckScalar
 pub mod Validate
 pub mod Cases
 pub mod Examples
+pub mod OutcomeLaws
+pub mod CheckShapeLaws
+pub mod ValidateLaws

@@ -51,7 +51,7 @@ equalDims-refl (d ∷ o) = rw (equalDim-refl d, equalDims-refl o)
 
 pub checkShape-accepted {κ} : {C : Type κ} (side : Side) (s t : Shape) {u : Shape} → checkShape side s t ≡ accepted u → (shapeMismatch side s t ≡ false → mergeFrom t (sidedShape side s) ≡ u → C) → C
 unfolding checkShape
-checkShape-accepted side s t e k = failed (shapeMismatch side s t) _ _ _ e k
+checkShape-accepted side s t e k = failed (shapeMismatch side s t) _ wrongShape 0 e λ h w. k h cc
 
 pub checkShape-match : (side : Side) (s t : Shape) → shapeMismatch side s t ≡ false → checkShape side s t ≡ accepted (mergeFrom t (sidedShape side s))
 unfolding checkShape

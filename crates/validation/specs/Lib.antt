@@ -7,3 +7,4 @@ pub mod Examples
 pub mod OutcomeLaws
 pub mod CheckShapeLaws
 pub mod ValidateLaws
+pub mod RecordsLaws

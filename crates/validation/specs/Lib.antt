@@ -8,3 +8,4 @@ pub mod OutcomeLaws
 pub mod CheckShapeLaws
 pub mod ValidateLaws
 pub mod RecordsLaws
+pub mod KeepsLaws

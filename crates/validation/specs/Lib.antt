@@ -6,6 +6,6 @@ pub mod Cases
 pub mod Examples
 pub mod OutcomeLaws
 pub mod CheckShapeLaws
-pub mod ValidateLaws
 pub mod RecordsLaws
 pub mod KeepsLaws
+pub mod ValidateLaws

@@ -5,7 +5,7 @@ use mathlib.Core.List.{List, [], _∷_, _++_, map}
 use mathlib.Core.Option.{some}
 use mathlib.Core.Path.{_≡_, refl}
 use Rattle.model.specs.Refusals.{wrongScalar, wrongShape}
-use Rattle.model.specs.Types.{Dim, static, unknown, Shape, shape, Kind, int, num, any, plain, Ty, ty}
+use Rattle.model.specs.Types.{Dim, static, unknown, Shape, shape, Kind, int, num, any, plain, Ty, ty, inside, below}
 use Rattle.model.specs.Within.{All}
 use Rattle.format.specs.Records.{code}
 use Rattle.format.specs.Outcome.{Outcome, accepted, refused}
@@ -16,6 +16,7 @@ use Rattle.rules.specs.Scalars.{supersetCodes, supersetOf}
 use Rattle.rules.specs.Types.{whollyAny}
 use Rattle.rules.specs.Cases.{Case as RuleCase, Holds as RuleHolds, closed, cases as ruleCases, cases-hold as ruleCases-hold}
 use Rattle.validation.specs.CheckShape.{Side, unsided, right, agree, equalDim, equalDims, mismatch, shapeMismatch, sidedShape, checkShape}
+use Rattle.validation.specs.AsFields.{keepsLimits}
 use Rattle.validation.specs.CheckScalar.{checkScalar}
 use Rattle.validation.specs.Validate.{validate}
 
@@ -63,5 +64,5 @@ with-rules [] ds h k = k
 with-rules (c ∷ cs) ds h k = (h .0, with-rules cs ds (h .1) k)
 
 pub cases-hold : All Holds cases
-unfolding cases cmpDim larger compatible isAny rank mergeDims mergeClosing mergeFrom code codeOf supersetCodes supersetOf whollyAny agree equalDim equalDims mismatch shapeMismatch sidedShape checkShape checkScalar validate
+unfolding cases inside below cmpDim larger compatible isAny rank mergeDims mergeClosing mergeFrom code codeOf supersetCodes supersetOf whollyAny agree equalDim equalDims mismatch shapeMismatch sidedShape checkShape keepsLimits checkScalar validate
 cases-hold = with-rules ruleCases _ ruleCases-hold (refl, (refl, (refl, (refl, tt))))

@@ -9,3 +9,5 @@ pub mod CheckShapeLaws
 pub mod RecordsLaws
 pub mod KeepsLaws
 pub mod ValidateLaws
+pub mod FitsLaws
+pub mod CheckScalarSteps

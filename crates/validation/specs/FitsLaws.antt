@@ -17,7 +17,7 @@ use Rattle.validation.specs.CheckShape.{unsided, checkShape}
 use Rattle.validation.specs.AsFields.{keepsLimits, measured, copied}
 use Rattle.validation.specs.CheckScalar.{_>>=_, inTurn, Content}
 use Rattle.validation.specs.Validate.{outermost}
-use Rattle.validation.specs.OutcomeLaws.{inTurn-accepted}
+use Rattle.validation.specs.OutcomeLaws.{both-true}
 use Rattle.validation.specs.KeepsLaws.{Counts, Keeping}
 
 -- ---- the two numbers
@@ -33,10 +33,6 @@ fieldsFit others above f = leb (others + among f) maxTypes && leb (above + deepe
 pub fits-counts : (o a : ℕ) → Counts (fits o a)
 unfolding fits
 fits-counts o a x y h j = rw (h, j)
-
-both-true : (a b : Bool) → (a && b) ≡ true → (a ≡ true) × (b ≡ true)
-both-true true b h = (refl, h)
-both-true false b h = (cc, cc)
 
 pub fits-true : (o a : ℕ) (k : Scalar) → fits o a k ≡ true → (o + suc (inside k) ≤ maxTypes) × (a + suc (below k) ≤ maxDepth)
 unfolding fits

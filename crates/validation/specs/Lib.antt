@@ -11,3 +11,4 @@ pub mod KeepsLaws
 pub mod ValidateLaws
 pub mod FitsLaws
 pub mod CheckScalarSteps
+pub mod CheckShapeSteps

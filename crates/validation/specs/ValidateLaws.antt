@@ -14,7 +14,7 @@ use Rattle.validation.specs.CheckShape.{Side, unsided, shapeMismatch, si
 use Rattle.validation.specs.AsFields.{keepsLimits}
 use Rattle.validation.specs.CheckScalar.{checkScalar}
 use Rattle.validation.specs.Validate.{outermost, validate, checkScalarOnly, checkShapeOnly}
-use Rattle.validation.specs.OutcomeLaws.{mapped-accepted, inTurn-accepted}
+use Rattle.validation.specs.OutcomeLaws.{both-true, mapped-accepted, inTurn-accepted}
 use Rattle.validation.specs.CheckShapeLaws.{checkShape-accepted, checkShape-within}
 use Rattle.validation.specs.RecordsLaws.{checkScalar-records}
 use Rattle.validation.specs.KeepsLaws.{Counts, checkScalar-keeps}
@@ -43,11 +43,6 @@ unfolding sidedShape
 validate-shape s t u e = validate-merged unsided s t u e
 
 -- ---- the limits
-
--- both halves of a test
-pub both-true : (a b : Bool) → (a && b) ≡ true → (a ≡ true) × (b ≡ true)
-both-true true b h = (refl, h)
-both-true false b h = (cc, cc)
 
 pub keepsLimits-true : (t : Ty) → keepsLimits t ≡ true → (types t ≤ maxTypes) × (depth t ≤ maxDepth)
 unfolding keepsLimits

@@ -12,3 +12,4 @@ pub mod ValidateLaws
 pub mod FitsLaws
 pub mod CheckScalarSteps
 pub mod CheckShapeSteps
+pub mod LimitsLaws

@@ -5,7 +5,7 @@ use mathlib.Core.List.{List, [], _∷_, _++_, map}
 use mathlib.Core.Option.{some}
 use mathlib.Core.Path.{_≡_, refl}
 use Rattle.model.specs.Refusals.{wrongScalar, wrongShape}
-use Rattle.model.specs.Types.{Dim, static, unknown, Shape, shape, Kind, int, num, any, plain, Ty, ty, inside, below}
+use Rattle.model.specs.Types.{static, unknown, Shape, shape, Kind, int, num, any, plain, Ty, ty, inside, below}
 use Rattle.model.specs.Within.{All}
 use Rattle.format.specs.Records.{code}
 use Rattle.format.specs.Outcome.{Outcome, accepted, refused}

@@ -3,7 +3,7 @@
 use Prim.Native.Nat.{ℕ, zero, suc, _+_, _*_, _≤_, _<_}
 use native.Mathlib.Nat.{zero-mul, suc-mul}
 use native.Mathlib.Omega.{arith}
-use mathlib.Core.Bool.{Bool, true, false, _&&_, and-false, cond}
+use mathlib.Core.Bool.{Bool, true, false, cond}
 use mathlib.Core.List.{List}
 use mathlib.Core.Option.{Option, some}
 use mathlib.Core.Path.{_≡_, refl, sym, ap}
@@ -11,16 +11,13 @@ use lib.Dec.{leb}
 use borrow.Author.Tests.{leb-false, lt-leb}
 use Rattle.model.specs.Limits.{maxTypes, maxDepth, maxFields}
 use Rattle.model.specs.Refusals.{tooMany}
-use Rattle.model.specs.Types.{Shape, Scalar, plain, boxAny, boxAll, boxDef, Fields, noFields, field, Ty, ty, boxOf, fieldOf, fieldCount, types, depth, inside, among, below, deepest}
-use Rattle.format.specs.Records.{code}
+use Rattle.model.specs.Types.{Shape, Scalar, plain, boxAny, boxAll, boxDef, Fields, field, Ty, ty, boxOf, fieldOf, fieldCount, types, depth, inside, among, below, deepest}
 use Rattle.format.specs.Outcome.{Outcome, accepted, refused, mapped}
-use Rattle.rules.specs.Shapes.{isAny}
-use Rattle.rules.specs.Order.{codeOf}
 use Rattle.rules.specs.Types.{whollyAny, copies}
 use Rattle.validation.specs.CheckShape.{Side, unsided, checkShape}
 use Rattle.validation.specs.AsFields.{measured, copied, asFields}
 use Rattle.validation.specs.CheckScalar.{_>>=_, inTurn, superset, Content, eachField, onAll, onDef, checkScalar, checkFields}
-use Rattle.validation.specs.Validate.{outermost, validate, checkScalarOnly}
+use Rattle.validation.specs.Validate.{validate, checkScalarOnly}
 use Rattle.validation.specs.OutcomeLaws.{inTurn-accepted}
 use Rattle.validation.specs.KeepsLaws.{Keeping, checkScalar-keeps}
 use Rattle.validation.specs.FitsLaws.{fits, fieldsFit, fits-counts, fits-true, fieldsFit-true, fieldsFit-of, outermost-fits, all-fits, def-fits, field-fits, rest-fits}

@@ -1,9 +1,8 @@
 -- `check_shape` (document 01, "mod.rs"): a spec's shape on a type's, without a side or for one. Opening sizes are compared from the
 -- front, for the right side from the end; [..] on either side excuses a mismatch; what is not refused is merged.
-use Prim.Native.Nat.{ℕ}
 use mathlib.Core.Bool.{Bool, true, false, _&&_, _||_, not, cond}
 use mathlib.Core.List.{List, [], _∷_, _++_, reverse}
-use mathlib.Core.Option.{Option, none, some}
+use mathlib.Core.Option.{none, some}
 use lib.ListN.{length}
 use lib.Dec.{eqb, ltb}
 use Rattle.model.specs.Refusals.{wrongShape}

@@ -5,9 +5,8 @@ use native.Mathlib.Omega.{arith}
 use mathlib.Core.Bool.{Bool, true, false, _&&_, _||_, not, and-assoc}
 use mathlib.Core.List.{List, [], _∷_, _++_, reverse}
 use mathlib.Core.Option.{some}
-use mathlib.Core.Path.{_≡_, refl, sym, _∙_, ap}
+use mathlib.Core.Path.{_≡_, refl, sym, ap}
 use lib.ListN.{length, take, drop, getD, length-append, length-reverse, drop-of-length-le}
-use lib.Seq.{drop-nil}
 use lib.Dec.{ltb}
 use borrow.Author.Tests.{ltb-true}
 use Rattle.model.specs.Types.{Dim, shape}
@@ -83,6 +82,7 @@ open-in-parts o p d = go (ltb (length o) (length p + length d)) refl
     short : (t : Bool) → equalDims (p ++ d) o ≡ t → length o < length p + length d → not t ≡ true
     short true e h = let q : length (p ++ d) ≡ length o = ap length (equalDims-true (p ++ d) o e) in absurd (omega (arith, length-append p d))
     short false e h = refl
+
     go : (t : Bool) → ltb (length o) (length p + length d) ≡ t → not (equalDims (p ++ d) o) ≡ (t || (not (equalDims p (take (length p) o)) || not (equalDims d (drop (length p) o))))
     go true h = short (equalDims (p ++ d) o) refl (ltb-true (length o) (length p + length d) h)
     go false h = rw (equal-parts p d o) (not-both (equalDims p (take (length p) o)) (equalDims d (drop (length p) o)))

@@ -1,24 +1,19 @@
 -- The measure of the outermost type by two numbers, as a walk keeps them: how many types stand elsewhere in it, as changed so far, and
 -- how deep the place is. Each law says what the two numbers become where the rules go into a box or on to the next field.
-use Prim.Native.Nat.{ℕ, suc, _+_, _≤_, _<_, max}
+use Prim.Native.Nat.{ℕ, suc, _+_, _≤_, max}
 use native.Mathlib.Omega.{arith}
-use mathlib.Core.Bool.{Bool, true, false, _&&_, cond}
+use mathlib.Core.Bool.{Bool, true, false, _&&_}
 use mathlib.Core.List.{List}
-use mathlib.Core.Option.{Option, some}
-use mathlib.Core.Path.{_≡_, refl, sym, _∙_, ap, ap₂, fun-ext}
+use mathlib.Core.Option.{Option}
+use mathlib.Core.Path.{_≡_, refl, fun-ext}
 use lib.Dec.{leb}
 use borrow.Author.Tests.{leb-true, leb-false, le-leb, lt-leb}
-use Rattle.model.specs.Limits.{maxTypes, maxDepth, maxFields}
-use Rattle.model.specs.Refusals.{tooMany}
-use Rattle.model.specs.Types.{Shape, Scalar, boxAll, boxDef, Fields, noFields, field, Ty, ty, fieldOf, types, depth, inside, among, below, deepest}
-use Rattle.format.specs.Outcome.{Outcome, accepted, refused}
-use Rattle.rules.specs.Types.{copies}
-use Rattle.validation.specs.CheckShape.{unsided, checkShape}
-use Rattle.validation.specs.AsFields.{keepsLimits, measured, copied}
-use Rattle.validation.specs.CheckScalar.{_>>=_, inTurn, Content}
+use Rattle.model.specs.Limits.{maxTypes, maxDepth}
+use Rattle.model.specs.Types.{Shape, Scalar, boxAll, boxDef, Fields, field, inside, among, below, deepest}
+use Rattle.validation.specs.AsFields.{keepsLimits}
 use Rattle.validation.specs.Validate.{outermost}
 use Rattle.validation.specs.OutcomeLaws.{both-true}
-use Rattle.validation.specs.KeepsLaws.{Counts, Keeping}
+use Rattle.validation.specs.KeepsLaws.{Counts}
 
 -- ---- the two numbers
 

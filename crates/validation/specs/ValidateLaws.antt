@@ -1,14 +1,14 @@
 -- Laws about validation on whole types: the shape of what is accepted; that it keeps to the limits, so that what validation writes
 -- can be read and 4,992 bytes suffice for it; and which refusals there are.
 use Prim.Native.Nat.{_≤_}
-use mathlib.Core.Bool.{Bool, true, false, _&&_}
-use mathlib.Core.Path.{_≡_, refl, sym}
+use mathlib.Core.Bool.{true, false}
+use mathlib.Core.Path.{_≡_, sym}
 use lib.Dec.{leb}
 use borrow.Author.Tests.{le-leb, leb-true}
 use Rattle.model.specs.Limits.{maxTypes, maxDepth}
-use Rattle.model.specs.Types.{Shape, Scalar, inside, below, Ty, ty, shapeOf, scalarOf, types, depth}
+use Rattle.model.specs.Types.{Shape, Scalar, Ty, ty, shapeOf, types, depth}
 use Rattle.model.specs.Within.{Within}
-use Rattle.format.specs.Outcome.{Outcome, accepted, refused}
+use Rattle.format.specs.Outcome.{accepted}
 use Rattle.rules.specs.Shapes.{mergeFrom}
 use Rattle.validation.specs.CheckShape.{Side, unsided, shapeMismatch, sidedShape, checkShape}
 use Rattle.validation.specs.AsFields.{keepsLimits}

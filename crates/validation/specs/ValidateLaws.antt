@@ -1,14 +1,18 @@
 -- Laws about validation on whole types: the shape of what is accepted; that it keeps to the limits, so that what validation writes
--- can be read and 4,992 bytes suffice for it; and which refusals there are.
+-- can be read and 4,992 bytes suffice for it.
 use Prim.Native.Nat.{_≤_}
-use mathlib.Core.Bool.{true, false}
-use mathlib.Core.Path.{_≡_, sym}
+use mathlib.Core.Bool.{true, false, false≢true}
+use mathlib.Core.Path.{_≡_, sym, _∙_}
+use lib.ListN.{length}
 use lib.Dec.{leb}
 use borrow.Author.Tests.{le-leb, leb-true}
-use Rattle.model.specs.Limits.{maxTypes, maxDepth}
+use Rattle.model.specs.Limits.{maxTypes, maxDepth, maxBytes}
 use Rattle.model.specs.Types.{Shape, Scalar, Ty, ty, shapeOf, types, depth}
 use Rattle.model.specs.Within.{Within}
-use Rattle.format.specs.Outcome.{accepted}
+use Rattle.format.specs.Records.{writeTy}
+use Rattle.format.specs.Outcome.{accepted, lone}
+use Rattle.format.specs.WriteRead.{write-lone}
+use Rattle.format.specs.Suffices.{suffices}
 use Rattle.rules.specs.Shapes.{mergeFrom}
 use Rattle.validation.specs.CheckShape.{Side, unsided, shapeMismatch, sidedShape, checkShape}
 use Rattle.validation.specs.AsFields.{keepsLimits}
@@ -36,6 +40,9 @@ validate-match side (ty s k) (ty t l) u e =
     inTurn-accepted (checkScalar k (outermost t) t l) (checkShape side s t) e λ x v e₁ e₂ w.
     checkShape-accepted side s t e₂ λ m y.
     m
+
+pub validate-mismatch : (side : Side) (s t u : Ty) → shapeMismatch side (shapeOf s) (shapeOf t) ≡ true → validate side s t ≡ accepted u → ⊥
+validate-mismatch side s t u h e = false≢true (sym (validate-match side s t u e) ∙ h)
 
 -- Without a side, the spec's shape itself is merged.
 pub validate-shape : (s t u : Ty) → validate unsided s t ≡ accepted u → shapeOf u ≡ mergeFrom (shapeOf t) (shapeOf s)
@@ -94,3 +101,9 @@ validate-within side (ty s k) (ty t l) u v w e =
       few = h .few;
       shallow = h .shallow;
     }
+
+-- ---- the bytes
+
+-- What validation writes can be read, and 4,992 bytes suffice for it.
+pub validate-written : (side : Side) (s t u : Ty) → Within s → Within t → validate side s t ≡ accepted u → (lone (writeTy u) ≡ accepted u) × (length (writeTy u) ≤ maxBytes)
+validate-written side s t u v w e = let h = validate-within side s t u v w e in (write-lone u h, suffices u h)

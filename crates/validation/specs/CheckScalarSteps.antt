@@ -72,6 +72,13 @@ pub on-def-def : (o a : ℕ) (n m : Option (List ℕ)) (f g : Fields) → onDef 
 unfolding onDef
 on-def-def o a n m f g = ap (λ c. mapped (boxDef m) (checkFields f c g)) (def-fits o a m)
 
+-- the limits are kept when a box's content is begun
+pub all-begun : (o a : ℕ) (t : Shape) (l : Scalar) → fits o a (boxAll t l) ≡ true → fits (suc o) (suc a) l ≡ true
+all-begun o a t l h = rw (ap (λ c. c l) (all-fits o a t)) at h
+
+pub def-begun : (o a : ℕ) (m : Option (List ℕ)) (g : Fields) → fits o a (boxDef m g) ≡ true → fieldsFit (suc o) (suc a) g ≡ true
+def-begun o a m g h = rw (ap (λ c. c g) (def-fits o a m)) at h
+
 -- ---- from field to field
 
 -- the limits are kept when a field is begun, and after it
@@ -88,6 +95,9 @@ field-done o a t l x g h j =
     let r = fieldsFit-true o a (field t l g) h in
     let q = fits-true (o + among g) a x j in
     fieldsFit-of (o + suc (inside x)) a g (omega (arith, q .0)) (omega (arith, r .1))
+
+pub field-next : (o a : ℕ) (k : Scalar) (t : Shape) (l x : Scalar) (g : Fields) → fieldsFit o a (field t l g) ≡ true → checkScalar k (fits (o + among g) a) t l ≡ accepted x → fieldsFit (o + suc (inside x)) a g ≡ true
+field-next o a k t l x g h e = field-done o a t l x g h (checkScalar-keeps k (fits (o + among g) a) (fits-counts (o + among g) a) t l x (field-begun o a t l g h) e)
 
 -- whatever validates the field, and the fields after it
 module _ (content : Content) (keeping : Keeping content) (q : Outcome Shape) (rest : (Fields → Bool) → Outcome Fields) where

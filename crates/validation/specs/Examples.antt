@@ -65,7 +65,8 @@ examples =
     ∷ theValidation left (def (of num (sized 2) ∷ [])) (def (of num (statics (2 ∷ 3 ∷ [])) ∷ [])) (refused wrongShape 0)
     -- 1 is not special.
     ∷ theShapeCheck unsided (sized 1) (sized 3) (refused wrongShape 0)
-    -- An open type passes if its sizes, one list after the other, are the spec's, ? only with ?. [..] opens, and [..] is closed.
+    -- An open type passes if its sizes, one list after the other, are the spec's, ? only with ?. A spec [..] opens the type; a type [..]
+    -- is closed by a closed spec.
     ∷ theShapeCheck unsided (shape (unknown ∷ []) (some [])) (starting (2 ∷ [])) (refused wrongShape 0)
     ∷ theShapeCheck unsided (sized 2) (ending (static 2 ∷ [])) (accepted (shape (static 2 ∷ []) (some (static 2 ∷ []))))
     ∷ theShapeCheck unsided anyShape (sized 3) (accepted (starting (3 ∷ [])))

@@ -1,0 +1,16 @@
+pub mod CheckShape
+pub mod AsFields
+pub mod CheckScalar
+pub mod Validate
+pub mod Cases
+pub mod Examples
+pub mod OutcomeLaws
+pub mod CheckShapeLaws
+pub mod CheckShapeSteps
+pub mod RecordsLaws
+pub mod KeepsLaws
+pub mod FitsLaws
+pub mod CheckScalarSteps
+pub mod LimitsLaws
+pub mod RefusalsLaws
+pub mod ValidateLaws

@@ -1,0 +1,4 @@
+pub mod Fitting
+pub mod Bare
+pub mod PervadeHolds
+pub mod RulesHold

@@ -2,3 +2,5 @@ pub mod Fitting
 pub mod Bare
 pub mod PervadeHolds
 pub mod RulesHold
+pub mod Cells
+pub mod CellsPervade

@@ -4,3 +4,7 @@ pub mod PervadeHolds
 pub mod RulesHold
 pub mod Cells
 pub mod CellsPervade
+pub mod Play
+pub mod PlaySteps
+pub mod Asked
+pub mod Witness

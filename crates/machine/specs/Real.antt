@@ -86,9 +86,9 @@ abbrev pub realRow : RealShape → RealShape
 realRow [] = []
 realRow (n ∷ r) = r
 
-abbrev pub laid : List RealShape → Option RealShape → Option (List RealShape)
-laid rs none = none
-laid rs (some r) = some (r ∷ rs)
+abbrev pub ontoReal : List RealShape → Option RealShape → Option (List RealShape)
+ontoReal rs none = none
+ontoReal rs (some r) = some (r ∷ rs)
 
 -- One step on a stack of real shapes, top first. None where the run stops; an accepted or well-formed sheet never lacks a shape.
 unfoldable pub realStep : (x : Step) → Feed x → List RealShape → Option (List RealShape)
@@ -97,7 +97,7 @@ realStep row u [] = none
 realStep row u (r ∷ rs) = some (realRow r ∷ rs)
 realStep (pervading f g) u [] = none
 realStep (pervading f g) u (r ∷ []) = none
-realStep (pervading f g) u (r ∷ q ∷ rs) = laid rs (realPervade r q)
+realStep (pervading f g) u (r ∷ q ∷ rs) = ontoReal rs (realPervade r q)
 realStep join side [] = none
 realStep join side (r ∷ []) = none
 realStep join side (r ∷ q ∷ rs) = some (keeps side r q ∷ rs)

@@ -1,3 +1,4 @@
+pub mod Conditions
 pub mod Fitting
 pub mod Bare
 pub mod PervadeHolds
@@ -8,3 +9,7 @@ pub mod Play
 pub mod PlaySteps
 pub mod Asked
 pub mod Witness
+pub mod Verdicts
+pub mod Endings
+pub mod EndingsPlay
+pub mod Counting

@@ -39,7 +39,7 @@ module _ {A : Type 0} (rule : A → A → Option A) where
   play (mix ∷ ms) (a ∷ []) = none
   play (mix ∷ ms) (a ∷ b ∷ st) = mixed (rule a b) λ c. play ms (c ∷ st)
 
-  mixed-some : {C : Type 0} (r : Option A) {k : A → Option (List A)} {z : List A} → mixed r k ≡ some z → ((c : A) → r ≡ some c → k c ≡ some z → C) → C
+  pub mixed-some : {C : Type 0} (r : Option A) {k : A → Option (List A)} {z : List A} → mixed r k ≡ some z → ((c : A) → r ≡ some c → k c ≡ some z → C) → C
   mixed-some none e f = let z : _≡_ {A = ℕ} 0 1 = cc in absurd (omega arith)
   mixed-some (some c) e f = f c refl e
 
@@ -66,7 +66,7 @@ module _ {A M : Type 0} {unit : M} {plus : M → M → M} (laws : Commutes unit 
   abbrev all : List A → M
   all l = gather unit plus value l
 
-  past-first : (x y z : M) → plus (plus x y) z ≡ plus y (plus x z)
+  pub past-first : (x y z : M) → plus (plus x y) z ≡ plus y (plus x z)
   past-first x y z = ap (λ w. plus w z) (laws .comm x y) ∙ laws .assoc y x z
 
   pub gather-play : (rule : A → A → Option A) → ((a b c : A) → rule a b ≡ some c → value c ≡ plus (value a) (value b)) → (ms : List (Move A)) (st z : List A) → play rule ms st ≡ some z → all z ≡ plus (all st) (all (laid ms))

@@ -15,34 +15,25 @@ use Rattle.model.specs.Within.{All}
 use Rattle.rules.specs.Pervade.{pervade}
 use Rattle.rules.specs.Scalars.{union}
 use Rattle.machine.specs.SheetLimits.{maxStack}
-use Rattle.machine.specs.Steps.{Step, put, row, pervading, join, validating, opcodeOf, takes, leaves}
+use Rattle.machine.specs.Steps.{Step, put, row, pervading, join, validating, opcodeOf, takes, leaves, flagByte}
 use Rattle.machine.specs.Run.{Answer, gives, refuses, following, orRefuses, Stack, onto, pervadeTypes, step, steps}
 use Rattle.machine.specs.WellFormed.{heightAfter}
 use Rattle.machine.specs.Real.{RealShape, realPervade, Feed, Feeds, realStep, ontoReal, goesOn, realRun}
+use Rattle.demand.specs.Conditions.{PutOrPervade, puts}
 use Rattle.demand.specs.Play.{Move, lay, mix, laid, Enough, heightLeft, mixed, play}
 
--- ---- the steps of the second half
-
--- A put, or a pervading that fills nothing.
-abbrev pub PutOrPervade : Step → Type 0
-PutOrPervade (put t) = Unit {0}
-PutOrPervade row = ⊥
-PutOrPervade (pervading f g) = (f ≡ false) × (g ≡ false)
-PutOrPervade join = ⊥
-PutOrPervade (validating spec) = ⊥
+-- ---- heights
 
 -- No step lacks types or lays down one too many, from height h on.
 abbrev pub Heights : List Step → ℕ → Type 0
 Heights [] h = Unit {0}
 Heights (x ∷ xs) h = (takes (opcodeOf x) ≤ h) × (leaves (opcodeOf x) h ≤ maxStack) × Heights xs (leaves (opcodeOf x) h)
 
-abbrev pub puts : List Step → List Ty
-puts [] = []
-puts (put t ∷ xs) = t ∷ puts xs
-puts (row ∷ xs) = puts xs
-puts (pervading f g ∷ xs) = puts xs
-puts (join ∷ xs) = puts xs
-puts (validating spec ∷ xs) = puts xs
+-- a flag byte 0 fills neither side
+pub unfilled : (f g : Bool) → flagByte f g ≡ 0 → (f ≡ false) × (g ≡ false)
+unfilled false false h = (refl, refl)
+unfilled true g h = absurd (omega arith)
+unfilled false true h = absurd (omega arith)
 
 -- ---- shapes
 
@@ -81,7 +72,8 @@ steps-play (pervading f g ∷ xs) [] p h = absurd (omega (arith, h .0))
 steps-play (pervading f g ∷ xs) (t ∷ []) p h = absurd (omega (arith, h .0))
 steps-play (pervading f g ∷ xs) (ty s k ∷ ty t l ∷ st) p h =
     let n : suc (suc (suc (length st)) - 2) ≡ suc (length st) = omega arith in
-    rw (p .0 .0, p .0 .1) (go (pervade false false s t) (λ x. steps-play xs (ty x (union k l) ∷ st) (p .1) (rw n at (h .2))))
+    let (a, b) = unfilled f g (p .0) in
+    rw (a, b) (go (pervade false false s t) (λ x. steps-play xs (ty x (union k l) ∷ st) (p .1) (rw n at (h .2))))
   where
     go : (r : Option Shape) → ((x : Shape) → shapes (steps xs (ty x (union k l) ∷ st)) ≡ verdict (play (pervade false false) (moves xs) (x ∷ map shapeOf st))) → shapes (following (onto st (following (orRefuses r unpervaded) (λ x. gives (ty x (union k l))))) (λ st₁. steps xs st₁)) ≡ verdict (mixed (pervade false false) r (λ x. play (pervade false false) (moves xs) (x ∷ map shapeOf st)))
     go none i = refl

@@ -14,6 +14,7 @@ use Rattle.rules.specs.Sizes.{larger, joinDim}
 use Rattle.rules.specs.Shapes.{rowShape, mergeDims, mergeClosing, mergeFrom, joinDims, joinEnds, joinClosing, joinShapes}
 use Rattle.rules.specs.SizesLaws.{larger-either}
 use Rattle.machine.specs.Real.{RealShape, fits, realRow, Kept, theTop, theOneBelow, keeps}
+use Rattle.demand.specs.Conditions.{Alike}
 use Rattle.demand.specs.Fitting.{Fit}
 use Rattle.demand.specs.Bare.{isOpen, BareClosing, Bare, Rest, Begins, begins-of, of-begins}
 
@@ -35,13 +36,6 @@ row-holds (shape [] (some [])) r u h = (of-begins [] (some []) (realRow r) tt tt
 row-holds (shape [] (some (d ∷ c))) r u h = absurd u
 
 -- ---- join
-
--- The shapes that a join of the first half may take: closed ones of equal count, or two open ones.
-abbrev pub Alike : Shape → Shape → Type 0
-Alike (shape o none) (shape p none) = length o ≡ length p
-Alike (shape o none) (shape p (some d)) = ⊥
-Alike (shape o (some c)) (shape p none) = ⊥
-Alike (shape o (some c)) (shape p (some d)) = Unit {0}
 
 fit-join-first : (d e : Dim) (n : ℕ) → Fit d n → Fit (joinDim d e) n
 unfolding joinDim

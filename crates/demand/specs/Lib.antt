@@ -13,3 +13,4 @@ pub mod Verdicts
 pub mod Endings
 pub mod EndingsPlay
 pub mod Counting
+pub mod Orders

@@ -12,6 +12,8 @@ use Rattle.format.specs.Outcome.{Outcome, accepted, refused}
 use Rattle.rules.specs.Pervade.{pervade}
 use Rattle.rules.specs.Scalars.{union}
 use Rattle.rules.specs.Types.{joinTypes, intoRow}
+use Rattle.validation.specs.CheckShape.{Side, unsided}
+use Rattle.validation.specs.Validate.{validate}
 use Rattle.machine.specs.SheetLimits.{maxStack}
 use Rattle.machine.specs.Steps.{Step, put, row, pervading, join, validating}
 
@@ -43,10 +45,6 @@ onto st a = following a λ t. gives (t ∷ st)
 unfoldable pub pervadeTypes : Bool → Bool → Ty → Ty → Answer Ty
 pervadeTypes f g (ty s k) (ty t l) = following (orRefuses (pervade f g s t) unpervaded) λ x. gives (ty x (union k l))
 
--- (Stands in for the rule of the crate `validation`, which is not merged yet; shut, so that no theorem can look into it.)
-pub validate : Ty → Ty → Outcome Ty
-validate spec t = accepted t
-
 unfoldable pub step : Step → Stack → Answer Stack
 step (put t) st = cond (ltb (length st) maxStack) (gives (t ∷ st)) (refuses overflow)
 step row [] = refuses underflow
@@ -58,7 +56,7 @@ step join [] = refuses underflow
 step join (t ∷ []) = refuses underflow
 step join (t ∷ u ∷ st) = gives (joinTypes t u ∷ st)
 step (validating spec) [] = refuses underflow
-step (validating spec) (t ∷ st) = onto st (aside (validate spec t))
+step (validating spec) (t ∷ st) = onto st (aside (validate unsided spec t))
 
 -- Each step takes what the one before left; the first refusal is the last word.
 unfoldable pub steps : List Step → Stack → Answer Stack

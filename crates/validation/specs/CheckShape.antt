@@ -1,0 +1,69 @@
+-- `check_shape` (document 01, "mod.rs"): a spec's shape on a type's, without a side or for one. Opening sizes are compared from the
+-- front, for the right side from the end; [..] on either side excuses a mismatch; what is not refused is merged.
+use Prim.Native.Nat.{ℕ}
+use mathlib.Core.Bool.{Bool, true, false, _&&_, _||_, not, cond}
+use mathlib.Core.List.{List, [], _∷_, _++_, reverse}
+use mathlib.Core.Option.{Option, none, some}
+use lib.ListN.{length}
+use lib.Dec.{eqb, ltb}
+use Rattle.model.specs.Refusals.{wrongShape}
+use Rattle.model.specs.Types.{Dim, static, unknown, Shape, shape}
+use Rattle.format.specs.Outcome.{Outcome, accepted, refused}
+use Rattle.rules.specs.Sizes.{compatible}
+use Rattle.rules.specs.Shapes.{isAny, rank, mergeFrom}
+
+-- `SubSide` has two values; a validation has one of them or none.
+pub data Side : Type 0 where
+  unsided left right : Side
+
+-- ---- lists of sizes
+
+-- As far as both lists go, no two sizes are incompatible.
+unfoldable pub agree : List Dim → List Dim → Bool
+agree [] p = true
+agree (d ∷ o) [] = true
+agree (d ∷ o) (e ∷ p) = compatible d e && agree o p
+
+-- Equal statics, and ? only with ?.
+unfoldable pub equalDim : Dim → Dim → Bool
+equalDim (static m) (static n) = eqb m n
+equalDim (static m) unknown = false
+equalDim unknown (static n) = false
+equalDim unknown unknown = true
+
+unfoldable pub equalDims : List Dim → List Dim → Bool
+equalDims [] [] = true
+equalDims [] (e ∷ p) = false
+equalDims (d ∷ o) [] = false
+equalDims (d ∷ o) (e ∷ p) = equalDim d e && equalDims o p
+
+-- ---- shapes
+
+-- The sizes that a right-side check compares: the closing ones of an open shape, else the opening ones.
+abbrev pub lastSizes : Shape → List Dim
+lastSizes (shape p none) = p
+lastSizes (shape p (some d)) = d
+
+-- The opening sizes of a spec's shape, against a type's shape. A closed type needs equal counts and sizes that agree; an open one,
+-- its opening and closing sizes one after the other, is equal to the spec's. The left side may have more sizes than the spec, and
+-- an open shape may have fewer; the right side may have more in front.
+unfoldable pub mismatch : Side → List Dim → Shape → Bool
+mismatch unsided o (shape p none) = not (eqb (length p) (length o) && agree p o)
+mismatch unsided o (shape p (some d)) = not (equalDims (p ++ d) o)
+mismatch left o (shape p none) = ltb (length p) (length o) || not (agree p o)
+mismatch left o (shape p (some d)) = not (agree p o)
+mismatch right o t = ltb (rank t) (length o) || not (agree (reverse (lastSizes t)) (reverse o))
+
+-- [..] on either side excuses a mismatch. The spec's closing sizes are not looked at.
+unfoldable pub shapeMismatch : Side → Shape → Shape → Bool
+shapeMismatch side (shape o c) t = mismatch side o t && not (isAny (shape o c) || isAny t)
+
+-- What is merged: for a side the spec's opening sizes alone, open, and for the right side as closing sizes.
+unfoldable pub sidedShape : Side → Shape → Shape
+sidedShape unsided s = s
+sidedShape left (shape o c) = shape o (some [])
+sidedShape right (shape o c) = shape [] (some o)
+
+-- The shape that the type then has.
+unfoldable pub checkShape : Side → Shape → Shape → Outcome Shape
+checkShape side s t = cond (shapeMismatch side s t) (refused wrongShape 0) (accepted (mergeFrom t (sidedShape side s)))

@@ -1,0 +1,11 @@
+pub mod CheckShape
+pub mod AsFields
+pub mod CheckScalar
+pub mod Validate
+pub mod Cases
+pub mod Examples
+pub mod OutcomeLaws
+pub mod CheckShapeLaws
+pub mod RecordsLaws
+pub mod KeepsLaws
+pub mod ValidateLaws

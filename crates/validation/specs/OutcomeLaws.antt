@@ -1,0 +1,65 @@
+-- What an accepted outcome says of its parts, one law for each form that the rules are written in. By continuation, so that the
+-- values between the parts are variables.
+use Prim.Native.Nat.{ℕ}
+use native.Mathlib.Omega.{arith}
+use mathlib.Core.Bool.{Bool, true, false, cond}
+use mathlib.Core.Path.{_≡_, refl}
+use Rattle.model.specs.Refusals.{tooMany, wrongScalar}
+use Rattle.model.specs.Types.{Shape, Scalar, boxAll, Fields, field, Ty, ty, boxOf, fieldOf}
+use Rattle.format.specs.Outcome.{Outcome, accepted, refused, mapped}
+use Rattle.rules.specs.Scalars.{supersetOf}
+use Rattle.rules.specs.Types.{whollyAny}
+use Rattle.validation.specs.AsFields.{measured}
+use Rattle.validation.specs.CheckScalar.{_>>=_, inTurn, superset, unlessAny}
+
+-- ---- tests
+
+-- one that had to hold, and one that had to fail
+pub held {κ} : {A : Type 0} {C : Type κ} (t : Bool) (r : Outcome A) (n p : ℕ) {a : A} → cond t r (refused n p) ≡ accepted a → (t ≡ true → r ≡ accepted a → C) → C
+held true r n p e k = k refl e
+held false r n p e k = let z : _≡_ {A = ℕ} 0 1 = cc in absurd (omega arith)
+
+pub failed {κ} : {A : Type 0} {C : Type κ} (t : Bool) (r : Outcome A) (n p : ℕ) {a : A} → cond t (refused n p) r ≡ accepted a → (t ≡ false → r ≡ accepted a → C) → C
+failed true r n p e k = let z : _≡_ {A = ℕ} 0 1 = cc in absurd (omega arith)
+failed false r n p e k = k refl e
+
+pub measured-accepted {κ} : {C : Type κ} (keeps : Scalar → Bool) (k : Scalar) {x : Scalar} → measured keeps k ≡ accepted x → (keeps k ≡ true → k ≡ x → C) → C
+measured-accepted keeps k e c = held (keeps k) (accepted k) tooMany 0 e λ h w. c h cc
+
+pub superset-accepted {κ} : {C : Type κ} (k l : Scalar) {x : Scalar} → superset k l ≡ accepted x → (supersetOf k l ≡ true → l ≡ x → C) → C
+superset-accepted k l e c = held (supersetOf k l) (accepted l) wrongScalar 0 e λ h w. c h cc
+
+-- a wholly Any type took the scalar, or it was not one
+pub any-accepted {κ} : {C : Type κ} (keeps : Scalar → Bool) (k : Scalar) (t : Shape) (l : Scalar) (rest : Outcome Scalar) {x : Scalar} → unlessAny keeps k t l rest ≡ accepted x → (whollyAny (ty t l) ≡ true → keeps k ≡ true → k ≡ x → C) → (whollyAny (ty t l) ≡ false → rest ≡ accepted x → C) → C
+any-accepted {C = C} keeps k t l rest {x} e c d = go (whollyAny (ty t l)) refl e
+  where
+    go : (b : Bool) → whollyAny (ty t l) ≡ b → cond b (measured keeps k) rest ≡ accepted x → C
+    go true h e = measured-accepted keeps k e (c h)
+    go false h e = d h e
+
+-- ---- sequences
+
+pub then-accepted {κ} : {A B : Type 0} {C : Type κ} (r : Outcome A) (f : A → Outcome B) {b : B} → (r >>= f) ≡ accepted b → ((a : A) → r ≡ accepted a → f a ≡ accepted b → C) → C
+then-accepted (accepted a) f e k = k a refl e
+then-accepted (refused n p) f e k = let z : _≡_ {A = ℕ} 0 1 = cc in absurd (omega arith)
+
+pub mapped-accepted {κ} : {A B : Type 0} {C : Type κ} (f : A → B) (r : Outcome A) {b : B} → mapped f r ≡ accepted b → ((a : A) → r ≡ accepted a → f a ≡ b → C) → C
+mapped-accepted f (accepted a) e k = k a refl cc
+mapped-accepted f (refused n p) e k = let z : _≡_ {A = ℕ} 0 1 = cc in absurd (omega arith)
+
+pub inTurn-accepted {κ} : {C : Type κ} (r : Outcome Scalar) (q : Outcome Shape) {u : Ty} → inTurn r q ≡ accepted u → ((k : Scalar) (s : Shape) → r ≡ accepted k → q ≡ accepted s → ty s k ≡ u → C) → C
+inTurn-accepted (accepted k) (accepted s) e c = c k s refl refl cc
+inTurn-accepted (accepted k) (refused n p) e c = let z : _≡_ {A = ℕ} 0 1 = cc in absurd (omega arith)
+inTurn-accepted (refused n p) q e c = let z : _≡_ {A = ℕ} 0 1 = cc in absurd (omega arith)
+
+-- the content of a box
+pub box-accepted {κ} : {C : Type κ} (r : Outcome Scalar) (q : Outcome Shape) {x : Scalar} → mapped boxOf (inTurn r q) ≡ accepted x → ((k : Scalar) (s : Shape) → r ≡ accepted k → q ≡ accepted s → boxAll s k ≡ x → C) → C
+box-accepted (accepted k) (accepted s) e c = c k s refl refl cc
+box-accepted (accepted k) (refused n p) e c = let z : _≡_ {A = ℕ} 0 1 = cc in absurd (omega arith)
+box-accepted (refused n p) q e c = let z : _≡_ {A = ℕ} 0 1 = cc in absurd (omega arith)
+
+-- a field, then those after it
+pub field-accepted {κ} : {C : Type κ} (r : Outcome Scalar) (q : Outcome Shape) (rest : Ty → Outcome Fields) {h : Fields} → (inTurn r q >>= λ u. rest u >>= λ g. accepted (fieldOf u g)) ≡ accepted h → ((k : Scalar) (s : Shape) (g : Fields) → r ≡ accepted k → q ≡ accepted s → rest (ty s k) ≡ accepted g → field s k g ≡ h → C) → C
+field-accepted (accepted k) (accepted s) rest e c = then-accepted (rest (ty s k)) _ e λ g e₁ e₂. c k s g refl refl e₁ cc
+field-accepted (accepted k) (refused n p) rest e c = let z : _≡_ {A = ℕ} 0 1 = cc in absurd (omega arith)
+field-accepted (refused n p) q rest e c = let z : _≡_ {A = ℕ} 0 1 = cc in absurd (omega arith)

@@ -14,3 +14,4 @@ pub mod Endings
 pub mod EndingsPlay
 pub mod Counting
 pub mod Orders
+pub mod StepsHold

@@ -1,16 +1,34 @@
 -- The words of demand 3 as predicates of a list of steps. Those of a row or a join look at the type that it takes, which is the one that
 -- the rules give there from the steps before.
-use Prim.Native.Nat.{ℕ, _+_}
+use Prim.Native.Nat.{ℕ, _+_, _≤_}
 use mathlib.Core.Bool.{Bool, true, false, cond}
 use mathlib.Core.List.{List, [], _∷_}
 use mathlib.Core.Option.{Option, none, some}
 use mathlib.Core.Path.{_≡_}
 use lib.ListN.{length}
 use Rattle.model.specs.Types.{Shape, shape, Scalar, plain, boxAny, boxAll, boxDef, Ty, ty, shapeOf}
+use Rattle.model.specs.Within.{All, Within}
 use Rattle.rules.specs.Sizes.{Order, less, same, more}
 use Rattle.rules.specs.Order.{compare}
-use Rattle.machine.specs.Steps.{Step, put, row, pervading, join, validating, flagByte}
+use Rattle.machine.specs.SheetLimits.{maxSteps}
+use Rattle.machine.specs.Steps.{Step, put, row, pervading, join, validating, flagByte, writeSteps}
 use Rattle.machine.specs.Run.{Answer, gives, refuses, Stack, step}
+
+-- ---- lists of steps as sheets
+
+-- The types that a step hands in keep the limits of their records.
+abbrev pub StepWithin : Step → Type 0
+StepWithin (put t) = Within t
+StepWithin row = Unit {0}
+StepWithin (pervading f g) = Unit {0}
+StepWithin join = Unit {0}
+StepWithin (validating spec) = Within spec
+
+-- Some bytes are those of a list of steps that a sheet can have.
+pub record SheetOf (s : List ℕ) (xs : List Step) : Type 0 where
+  pub bytes : s ≡ writeSteps xs
+  pub within : All StepWithin xs
+  pub few : length xs ≤ maxSteps
 
 -- ---- the first half
 

@@ -15,3 +15,5 @@ pub mod EndingsPlay
 pub mod Counting
 pub mod Orders
 pub mod StepsHold
+pub mod StepsTook
+pub mod SheetWorked

@@ -17,3 +17,4 @@ pub mod Orders
 pub mod StepsHold
 pub mod StepsTook
 pub mod SheetWorked
+pub mod StepsReads

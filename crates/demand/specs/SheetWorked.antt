@@ -60,15 +60,15 @@ same-after s n xs (gives st) p at k = k st refl
 same-after s n xs (refuses j) p at k = (p, refl)
 
 module _ (s : List ℕ) where
-  abbrev workAndMore : ℕ → Stack → Reader Stack
+  abbrev pub workAndMore : ℕ → Stack → Reader Stack
   workAndMore most st = do
     st₁ ← here (workFrom s st)
     sheetFrom s most st₁
 
-  at-end : {A : Type 0} (a : A) (more : Reader A) (at : ℕ) → length s ≤ at → toEnd s a more at ≡ got a at
+  pub at-end : {A : Type 0} (a : A) (more : Reader A) (at : ℕ) → length s ≤ at → toEnd s a more at ≡ got a at
   at-end a more at h = rw (le-ltb at (length s) h)
 
-  not-at-end : {A : Type 0} (a : A) (more : Reader A) (at : ℕ) → at < length s → toEnd s a more at ≡ more at
+  pub not-at-end : {A : Type 0} (a : A) (more : Reader A) (at : ℕ) → at < length s → toEnd s a more at ≡ more at
   not-at-end a more at h = rw (lt-ltb at (length s) h)
 
   pub skim-worked : (most : ℕ) (st : Stack) (at : ℕ) (xs : List Step) (n : ℕ) → skimFrom s most (length st) at ≡ got xs n → Same (steps xs st) (sheetFrom s most st at)

@@ -18,3 +18,4 @@ pub mod StepsHold
 pub mod StepsTook
 pub mod SheetWorked
 pub mod StepsReads
+pub mod StepsWithin

@@ -47,15 +47,15 @@ pub following-gives : {A B C : Type 0} (a : Answer A) {f : A → Answer B} {b : 
 following-gives (gives x) e k = k x refl e
 following-gives (refuses n) e k = let z : _≡_ {A = ℕ} 0 1 = cc in absurd (omega arith)
 
-orRefuses-gives : {A C : Type 0} (o : Option A) (n : ℕ) {a : A} → orRefuses o n ≡ gives a → (o ≡ some a → C) → C
+pub orRefuses-gives : {A C : Type 0} (o : Option A) (n : ℕ) {a : A} → orRefuses o n ≡ gives a → (o ≡ some a → C) → C
 orRefuses-gives none n e k = let z : _≡_ {A = ℕ} 0 1 = cc in absurd (omega arith)
 orRefuses-gives (some x) n e k = k (cc)
 
-aside-gives : {A C : Type 0} (o : Outcome A) {a : A} → aside o ≡ gives a → (o ≡ accepted a → C) → C
+pub aside-gives : {A C : Type 0} (o : Outcome A) {a : A} → aside o ≡ gives a → (o ≡ accepted a → C) → C
 aside-gives (accepted x) e k = k (cc)
 aside-gives (refused n p) e k = let z : _≡_ {A = ℕ} 0 1 = cc in absurd (omega arith)
 
-cond-gives : {A C : Type 0} (t : Bool) (n : ℕ) {a b : A} → cond t (gives a) (refuses n) ≡ gives b → (a ≡ b → C) → C
+pub cond-gives : {A C : Type 0} (t : Bool) (n : ℕ) {a b : A} → cond t (gives a) (refuses n) ≡ gives b → (a ≡ b → C) → C
 cond-gives true n e k = k (cc)
 cond-gives false n e k = let z : _≡_ {A = ℕ} 0 1 = cc in absurd (omega arith)
 

@@ -6,13 +6,16 @@ use mathlib.Core.List.{List, [], _∷_}
 use mathlib.Core.Option.{Option, none, some}
 use mathlib.Core.Path.{_≡_}
 use lib.ListN.{length}
+use Rattle.model.specs.Refusals.{unpervaded}
 use Rattle.model.specs.Types.{Shape, shape, Scalar, plain, boxAny, boxAll, boxDef, Ty, ty, shapeOf}
 use Rattle.model.specs.Within.{All, Within}
+use Rattle.format.specs.Outcome.{Outcome, accepted, refused}
 use Rattle.rules.specs.Sizes.{Order, less, same, more}
 use Rattle.rules.specs.Order.{compare}
 use Rattle.machine.specs.SheetLimits.{maxSteps}
 use Rattle.machine.specs.Steps.{Step, put, row, pervading, join, validating, flagByte, writeSteps}
 use Rattle.machine.specs.Run.{Answer, gives, refuses, Stack, step}
+use Rattle.machine.specs.Call.{tally, Called, called, writeTypes, zeroed, atFront, sheetCall}
 
 -- ---- lists of steps as sheets
 
@@ -29,6 +32,24 @@ pub record SheetOf (s : List ℕ) (xs : List Step) : Type 0 where
   pub bytes : s ≡ writeSteps xs
   pub within : All StepWithin xs
   pub few : length xs ≤ maxSteps
+
+-- ---- what the call answers
+
+-- The call accepts the sheet, and these are the types left, bottom first: the answer has their number and their bytes, which stand at
+-- the front of the result.
+pub record Leaves (s result scratch : List ℕ) (ts : List Ty) : Type 0 where
+  pub within : All Within ts
+  pub outcome : sheetCall s result scratch ≡ called (accepted (tally (length ts) (length (writeTypes ts)))) (atFront (writeTypes ts) result) (zeroed scratch)
+
+-- The call answers mismatch, refusal 8, at some place.
+pub record Mismatched (s result scratch : List ℕ) : Type 0 where
+  pub place : ℕ
+  pub outcome : sheetCall s result scratch ≡ called (refused unpervaded place) result (zeroed scratch)
+
+-- The term verdict: accepted, or the number of a refusal, the place aside.
+abbrev pub verdictOf : Called → Answer (Unit {0})
+verdictOf (called (accepted n) result scratch) = gives tt
+verdictOf (called (refused k p) result scratch) = refuses k
 
 -- ---- the first half
 

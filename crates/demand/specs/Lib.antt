@@ -19,3 +19,4 @@ pub mod StepsTook
 pub mod SheetWorked
 pub mod StepsReads
 pub mod StepsWithin
+pub mod Sheets

@@ -5,7 +5,7 @@ use mathlib.Core.Bool.{Bool, true, false, cond}
 use mathlib.Core.List.{List, [], _∷_}
 use mathlib.Core.Option.{Option, none, some}
 use mathlib.Core.Path.{_≡_}
-use lib.ListN.{length}
+use lib.ListN.{length, getElem?}
 use Rattle.model.specs.Refusals.{unpervaded}
 use Rattle.model.specs.Types.{Shape, shape, Scalar, plain, boxAny, boxAll, boxDef, Ty, ty, shapeOf}
 use Rattle.model.specs.Within.{All, Within}
@@ -16,6 +16,8 @@ use Rattle.machine.specs.SheetLimits.{maxSteps}
 use Rattle.machine.specs.Steps.{Step, put, row, pervading, join, validating, flagByte, writeSteps}
 use Rattle.machine.specs.Run.{Answer, gives, refuses, Stack, step}
 use Rattle.machine.specs.Call.{tally, Called, called, writeTypes, zeroed, atFront, sheetCall}
+use Rattle.machine.specs.WellFormed.{WellFormed, typesLeft}
+use Rattle.machine.specs.Real.{RealShape, Holds}
 
 -- ---- lists of steps as sheets
 
@@ -114,6 +116,18 @@ abbrev pub Along : (Step → Stack → Type 0) → List Step → Stack → Type 
 Along P [] st = Unit {0}
 Along P (x ∷ xs) st = P x st × ((st₁ : Stack) → step x st ≡ gives st₁ → Along P xs st₁)
 
+-- All conditions of the first half, of a list that is worked in order from an empty stack.
+pub record FirstConditions (xs : List Step) : Type 0 where
+  pub names-no-closing : All NamesNoClosing xs
+  pub fills-nothing : All FillsNothing xs
+  pub rows-no-open-def : Along RowsNoOpenDef xs []
+  pub joins-alike : Along JoinsAlike xs []
+
+-- "each type left holds the shape of the real array there": equally many, and the n-th from the bottom holds the n-th from the bottom.
+pub record EachHolds (ts : List Ty) (rs : List RealShape) : Type 0 where
+  pub equally-many : length ts ≡ length rs
+  pub nth : (n : ℕ) (t : Ty) (r : RealShape) → getElem? ts n ≡ some t → getElem? rs n ≡ some r → Holds t r
+
 -- ---- the second half
 
 -- "puts and unfilled pervadings".
@@ -153,3 +167,9 @@ SamePuts xs ys = (t : Ty) → count sameType t (puts xs) ≡ count sameType t (p
 abbrev pub closers : List Ty → ℕ
 closers [] = 0
 closers (t ∷ l) = cond (namesClosing (shapeOf t)) 1 0 + closers l
+
+-- All conditions of the second half: "a list of puts and unfilled pervadings that makes a well-formed sheet leaving one type".
+pub record SecondConditions (s result scratch : List ℕ) (xs : List Step) : Type 0 where
+  pub well-formed : WellFormed s result scratch xs
+  pub puts-and-pervadings : All PutOrPervade xs
+  pub one-left : typesLeft xs ≡ 1

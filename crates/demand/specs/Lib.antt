@@ -20,3 +20,5 @@ pub mod SheetWorked
 pub mod StepsReads
 pub mod StepsWithin
 pub mod Sheets
+pub mod Calls
+pub mod Demand

@@ -2,27 +2,23 @@
 -- (steps, run, call, well-formed, real run) and in Conditions (the demand's words as predicates); nothing else has to be believed.
 -- `Bytes s` says that s is a list of bytes, as every slice of u8 is.
 use Prim.Native.Nat.{ℕ, _≤_}
-use native.Mathlib.Omega.{arith}
 use mathlib.Core.List.{List, [], _∷_, reverse, reverse-reverse}
-use mathlib.Core.Path.{_≡_, refl, sym, _∙_, ap}
-use Rattle.model.specs.Refusals.{unpervaded}
-use Rattle.model.specs.Types.{Ty, shapeOf}
+use mathlib.Core.Logic.{_↔_}
+use mathlib.Core.Path.{_≡_}
+use Rattle.model.specs.Types.{Ty}
 use Rattle.format.specs.ReaderLaws.{Bytes}
-use Rattle.format.specs.Outcome.{Outcome, accepted, refused, shapeRecord}
-use Rattle.format.specs.Records.{writeShape}
+use Rattle.format.specs.Outcome.{accepted, shapeRecord}
 use Rattle.machine.specs.Steps.{Step}
-use Rattle.machine.specs.Run.{Answer, gives, refuses, aside, steps}
+use Rattle.machine.specs.Run.{gives, aside, steps}
 use Rattle.machine.specs.Sheet.{sheetRun}
-use Rattle.machine.specs.Call.{Tally, tally, Called, called, writeTypes, zeroed, atFront, sheetCall}
-use Rattle.machine.specs.WellFormed.{WellFormed}
+use Rattle.machine.specs.Call.{Tally, called, sheetCall}
 use Rattle.machine.specs.Real.{RealShape, Feeds, Through}
 use Rattle.demand.specs.Conditions.{SheetOf, Leaves, Mismatched, verdictOf, FirstConditions, EachHolds, SecondConditions, puts, SamePuts, closers}
 use Rattle.demand.specs.Sheets.{bottomFirst, sheet-steps, left-within, accepted-call, leaves-run}
-use Rattle.demand.specs.StepsTook.{skim-took}
 use Rattle.demand.specs.StepsHold.{steps-hold}
-use Rattle.demand.specs.Verdicts.{Pervadings, Answered, passes, fails, answered}
-use Rattle.demand.specs.Orders.{order-mismatch, order-shape}
-use Rattle.demand.specs.Calls.{call-leaves, call-mismatch, held-each}
+use Rattle.demand.specs.Verdicts.{Answered, passes, fails, answered}
+use Rattle.demand.specs.Calls.{held-each}
+use Rattle.demand.specs.SecondCalls.{not-both, pervadings, leaves-of, mismatched-of, call-verdict, call-shape}
 
 -- ---- sheets and lists of steps
 
@@ -56,15 +52,36 @@ pub data SecondHalf (s result scratch : List ℕ) (xs : List Step) : Type 0 wher
   mismatches : Mismatched s result scratch → ((f : Feeds xs) (left : List RealShape) → Through xs f left → ⊥) → SecondHalf s result scratch xs
 
 module _ (s result scratch : List ℕ) (small : Bytes s) (xs : List Step) (c : SecondConditions s result scratch xs) where
-  sheet-of : SheetOf s xs
-  sheet-of = skim-took s small xs (c .well-formed .read) .0
-
-  pervadings : Pervadings xs
-  pervadings = record { only = c .puts-and-pervadings; heights = skim-took s small xs (c .well-formed .read) .1; one = c .one-left }
-
   pub second-half : SecondHalf s result scratch xs
-  second-half = go (answered xs pervadings)
+  second-half = go (answered xs (pervadings s result scratch small xs c))
     where
       go : Answered xs → SecondHalf s result scratch xs
-      go (passes t e f r h) = accepts t (call-leaves s result scratch xs sheet-of (c .well-formed .scratch-holds) (c .well-formed .result-holds) t e) f (r ∷ []) h
-      go (fails e h) = mismatches (call-mismatch s result scratch xs sheet-of (c .well-formed .scratch-holds) e) h
+      go (passes t e f r h) = accepts t (leaves-of s result scratch small xs c t e) f (r ∷ []) h
+      go (fails e h) = mismatches (mismatched-of s result scratch small xs c e) h
+
+  -- "Exactly when": mismatch is answered if and only if no real arrays that fit the puts get through.
+  pub mismatch-exactly : Mismatched s result scratch ↔ ((f : Feeds xs) (left : List RealShape) → Through xs f left → ⊥)
+  mismatch-exactly = go second-half
+    where
+      go : SecondHalf s result scratch xs → Mismatched s result scratch ↔ ((f : Feeds xs) (left : List RealShape) → Through xs f left → ⊥)
+      go (mismatches m h) = (λ _. h, λ _. m)
+      go (accepts t l f left h) = (λ m. not-both s result scratch (t ∷ []) l m, λ k. absurd (k f left h))
+
+  -- "Otherwise the sheet is accepted", and leaves one type.
+  pub otherwise-accepted : (Mismatched s result scratch → ⊥) → (t : Ty) × Leaves s result scratch (t ∷ [])
+  otherwise-accepted k = go second-half
+    where
+      go : SecondHalf s result scratch xs → (t : Ty) × Leaves s result scratch (t ∷ [])
+      go (mismatches m h) = absurd (k m)
+      go (accepts t l f left h) = (t, l)
+
+-- "Every other order or grouping of the same puts within eight places": another sheet s′ with `SecondConditions`, so within eight places,
+-- that puts the same types, each as often (`SamePuts`). Its buffers may be others too.
+module _ (s result scratch s′ result′ scratch′ : List ℕ) (small : Bytes s) (small′ : Bytes s′) (xs ys : List Step) (c : SecondConditions s result scratch xs) (c′ : SecondConditions s′ result′ scratch′ ys) (same : SamePuts xs ys) where
+  -- "Gets the same verdict": accepted or mismatch, the place aside.
+  pub same-verdict : verdictOf (sheetCall s result scratch) ≡ verdictOf (sheetCall s′ result′ scratch′)
+  same-verdict = call-verdict s result scratch s′ result′ scratch′ small small′ xs ys c c′ same
+
+  -- "And, if accepted with at most two naming closing sizes, the same shape": at most two puts, counted each time; equal shape records.
+  pub same-shape : (t : Ty) → Leaves s result scratch (t ∷ []) → closers (puts xs) ≤ 2 → (u : Ty) × Leaves s′ result′ scratch′ (u ∷ []) × (shapeRecord t ≡ shapeRecord u)
+  same-shape t l n = call-shape s result scratch s′ result′ scratch′ small small′ xs ys c c′ same t l n

@@ -21,4 +21,5 @@ pub mod StepsReads
 pub mod StepsWithin
 pub mod Sheets
 pub mod Calls
+pub mod SecondCalls
 pub mod Demand

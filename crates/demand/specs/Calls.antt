@@ -1,17 +1,20 @@
--- From the run of a list of steps to the call's answer, and from a stack to the types left, counted from the bottom.
-use Prim.Native.Nat.{ℕ, zero, suc, _*_, _≤_}
+-- What an accepted call says of its sheet; the call's answer from the run of a list of steps; and the types left from a stack, counted
+-- from the bottom.
+use Prim.Native.Nat.{ℕ, zero, suc, _≤_}
 use native.Mathlib.Omega.{arith}
-use mathlib.Core.Bool.{true}
+use mathlib.Core.Bool.{Bool, true, false, cond}
 use mathlib.Core.List.{List, [], _∷_, reverse, reverseAux}
 use mathlib.Core.Option.{Option, none, some}
 use mathlib.Core.Path.{_≡_, refl, sym, _∙_, ap}
-use lib.ListN.{length, getElem?}
-use lib.Dec.{leb}
-use borrow.Author.Tests.{le-leb}
+use lib.ListN.{length, take, drop, getElem?}
+use lib.Seq.{take-at, take-append-seam}
+use lib.Dec.{leb, ltb}
+use borrow.Author.Tests.{le-leb, le-ltb}
 use Rattle.model.specs.Limits.{maxBytes}
-use Rattle.model.specs.Refusals.{unpervaded}
+use Rattle.model.specs.Refusals.{tooShort, unpervaded}
 use Rattle.model.specs.Types.{Ty, shapeOf}
 use Rattle.model.specs.Within.{All, Within}
+use Rattle.format.specs.ReaderLaws.{Bytes}
 use Rattle.format.specs.Outcome.{Outcome, accepted, refused}
 use Rattle.machine.specs.SheetLimits.{scratchBytes}
 use Rattle.machine.specs.Steps.{Step}
@@ -19,10 +22,60 @@ use Rattle.machine.specs.Run.{Answer, gives, refuses, aside, Stack, steps}
 use Rattle.machine.specs.Sheet.{sheetRun}
 use Rattle.machine.specs.Call.{Tally, tally, Called, called, writeTypes, zeroed, atFront, handOver, sheetCall}
 use Rattle.machine.specs.Real.{RealShape, Holds}
-use Rattle.demand.specs.Conditions.{SheetOf, Leaves, Mismatched, EachHolds}
-use Rattle.demand.specs.StepsHold.{Held}
-use Rattle.demand.specs.StepsWithin.{writeTypes-suffices}
-use Rattle.demand.specs.Sheets.{bottomFirst, sheet-steps, left-within, call-run}
+use Rattle.machine.specs.Steps.{SheetOf}
+use Rattle.demand.specs.Claims.{Leaves, Mismatched, EachHolds}
+use Rattle.machine.specs.StepsHold.{Held}
+use Rattle.machine.specs.StepsWithin.{writeTypes-suffices, writeTypes-same}
+use Rattle.machine.specs.Sheets.{bottomFirst, sheet-steps, accepted-steps, left-within}
+
+-- ---- an accepted call
+
+-- With enough scratch the call hands the run over.
+pub call-run : (s result scratch : List ℕ) → scratchBytes ≤ length scratch → sheetCall s result scratch ≡ handOver (length s) (sheetRun s) result (zeroed scratch)
+unfolding sheetCall
+call-run s result scratch h = rw (le-ltb (length scratch) scratchBytes h)
+
+-- What an accepted call says.
+record Accepted (s result scratch : List ℕ) (c : Tally) (out after : List ℕ) (ts : List Ty) : Type 0 where
+  run : sheetRun s ≡ accepted ts
+  answer : tally (length ts) (length (writeTypes ts)) ≡ c
+  written : atFront (writeTypes ts) result ≡ out
+  zero-after : zeroed scratch ≡ after
+
+handed : {C : Type 0} (size : ℕ) (o : Outcome (List Ty)) (result scratch : List ℕ) {c : Tally} {out after : List ℕ} → handOver size o result scratch ≡ called (accepted c) out after → ((ts : List Ty) → o ≡ accepted ts → tally (length ts) (length (writeTypes ts)) ≡ c → atFront (writeTypes ts) result ≡ out → scratch ≡ after → C) → C
+unfolding handOver
+handed size (refused k p) result scratch e f = let z : _≡_ {A = ℕ} 0 1 = cc in absurd (omega arith)
+handed {C} size (accepted ts) result scratch {c} {out} {after} e f = go (leb (length (writeTypes ts)) (length result)) e
+  where
+    go : (b : Bool) → cond b (called (accepted (tally (length ts) (length (writeTypes ts)))) (atFront (writeTypes ts) result) scratch) (called (refused tooShort size) result scratch) ≡ called (accepted c) out after → C
+    go true e = f ts refl (cc) (cc) (cc)
+    go false e = let z : _≡_ {A = ℕ} 0 1 = cc in absurd (omega arith)
+
+call-accepted : (s result scratch : List ℕ) (c : Tally) (out after : List ℕ) → sheetCall s result scratch ≡ called (accepted c) out after → (ts : List Ty) × Accepted s result scratch c out after ts
+unfolding sheetCall
+call-accepted s result scratch c out after e = go (ltb (length scratch) scratchBytes) e
+  where
+    go : (b : Bool) → cond b (called (refused tooShort 0) result scratch) (handOver (length s) (sheetRun s) result (zeroed scratch)) ≡ called (accepted c) out after → (ts : List Ty) × Accepted s result scratch c out after ts
+    go true e = let z : _≡_ {A = ℕ} 0 1 = cc in absurd (omega arith)
+    go false e = handed (length s) (sheetRun s) result (zeroed scratch) e λ ts r a w z. (ts, record { run = r; answer = a; written = w; zero-after = z })
+
+-- A sheet that the call accepts is the bytes of a list of steps, and leaves types.
+pub accepted-call : (s result scratch : List ℕ) → Bytes s → (c : Tally) (out after : List ℕ) → sheetCall s result scratch ≡ called (accepted c) out after → (xs : List Step) × (ts : List Ty) × SheetOf s xs × (steps xs [] ≡ gives (reverse ts)) × Leaves s result scratch ts
+accepted-call s result scratch small c out after e =
+    let (ts, a) = call-accepted s result scratch c out after e in
+    let (xs, h, k) = accepted-steps s small ts (a .run) in
+    (xs, ts, h, k, record { within = left-within s xs ts h (a .run) .1; outcome = rw (a .answer, a .written, a .zero-after) e })
+
+-- The types that an accepted call leaves are those of its run.
+pub leaves-run : (s result scratch : List ℕ) (xs : List Step) (ts : List Ty) → SheetOf s xs → Leaves s result scratch ts → sheetRun s ≡ accepted ts
+leaves-run s result scratch xs ts h l = go (call-accepted s result scratch _ _ _ (l .outcome))
+  where
+    go : (us : List Ty) × Accepted s result scratch (tally (length ts) (length (writeTypes ts))) (atFront (writeTypes ts) result) (zeroed scratch) us → sheetRun s ≡ accepted ts
+    go (us, a) =
+        let n : length us ≡ length ts = let x = a .answer in cc in
+        let b : length (writeTypes us) ≡ length (writeTypes ts) = let x = a .answer in cc in
+        let w : writeTypes us ≡ writeTypes ts = sym (take-at (writeTypes us) (drop (length (writeTypes us)) result) (length (writeTypes ts)) b) ∙ ap (take (length (writeTypes ts))) (a .written) ∙ take-append-seam (writeTypes ts) (drop (length (writeTypes ts)) result) in
+        a .run ∙ ap accepted (writeTypes-same us ts (left-within s xs us h (a .run) .1) (l .within) n w)
 
 -- ---- the call, with buffers that are long enough
 

@@ -13,11 +13,13 @@ use Rattle.machine.specs.Run.{gives, aside, steps}
 use Rattle.machine.specs.Sheet.{sheetRun}
 use Rattle.machine.specs.Call.{Tally, called, sheetCall}
 use Rattle.machine.specs.Real.{RealShape, Feeds, Through}
-use Rattle.demand.specs.Conditions.{SheetOf, Leaves, Mismatched, verdictOf, FirstConditions, EachHolds, SecondConditions, puts, SamePuts, closers}
-use Rattle.demand.specs.Sheets.{bottomFirst, sheet-steps, left-within, accepted-call, leaves-run}
-use Rattle.demand.specs.StepsHold.{steps-hold}
-use Rattle.demand.specs.Verdicts.{Answered, passes, fails, answered}
-use Rattle.demand.specs.Calls.{held-each}
+use Rattle.machine.specs.Steps.{SheetOf}
+use Rattle.machine.specs.Conditions.{puts, SamePuts, closers}
+use Rattle.demand.specs.Claims.{Leaves, Mismatched, verdictOf, FirstConditions, EachHolds, SecondConditions}
+use Rattle.machine.specs.Sheets.{bottomFirst, sheet-steps, left-within}
+use Rattle.machine.specs.StepsHold.{steps-hold}
+use Rattle.machine.specs.Verdicts.{Answered, passes, fails, answered}
+use Rattle.demand.specs.Calls.{accepted-call, leaves-run, held-each}
 use Rattle.demand.specs.SecondCalls.{not-both, pervadings, leaves-of, mismatched-of, call-verdict, call-shape}
 
 -- ---- sheets and lists of steps

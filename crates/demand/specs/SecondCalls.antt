@@ -13,12 +13,14 @@ use Rattle.machine.specs.Run.{Answer, gives, refuses, steps}
 use Rattle.machine.specs.Call.{Called, called, sheetCall}
 use Rattle.machine.specs.WellFormed.{WellFormed}
 use Rattle.machine.specs.Real.{RealShape, Feeds, Through}
-use Rattle.demand.specs.Conditions.{SheetOf, Leaves, Mismatched, verdictOf, SecondConditions, puts, SamePuts, closers}
-use Rattle.demand.specs.Sheets.{left-within, leaves-run}
-use Rattle.demand.specs.StepsTook.{skim-took}
-use Rattle.demand.specs.Verdicts.{Pervadings, Answered, passes, fails, answered}
-use Rattle.demand.specs.Orders.{order-mismatch, order-shape}
-use Rattle.demand.specs.Calls.{call-leaves, call-mismatch}
+use Rattle.machine.specs.Steps.{SheetOf}
+use Rattle.machine.specs.Conditions.{puts, SamePuts, closers}
+use Rattle.demand.specs.Claims.{Leaves, Mismatched, verdictOf, SecondConditions}
+use Rattle.machine.specs.Sheets.{left-within}
+use Rattle.machine.specs.StepsTook.{skim-took}
+use Rattle.machine.specs.Verdicts.{Pervadings, Answered, passes, fails, answered}
+use Rattle.machine.specs.Orders.{order-mismatch, order-shape}
+use Rattle.demand.specs.Calls.{leaves-run, call-leaves, call-mismatch}
 
 -- Accepted and refused are two.
 pub not-both : {C : Type 0} (s result scratch : List ℕ) (ts : List Ty) → Leaves s result scratch ts → Mismatched s result scratch → C

@@ -1,10 +1,14 @@
 -- The steps of a sheet and their bytes (document 01, "The sheet, added"): two mark bytes, then what the step hands in.
-use Prim.Native.Nat.{ℕ, zero, suc, _+_, _-_, _/_, _%_}
+use Prim.Native.Nat.{ℕ, suc, _+_, _-_, _/_, _%_, _≤_}
 use mathlib.Core.Bool.{Bool, true, false, cond}
 use mathlib.Core.List.{List, [], _∷_, _++_}
+use mathlib.Core.Path.{_≡_}
+use lib.ListN.{length}
 use lib.Dec.{eqb}
 use Rattle.model.specs.Types.{Ty}
+use Rattle.model.specs.Within.{All, Within}
 use Rattle.format.specs.Records.{Mark, mark, markBytes, writeTy}
+use Rattle.machine.specs.SheetLimits.{maxSteps}
 
 pub data Step : Type 0 where
   put : Ty → Step
@@ -81,3 +85,19 @@ writeStep x = markBytes (markOf (opcodeOf x)) ++ handsIn x
 unfoldable pub writeSteps : List Step → List ℕ
 writeSteps [] = []
 writeSteps (x ∷ xs) = writeStep x ++ writeSteps xs
+
+-- ---- which bytes are those of steps
+
+-- The types that a step hands in keep the limits of their records.
+abbrev pub StepWithin : Step → Type 0
+StepWithin (put t) = Within t
+StepWithin row = Unit {0}
+StepWithin (pervading f g) = Unit {0}
+StepWithin join = Unit {0}
+StepWithin (validating spec) = Within spec
+
+-- Some bytes are those of a list of steps that a sheet can have.
+pub record SheetOf (s : List ℕ) (xs : List Step) : Type 0 where
+  pub bytes : s ≡ writeSteps xs
+  pub within : All StepWithin xs
+  pub few : length xs ≤ maxSteps

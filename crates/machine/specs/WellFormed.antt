@@ -5,8 +5,8 @@ use mathlib.Core.List.{List, [], _∷_}
 use mathlib.Core.Path.{_≡_}
 use lib.ListN.{length}
 use Rattle.format.specs.Outcome.{Outcome, accepted, refused}
-use Rattle.machine.specs.SheetLimits.{scratchBytes}
-use Rattle.machine.specs.Steps.{Step, opcodeOf, leaves}
+use Rattle.machine.specs.SheetLimits.{maxStack, scratchBytes}
+use Rattle.machine.specs.Steps.{Step, opcodeOf, takes, leaves}
 use Rattle.machine.specs.Sheet.{skim}
 
 -- The term well-formed, of a sheet's bytes and of the two buffers, with the steps that the reading gives: the reading's own refusals
@@ -23,3 +23,8 @@ heightAfter (x ∷ xs) h = heightAfter xs (leaves (opcodeOf x) h)
 
 abbrev pub typesLeft : List Step → ℕ
 typesLeft xs = heightAfter xs 0
+
+-- No step lacks types or lays down one too many, from height h on.
+abbrev pub Heights : List Step → ℕ → Type 0
+Heights [] h = Unit {0}
+Heights (x ∷ xs) h = (takes (opcodeOf x) ≤ h) × (leaves (opcodeOf x) h ≤ maxStack) × Heights xs (leaves (opcodeOf x) h)

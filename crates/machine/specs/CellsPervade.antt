@@ -12,9 +12,9 @@ use Rattle.model.specs.Types.{Dim, static, unknown}
 use Rattle.rules.specs.Sizes.{isOne}
 use Rattle.rules.specs.Pervade.{againstAbsent, together, Pervaded, sizes, clash, thenRest, pervadeDims}
 use Rattle.rules.specs.PervadeLaws.{together-unknown, together-unfilled, together-comm, thenRest-sizes}
 use Rattle.machine.specs.Real.{RealShape, realDim, consBoth, realPervade}
-use Rattle.demand.specs.Cells.{Named, unnamed, only, differ, Cell, cell, named, joinNamed, joinCell, cellStatic, cellOf, namedBy, joinNamed-comm, joinCell-comm}
-use Rattle.demand.specs.PervadeHolds.{consBoth-some}
+use Rattle.machine.specs.Cells.{Named, unnamed, only, differ, Cell, cell, named, joinNamed, joinCell, cellStatic, cellOf, namedBy, joinNamed-comm, joinCell-comm}
+use Rattle.machine.specs.PervadeHolds.{consBoth-some}
 
 -- ---- pervading joins cells
 

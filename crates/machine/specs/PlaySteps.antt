@@ -14,20 +14,13 @@ use Rattle.model.specs.Types.{Shape, Scalar, Ty, ty, shapeOf}
 use Rattle.model.specs.Within.{All}
 use Rattle.rules.specs.Pervade.{pervade}
 use Rattle.rules.specs.Scalars.{union}
 use Rattle.machine.specs.SheetLimits.{maxStack}
-use Rattle.machine.specs.Steps.{Step, put, row, pervading, join, validating, opcodeOf, takes, leaves, flagByte}
+use Rattle.machine.specs.Steps.{Step, put, row, pervading, join, validating, opcodeOf, flagByte}
 use Rattle.machine.specs.Run.{Answer, gives, refuses, following, orRefuses, Stack, onto, pervadeTypes, step, steps}
-use Rattle.machine.specs.WellFormed.{heightAfter}
+use Rattle.machine.specs.WellFormed.{heightAfter, Heights}
 use Rattle.machine.specs.Real.{RealShape, realPervade, Feed, Feeds, realStep, ontoReal, goesOn, realRun}
-use Rattle.demand.specs.Conditions.{PutOrPervade, puts}
-use Rattle.demand.specs.Play.{Move, lay, mix, laid, Enough, heightLeft, mixed, play}
-
--- ---- heights
-
--- No step lacks types or lays down one too many, from height h on.
-abbrev pub Heights : List Step → ℕ → Type 0
-Heights [] h = Unit {0}
-Heights (x ∷ xs) h = (takes (opcodeOf x) ≤ h) × (leaves (opcodeOf x) h ≤ maxStack) × Heights xs (leaves (opcodeOf x) h)
+use Rattle.machine.specs.Conditions.{PutOrPervade, puts}
+use Rattle.machine.specs.Play.{Move, lay, mix, laid, Enough, heightLeft, mixed, play}
 
 -- a flag byte 0 fills neither side
 pub unfilled : (f g : Bool) → flagByte f g ≡ 0 → (f ≡ false) × (g ≡ false)

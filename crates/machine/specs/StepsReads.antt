@@ -17,14 +17,14 @@ use Rattle.format.specs.Reader.{Read, got, stopped, Reader, andThen, _>>=_, giv
 use Rattle.format.specs.ReaderLaws.{Reads, drop-past, reads-give, reads-bind, reads-byte, reads-need, reads-judged, reads-last}
 use Rattle.format.specs.Records.{Mark, mark, markBytes, isCount, orStop, readType, writeTy}
 use Rattle.format.specs.WriteRead.{write-read}
 use Rattle.machine.specs.SheetLimits.{maxSteps, maxStack}
 use Rattle.machine.specs.Steps.{Step, put, row, pervading, join, validating, Opcode, aPut, aRow, aPervading, aJoin, aValidating, opcodeOf, markOf, opcodes, takes, leaves, flagByte, maxFlag, fillsTop, fillsBelow, handsIn, writeStep, writeSteps}
 use Rattle.machine.specs.Run.{Answer, gives, refuses, following, Stack, step, steps}
 use Rattle.machine.specs.Sheet.{opcodeIn, placed, opcodeFrom, argumentFrom, stepFrom, workFrom, toEnd, sheetFrom, skimFrom}
-use Rattle.demand.specs.Conditions.{StepWithin}
-use Rattle.demand.specs.PlaySteps.{Heights}
-use Rattle.demand.specs.SheetWorked.{Same, same-after, step-height, at-end, not-at-end, workAndMore}
-use Rattle.demand.specs.StepsTook.{stepAndMore}
+use Rattle.machine.specs.Steps.{StepWithin}
+use Rattle.machine.specs.WellFormed.{Heights}
+use Rattle.machine.specs.SheetWorked.{Same, same-after, step-height, at-end, not-at-end, workAndMore}
+use Rattle.machine.specs.StepsTook.{stepAndMore}
 
 -- ---- one step
 

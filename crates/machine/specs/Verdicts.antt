@@ -11,17 +11,17 @@ use Rattle.model.specs.Refusals.{unpervaded}
 use Rattle.model.specs.Types.{Shape, Ty, shapeOf}
 use Rattle.model.specs.Within.{All}
 use Rattle.rules.specs.Pervade.{pervade}
 use Rattle.machine.specs.Steps.{Step}
 use Rattle.machine.specs.Run.{Answer, gives, refuses, Stack, steps}
-use Rattle.machine.specs.WellFormed.{typesLeft}
+use Rattle.machine.specs.WellFormed.{typesLeft, Heights}
 use Rattle.machine.specs.Real.{RealShape, realPervade, Feeds, FitsPuts, realRun, Through}
-use Rattle.demand.specs.Cells.{Named, unnamed, differ, named, joinNamed, joinCell, cell, cell-sure, real-sure}
-use Rattle.demand.specs.CellsPervade.{differ-realPervade}
-use Rattle.demand.specs.Play.{laid, play, gather, gather-play, play-one}
-use Rattle.demand.specs.Conditions.{PutOrPervade}
-use Rattle.demand.specs.PlaySteps.{Heights, moves, shapes, verdict, steps-play, enough-moves, feedMoves, real-play, enough-feeds}
-use Rattle.demand.specs.Asked.{named-commutes, cell-commutes, openingOf, cellAt, namedAt, said, asked, asked-said, pervade-cell, pervade-named, pervade-differ, realAt, realAsked, realPervade-named, asked-differ}
-use Rattle.demand.specs.Witness.{witness, fits-witness, bound, witness-agrees}
+use Rattle.machine.specs.Cells.{Named, unnamed, differ, named, joinNamed, joinCell, cell, cell-sure, real-sure}
+use Rattle.machine.specs.CellsPervade.{differ-realPervade}
+use Rattle.machine.specs.Play.{laid, play, gather, gather-play, play-one}
+use Rattle.machine.specs.Conditions.{PutOrPervade}
+use Rattle.machine.specs.PlaySteps.{moves, shapes, verdict, steps-play, enough-moves, feedMoves, real-play, enough-feeds}
+use Rattle.machine.specs.Asked.{named-commutes, cell-commutes, openingOf, cellAt, namedAt, said, asked, asked-said, pervade-cell, pervade-named, pervade-differ, realAt, realAsked, realPervade-named, asked-differ}
+use Rattle.machine.specs.Witness.{witness, fits-witness, bound, witness-agrees}
 
 -- A list of steps that the second half of demand 3 is about.
 pub record Pervadings (xs : List Step) : Type 0 where

@@ -10,13 +10,13 @@ use lib.ListN.{length, replicate, getElem?, length-append, length-map, length-re
 use lib.Dec.{ltb}
 use borrow.Author.Tests.{ltb-true, ltb-false}
 use Rattle.model.specs.Types.{Dim, static, unknown, Shape, shape, Ty, shapeOf}
 use Rattle.machine.specs.Steps.{Step, put, row, pervading, join, validating}
 use Rattle.machine.specs.Real.{RealShape, fits, Feeds, FitsPuts, Kept, theTop}
-use Rattle.demand.specs.Fitting.{FitAll, Follows, Fits, of-fits}
-use Rattle.demand.specs.Cells.{Named, unnamed, differ, named, joinNamed, cellOf, namedBy, joinNamed-comm, real-sure}
-use Rattle.demand.specs.Play.{laid}
-use Rattle.demand.specs.PlaySteps.{moves, feedMoves}
-use Rattle.demand.specs.Asked.{openingOf, namedAt, asked, realAt, realAsked}
+use Rattle.machine.specs.Fitting.{FitAll, Follows, Fits, of-fits}
+use Rattle.machine.specs.Cells.{Named, unnamed, differ, named, joinNamed, cellOf, namedBy, joinNamed-comm, real-sure}
+use Rattle.machine.specs.Play.{laid}
+use Rattle.machine.specs.PlaySteps.{moves, feedMoves}
+use Rattle.machine.specs.Asked.{openingOf, namedAt, asked, realAt, realAsked}
 
 -- ---- the real shapes
 

@@ -27,12 +27,12 @@ use Rattle.rules.specs.TypesLaws.{joinTypes-within}
 use Rattle.validation.specs.CheckShape.{unsided}
 use Rattle.validation.specs.Validate.{validate}
 use Rattle.validation.specs.ValidateLaws.{validate-within}
 use Rattle.machine.specs.SheetLimits.{maxStack}
 use Rattle.machine.specs.Steps.{Step, put, row, pervading, join, validating}
 use Rattle.machine.specs.Run.{Answer, gives, refuses, following, orRefuses, aside, Stack, onto, pervadeTypes, step, steps}
 use Rattle.machine.specs.Call.{writeTypes}
-use Rattle.demand.specs.Conditions.{StepWithin}
-use Rattle.demand.specs.StepsHold.{following-gives, orRefuses-gives, aside-gives, cond-gives}
+use Rattle.machine.specs.Steps.{StepWithin}
+use Rattle.machine.specs.StepsHold.{following-gives, orRefuses-gives, aside-gives, cond-gives}
 
 -- ---- one step
 

@@ -9,10 +9,10 @@ use mathlib.Core.Path.{_≡_, refl, sym, _∙_, ap}
 use lib.ListN.{length}
 use Rattle.model.specs.Types.{Dim, Shape, shape}
 use Rattle.rules.specs.Pervade.{pervadeDims, pervadeClosing, closedBy, pervade}
-use Rattle.demand.specs.PervadeHolds.{closedBy-some}
-use Rattle.demand.specs.Play.{Move, lay, mix, laid, mixed, mixed-some, play, gather, past-first}
-use Rattle.demand.specs.Asked.{closingOf}
-use Rattle.demand.specs.Endings.{Ending, addEnding, noEnding, endingOf, close, ending-commutes, endings, endings-add, close-add, close-of}
+use Rattle.machine.specs.PervadeHolds.{closedBy-some}
+use Rattle.machine.specs.Play.{Move, lay, mix, laid, mixed, mixed-some, play, gather, past-first}
+use Rattle.machine.specs.Asked.{closingOf}
+use Rattle.machine.specs.Endings.{Ending, addEnding, noEnding, endingOf, close, ending-commutes, endings, endings-add, close-add, close-of}
 
 abbrev total : List Ending → Ending
 total l = gather noEnding addEnding (λ g. g) l

@@ -8,10 +8,10 @@ use mathlib.Core.Option.{Option, none, some}
 use mathlib.Core.Path.{_≡_, refl, sym, _∙_, ap}
 use Rattle.model.specs.Types.{Dim, Shape, shape}
 use Rattle.rules.specs.Pervade.{pervadeDims, pervadeClosing, closedBy, pervade}
-use Rattle.demand.specs.Bare.{isOpen}
-use Rattle.demand.specs.PervadeHolds.{closedBy-some}
-use Rattle.demand.specs.Play.{Move, lay, mix, laid, mixed, mixed-some, play, gather, Commutes, past-first}
-use Rattle.demand.specs.Asked.{closingOf}
+use Rattle.machine.specs.Bare.{isOpen}
+use Rattle.machine.specs.PervadeHolds.{closedBy-some}
+use Rattle.machine.specs.Play.{Move, lay, mix, laid, mixed, mixed-some, play, gather, Commutes, past-first}
+use Rattle.machine.specs.Asked.{closingOf}
 
 -- ---- endings
 

@@ -16,11 +16,11 @@ use Rattle.format.specs.ReaderLaws.{Bytes, Took, took-none, took-join, split, n
 use Rattle.format.specs.Records.{Mark, mark, markBytes, isCount, orStop, readType, writeTy}
 use Rattle.format.specs.ReadWrite.{read-write}
 use Rattle.format.specs.Outcome.{Outcome, accepted, refused}
 use Rattle.machine.specs.SheetLimits.{maxSteps, maxStack}
 use Rattle.machine.specs.Steps.{Step, put, row, pervading, join, validating, Opcode, aPut, aRow, aPervading, aJoin, aValidating, opcodeOf, markOf, opcodes, takes, leaves, flagByte, maxFlag, fillsTop, fillsBelow, handsIn, writeStep, writeSteps}
 use Rattle.machine.specs.Sheet.{isMark, opcodeIn, opcodeFrom, argumentFrom, stepFrom, toEnd, skimFrom, outcomeOf, skim}
-use Rattle.demand.specs.Conditions.{StepWithin, SheetOf}
-use Rattle.demand.specs.PlaySteps.{Heights}
+use Rattle.machine.specs.Steps.{StepWithin, SheetOf}
+use Rattle.machine.specs.WellFormed.{Heights}
 
 -- ---- marks and flags
 

@@ -11,9 +11,9 @@ use Rattle.model.specs.Types.{Dim, static, unknown, Shape, shape}
 use Rattle.rules.specs.Sizes.{isOne}
 use Rattle.rules.specs.Pervade.{againstAbsent, together, Pervaded, sizes, clash, thenRest, pervadeDims, pervadeClosing, closedBy, pervade}
 use Rattle.rules.specs.PervadeLaws.{together-unknown, together-unfilled, together-comm, thenRest-sizes, pervadeDims-comm}
 use Rattle.machine.specs.Real.{RealShape, fits, realDim, consBoth, realPervade}
-use Rattle.demand.specs.Fitting.{Fit}
-use Rattle.demand.specs.Bare.{isOpen, BareClosing, Bare, Rest, Begins, begins-of, of-begins}
+use Rattle.machine.specs.Fitting.{Fit}
+use Rattle.machine.specs.Bare.{isOpen, BareClosing, Bare, Rest, Begins, begins-of, of-begins}
 
 -- ---- real pervading
 

@@ -1,57 +1,16 @@
 -- The words of demand 3 as predicates of a list of steps. Those of a row or a join look at the type that it takes, which is the one that
 -- the rules give there from the steps before.
-use Prim.Native.Nat.{ℕ, _+_, _≤_}
+use Prim.Native.Nat.{ℕ, _+_}
 use mathlib.Core.Bool.{Bool, true, false, cond}
 use mathlib.Core.List.{List, [], _∷_}
 use mathlib.Core.Option.{Option, none, some}
 use mathlib.Core.Path.{_≡_}
-use lib.ListN.{length, getElem?}
-use Rattle.model.specs.Refusals.{unpervaded}
+use lib.ListN.{length}
 use Rattle.model.specs.Types.{Shape, shape, Scalar, plain, boxAny, boxAll, boxDef, Ty, ty, shapeOf}
-use Rattle.model.specs.Within.{All, Within}
-use Rattle.format.specs.Outcome.{Outcome, accepted, refused}
 use Rattle.rules.specs.Sizes.{Order, less, same, more}
 use Rattle.rules.specs.Order.{compare}
-use Rattle.machine.specs.SheetLimits.{maxSteps}
-use Rattle.machine.specs.Steps.{Step, put, row, pervading, join, validating, flagByte, writeSteps}
-use Rattle.machine.specs.Run.{Answer, gives, refuses, Stack, step}
-use Rattle.machine.specs.Call.{tally, Called, called, writeTypes, zeroed, atFront, sheetCall}
-use Rattle.machine.specs.WellFormed.{WellFormed, typesLeft}
-use Rattle.machine.specs.Real.{RealShape, Holds}
-
--- ---- lists of steps as sheets
-
--- The types that a step hands in keep the limits of their records.
-abbrev pub StepWithin : Step → Type 0
-StepWithin (put t) = Within t
-StepWithin row = Unit {0}
-StepWithin (pervading f g) = Unit {0}
-StepWithin join = Unit {0}
-StepWithin (validating spec) = Within spec
-
--- Some bytes are those of a list of steps that a sheet can have.
-pub record SheetOf (s : List ℕ) (xs : List Step) : Type 0 where
-  pub bytes : s ≡ writeSteps xs
-  pub within : All StepWithin xs
-  pub few : length xs ≤ maxSteps
-
--- ---- what the call answers
-
--- The call accepts the sheet, and these are the types left, bottom first: the answer has their number and their bytes, which stand at
--- the front of the result.
-pub record Leaves (s result scratch : List ℕ) (ts : List Ty) : Type 0 where
-  pub within : All Within ts
-  pub outcome : sheetCall s result scratch ≡ called (accepted (tally (length ts) (length (writeTypes ts)))) (atFront (writeTypes ts) result) (zeroed scratch)
-
--- The call answers mismatch, refusal 8, at some place.
-pub record Mismatched (s result scratch : List ℕ) : Type 0 where
-  pub place : ℕ
-  pub outcome : sheetCall s result scratch ≡ called (refused unpervaded place) result (zeroed scratch)
-
--- The term verdict: accepted, or the number of a refusal, the place aside.
-abbrev pub verdictOf : Called → Answer (Unit {0})
-verdictOf (called (accepted n) result scratch) = gives tt
-verdictOf (called (refused k p) result scratch) = refuses k
+use Rattle.machine.specs.Steps.{Step, put, row, pervading, join, validating, flagByte}
+use Rattle.machine.specs.Run.{gives, Stack, step}
 
 -- ---- the first half
 
@@ -116,18 +75,6 @@ abbrev pub Along : (Step → Stack → Type 0) → List Step → Stack → Type 
 Along P [] st = Unit {0}
 Along P (x ∷ xs) st = P x st × ((st₁ : Stack) → step x st ≡ gives st₁ → Along P xs st₁)
 
--- All conditions of the first half, of a list that is worked in order from an empty stack.
-pub record FirstConditions (xs : List Step) : Type 0 where
-  pub names-no-closing : All NamesNoClosing xs
-  pub fills-nothing : All FillsNothing xs
-  pub rows-no-open-def : Along RowsNoOpenDef xs []
-  pub joins-alike : Along JoinsAlike xs []
-
--- "each type left holds the shape of the real array there": equally many, and the n-th from the bottom holds the n-th from the bottom.
-pub record EachHolds (ts : List Ty) (rs : List RealShape) : Type 0 where
-  pub equally-many : length ts ≡ length rs
-  pub nth : (n : ℕ) (t : Ty) (r : RealShape) → getElem? ts n ≡ some t → getElem? rs n ≡ some r → Holds t r
-
 -- ---- the second half
 
 -- "puts and unfilled pervadings".
@@ -167,9 +114,3 @@ SamePuts xs ys = (t : Ty) → count sameType t (puts xs) ≡ count sameType t (p
 abbrev pub closers : List Ty → ℕ
 closers [] = 0
 closers (t ∷ l) = cond (namesClosing (shapeOf t)) 1 0 + closers l
-
--- All conditions of the second half: "a list of puts and unfilled pervadings that makes a well-formed sheet leaving one type".
-pub record SecondConditions (s result scratch : List ℕ) (xs : List Step) : Type 0 where
-  pub well-formed : WellFormed s result scratch xs
-  pub puts-and-pervadings : All PutOrPervade xs
-  pub one-left : typesLeft xs ≡ 1

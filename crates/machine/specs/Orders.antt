@@ -12,17 +12,17 @@ use Rattle.rules.specs.Sizes.{Order, less, same, more}
 use Rattle.rules.specs.Order.{compare}
 use Rattle.rules.specs.OrderLaws.{compare-refl, compare-same}
 use Rattle.rules.specs.Pervade.{pervade}
 use Rattle.machine.specs.Steps.{Step}
 use Rattle.machine.specs.Run.{Answer, gives, refuses, steps}
-use Rattle.demand.specs.Conditions.{namesClosing, puts, isSame, sameType, SamePuts, closers}
-use Rattle.demand.specs.Cells.{Cell, cell, unnamed, joinCell, named, differ, cells-same}
-use Rattle.demand.specs.Play.{Commutes, gather, laid, play}
-use Rattle.demand.specs.PlaySteps.{moves, laid-moves}
-use Rattle.demand.specs.Asked.{cell-commutes, openingOf, closingOf, cellAt, said, asked, asked-said}
-use Rattle.demand.specs.Verdicts.{Pervadings, Checked, agrees, differs, checked, agreed}
-use Rattle.demand.specs.Endings.{Ending, noEnding, addEnding, endingOf, close, ending-commutes, endings, endings-add}
-use Rattle.demand.specs.EndingsPlay.{endingsOf, closing-told}
-use Rattle.demand.specs.Counting.{gather-counts}
+use Rattle.machine.specs.Conditions.{namesClosing, puts, isSame, sameType, SamePuts, closers}
+use Rattle.machine.specs.Cells.{Cell, cell, unnamed, joinCell, named, differ, cells-same}
+use Rattle.machine.specs.Play.{Commutes, gather, laid, play}
+use Rattle.machine.specs.PlaySteps.{moves, laid-moves}
+use Rattle.machine.specs.Asked.{cell-commutes, openingOf, closingOf, cellAt, said, asked, asked-said}
+use Rattle.machine.specs.Verdicts.{Pervadings, Checked, agrees, differs, checked, agreed}
+use Rattle.machine.specs.Endings.{Ending, noEnding, addEnding, endingOf, close, ending-commutes, endings, endings-add}
+use Rattle.machine.specs.EndingsPlay.{endingsOf, closing-told}
+use Rattle.machine.specs.Counting.{gather-counts}
 
 -- ---- the same puts gather to the same
 

@@ -17,12 +17,12 @@ use Rattle.rules.specs.Pervade.{pervade}
 use Rattle.rules.specs.Types.{intoRow, joinTypes}
 use Rattle.validation.specs.CheckShape.{unsided}
 use Rattle.validation.specs.Validate.{validate}
 use Rattle.machine.specs.SheetLimits.{maxSteps, maxStack}
 use Rattle.machine.specs.Steps.{Step, put, row, pervading, join, validating, opcodeOf, takes, leaves}
 use Rattle.machine.specs.Run.{Answer, gives, refuses, following, aside, Stack, onto, pervadeTypes, step, steps}
 use Rattle.machine.specs.Sheet.{placed, stepFrom, workFrom, toEnd, sheetFrom, skimFrom}
-use Rattle.demand.specs.StepsHold.{following-gives}
-use Rattle.demand.specs.StepsTook.{ended-or, stepAndMore}
+use Rattle.machine.specs.StepsHold.{following-gives}
+use Rattle.machine.specs.StepsTook.{ended-or, stepAndMore}
 
 -- ---- heights
 

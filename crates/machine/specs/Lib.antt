@@ -6,6 +6,8 @@ pub mod Call
 pub mod WellFormed
 pub mod Real
 pub mod Conditions
+pub mod Examples
+pub mod SheetSteps
 pub mod StepsTook
 pub mod StepsReads
 pub mod SheetWorked

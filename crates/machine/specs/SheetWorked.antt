@@ -8,7 +8,6 @@ use mathlib.Core.Option.{Option, none, some}
 use mathlib.Core.Path.{_≡_, refl, sym, _∙_, ap}
 use lib.ListN.{length}
 use lib.Dec.{ltb}
-use borrow.Author.Tests.{lt-ltb, le-ltb, ltb-true, ltb-false}
 use Rattle.model.specs.Refusals.{unpervaded, underflow, overflow}
 use Rattle.model.specs.Types.{Ty, ty}
 use Rattle.format.specs.Reader.{Read, got, stopped, Reader, andThen, _>>=_, give, stop, here}
@@ -21,6 +20,7 @@ use Rattle.machine.specs.SheetLimits.{maxSteps, maxStack}
 use Rattle.machine.specs.Steps.{Step, put, row, pervading, join, validating, opcodeOf, takes, leaves}
 use Rattle.machine.specs.Run.{Answer, gives, refuses, following, aside, Stack, onto, pervadeTypes, step, steps}
 use Rattle.machine.specs.Sheet.{placed, stepFrom, workFrom, toEnd, sheetFrom, skimFrom}
+use Rattle.machine.specs.SheetSteps.{toEnd-end, toEnd-more}
 use Rattle.machine.specs.StepsHold.{following-gives}
 use Rattle.machine.specs.StepsTook.{ended-or, stepAndMore}
 
@@ -65,27 +65,21 @@ module _ (s : List ℕ) where
     st₁ ← here (workFrom s st)
     sheetFrom s most st₁
 
-  pub at-end : {A : Type 0} (a : A) (more : Reader A) (at : ℕ) → length s ≤ at → toEnd s a more at ≡ got a at
-  at-end a more at h = rw (le-ltb at (length s) h)
-
-  pub not-at-end : {A : Type 0} (a : A) (more : Reader A) (at : ℕ) → at < length s → toEnd s a more at ≡ more at
-  not-at-end a more at h = rw (lt-ltb at (length s) h)
-
   pub skim-worked : (most : ℕ) (st : Stack) (at : ℕ) (xs : List Step) (n : ℕ) → skimFrom s most (length st) at ≡ got xs n → Same (steps xs st) (sheetFrom s most st at)
   unfolding skimFrom sheetFrom workFrom steps
   skim-worked zero st at xs n e =
       ended-or s [] (here (stop overflow)) at e
-      (λ end x y. rw (← x) (at, at-end st (here (stop overflow)) at end))
+      (λ end x y. rw (← x) (at, toEnd-end s st (here (stop overflow)) at end))
       (λ _ e₁. let z : _≡_ {A = ℕ} 0 1 = cc in absurd (omega arith))
   skim-worked (suc most) st at xs n e =
       ended-or s [] (stepAndMore s most (length st)) at e
-      (λ end x y. rw (← x) (at, at-end st (workAndMore most st) at end))
+      (λ end x y. rw (← x) (at, toEnd-end s st (workAndMore most st) at end))
       (λ more e₁.
-          split (stepFrom s (length st) at at) e₁ λ x m e₂ e₃.
-          split (skimFrom s most (leaves (opcodeOf x) (length st)) m) e₃ λ ys n′ e₄ e₅.
-          gave e₅ λ w y.
-          rw (← w, not-at-end st (workAndMore most st) at more, e₂)
-          (same-after s most ys (step x st) at m λ st₁ k. skim-worked most st₁ m ys n′ (rw (step-height x st st₁ k) e₄)))
+      split (stepFrom s (length st) at at) e₁ λ x m e₂ e₃.
+      split (skimFrom s most (leaves (opcodeOf x) (length st)) m) e₃ λ ys n′ e₄ e₅.
+      gave e₅ λ w y.
+      rw (← w, toEnd-more s st (workAndMore most st) at more, e₂)
+      (same-after s most ys (step x st) at m λ st₁ k. skim-worked most st₁ m ys n′ (rw (step-height x st st₁ k) e₄)))
 
   -- ---- an accepted sheet is read to the end
 
@@ -97,14 +91,14 @@ module _ (s : List ℕ) where
   unfolding skimFrom sheetFrom workFrom steps
   accepted-skims zero st st₁ at n e =
       ended-or s st (here (stop overflow)) at e
-      (λ end x y. ([], at-end [] (here (stop overflow)) at end ∙ ap (got []) y, ap gives x))
+      (λ end x y. ([], toEnd-end s [] (here (stop overflow)) at end ∙ ap (got []) y, ap gives x))
       (λ _ e₁. let z : _≡_ {A = ℕ} 0 1 = cc in absurd (omega arith))
   accepted-skims (suc most) st st₁ at n e =
       ended-or s st (workAndMore most st) at e
-      (λ end x y. ([], at-end [] (stepAndMore s most (length st)) at end ∙ ap (got []) y, ap gives x))
+      (λ end x y. ([], toEnd-end s [] (stepAndMore s most (length st)) at end ∙ ap (got []) y, ap gives x))
       (λ more e₁.
-          split (workFrom s st at at) e₁ λ st₂ m₂ e₂ e₃.
-          split (stepFrom s (length st) at at) e₂ λ x m e₄ e₅.
-          placed-got (step x st) at m e₅ λ k w.
-          let (xs, e₆, e₇) = accepted-skims most st₂ st₁ m₂ n e₃ in
-          (x ∷ xs, not-at-end [] (stepAndMore s most (length st)) at more ∙ rw (e₄, w, ← step-height x st st₂ k, e₆), rw k e₇))
+      split (workFrom s st at at) e₁ λ st₂ m₂ e₂ e₃.
+      split (stepFrom s (length st) at at) e₂ λ x m e₄ e₅.
+      placed-got (step x st) at m e₅ λ k w.
+      let (xs, e₆, e₇) = accepted-skims most st₂ st₁ m₂ n e₃ in
+      (x ∷ xs, toEnd-more s [] (stepAndMore s most (length st)) at more ∙ rw (e₄, w, ← step-height x st st₂ k, e₆), rw k e₇))

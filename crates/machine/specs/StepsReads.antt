@@ -4,7 +4,7 @@ use Prim.Native.Nat.{ℕ, zero, suc, _+_, _-_, _≤_, _<_}
 use native.Mathlib.Omega.{arith}
 use native.Mathlib.Nat.{add-assoc}
 use mathlib.Core.Bool.{Bool, true, false, cond}
-use mathlib.Core.List.{List, [], _∷_, _++_, append-assoc}
+use mathlib.Core.List.{List, [], _∷_, _++_, append-assoc, append-cancel-left}
 use mathlib.Core.Option.{Option, none, some}
 use mathlib.Core.Path.{_≡_, refl, sym, _∙_, ap}
 use lib.ListN.{length, drop, length-drop, length-append}
@@ -23,7 +23,8 @@ use Rattle.machine.specs.Run.{Answer, gives, refuses, following, Stack, 
 use Rattle.machine.specs.Sheet.{opcodeIn, placed, opcodeFrom, argumentFrom, stepFrom, workFrom, toEnd, sheetFrom, skimFrom}
 use Rattle.machine.specs.Steps.{StepWithin}
 use Rattle.machine.specs.WellFormed.{Heights}
-use Rattle.machine.specs.SheetWorked.{Same, same-after, step-height, at-end, not-at-end, workAndMore}
+use Rattle.machine.specs.SheetWorked.{Same, same-after, step-height, workAndMore}
+use Rattle.machine.specs.SheetSteps.{toEnd-end, toEnd-more}
 use Rattle.machine.specs.StepsTook.{stepAndMore}
 
 -- ---- one step
@@ -132,20 +133,40 @@ module _ (s : List ℕ) where
   -- The bytes of a list of steps get what the steps get.
   pub written-worked : (xs : List Step) (st : Stack) (most at : ℕ) → length xs ≤ most → length st ≤ maxStack → All StepWithin xs → drop at s ≡ writeSteps xs → Same (steps xs st) (sheetFrom s most st at)
   unfolding writeSteps steps sheetFrom
-  written-worked [] st zero at l h w e = (at, at-end s st (here (stop overflow)) at (omega (arith, length-drop at s, ap length e)))
-  written-worked [] st (suc most) at l h w e = (at, at-end s st (workAndMore s most st) at (omega (arith, length-drop at s, ap length e)))
+  written-worked [] st zero at l h w e = (at, toEnd-end s st (here (stop overflow)) at (omega (arith, length-drop at s, ap length e)))
+  written-worked [] st (suc most) at l h w e = (at, toEnd-end s st (workAndMore s most st) at (omega (arith, length-drop at s, ap length e)))
   written-worked (x ∷ xs) st zero at l h w e = absurd (omega arith)
   written-worked (x ∷ xs) st (suc most) at l h w e =
-      rw (not-at-end s st (workAndMore s most st) at (longer x at (writeSteps xs) e), worked st x at at (writeSteps xs) h (w .0) e)
+      rw (toEnd-more s st (workAndMore s most st) at (longer x at (writeSteps xs) e), worked st x at at (writeSteps xs) h (w .0) e)
       (same-after s most xs (step x st) at (at + length (writeStep x)) λ st₁ k.
-          written-worked xs st₁ most (at + length (writeStep x)) (omega arith) (step-room x st st₁ h k) (w .1) (drop-past s at (writeStep x) (writeSteps xs) e))
+      written-worked xs st₁ most (at + length (writeStep x)) (omega arith) (step-room x st st₁ h k) (w .1) (drop-past s at (writeStep x) (writeSteps xs) e))
 
   -- Read to the end, they are given back.
   pub written-skims : (xs : List Step) (h most at : ℕ) → length xs ≤ most → Heights xs h → All StepWithin xs → drop at s ≡ writeSteps xs → (n : ℕ) × (skimFrom s most h at ≡ got xs n)
   unfolding writeSteps skimFrom
-  written-skims [] h zero at l k w e = (at, at-end s [] (here (stop overflow)) at (omega (arith, length-drop at s, ap length e)))
-  written-skims [] h (suc most) at l k w e = (at, at-end s [] (stepAndMore s most h) at (omega (arith, length-drop at s, ap length e)))
+  written-skims [] h zero at l k w e = (at, toEnd-end s [] (here (stop overflow)) at (omega (arith, length-drop at s, ap length e)))
+  written-skims [] h (suc most) at l k w e = (at, toEnd-end s [] (stepAndMore s most h) at (omega (arith, length-drop at s, ap length e)))
   written-skims (x ∷ xs) h zero at l k w e = absurd (omega arith)
   written-skims (x ∷ xs) h (suc most) at l k w e =
       let (n, r) = written-skims xs (leaves (opcodeOf x) h) most (at + length (writeStep x)) (omega arith) (k .2) (w .1) (drop-past s at (writeStep x) (writeSteps xs) e) in
-      (n, not-at-end s [] (stepAndMore s most h) at (longer x at (writeSteps xs) e) ∙ rw (reads-step s x h at (w .0) (k .0) (k .1) .run at (writeSteps xs) e, r))
+      (n, toEnd-more s [] (stepAndMore s most h) at (longer x at (writeSteps xs) e) ∙ rw (reads-step s x h at (w .0) (k .0) (k .1) .run at (writeSteps xs) e, r))
+
+-- ---- steps are told by their bytes
+
+takes-few : (c : Opcode) → takes c ≤ 2
+takes-few aPut = omega arith
+takes-few aRow = omega arith
+takes-few aPervading = omega arith
+takes-few aJoin = omega arith
+takes-few aValidating = omega arith
+
+pub writeSteps-same : (xs ys : List Step) → All StepWithin xs → All StepWithin ys → writeSteps xs ≡ writeSteps ys → xs ≡ ys
+unfolding writeSteps
+writeSteps-same [] [] v w e = refl
+writeSteps-same [] (y ∷ ys) v w e = absurd (omega (arith, longer [] y 0 (writeSteps ys) e))
+writeSteps-same (x ∷ xs) [] v w e = absurd (omega (arith, longer [] x 0 (writeSteps xs) (sym e)))
+writeSteps-same (x ∷ xs) (y ∷ ys) v w e =
+    let a = reads-step (writeStep x ++ writeSteps xs) x 2 0 (v .0) (takes-few (opcodeOf x)) (omega (arith, takes-few (opcodeOf x))) .run 0 (writeSteps xs) refl in
+    let b = reads-step (writeStep x ++ writeSteps xs) y 2 0 (w .0) (takes-few (opcodeOf y)) (omega (arith, takes-few (opcodeOf y))) .run 0 (writeSteps ys) e in
+    let z : x ≡ y = cc in
+    rw (z, writeSteps-same xs ys (v .1) (w .1) (append-cancel-left (writeStep y) (writeSteps xs) (writeSteps ys) (rw z at e)))

@@ -140,19 +140,19 @@ module _ (s : List ℕ) (small : Bytes s) where
       ended-or s [] (stepAndMore s most h) at e
       (λ end x y. rw (← x, ← y) record { bytes = took-none; within = tt; heights = tt; few = omega arith; ended = end })
       (λ _ e₁.
-          split (stepFrom s h at at) e₁ λ x m e₂ e₃.
-          split (skimFrom s most (leaves (opcodeOf x) h) m) e₃ λ ys n′ e₄ e₅.
-          gave e₅ λ w y.
-          let k = took-step s small h at at x m e₂ in
-          let r = took-steps most (leaves (opcodeOf x) h) m ys n′ e₄ in
-          let few = r .few in
-          rw (← w, ← y) record {
-            bytes = took-join (k .bytes) (r .bytes);
-            within = (k .within, r .within);
-            heights = (k .enough, k .room, r .heights);
-            few = omega arith;
-            ended = r .ended;
-          })
+      split (stepFrom s h at at) e₁ λ x m e₂ e₃.
+      split (skimFrom s most (leaves (opcodeOf x) h) m) e₃ λ ys n′ e₄ e₅.
+      gave e₅ λ w y.
+      let k = took-step s small h at at x m e₂ in
+      let r = took-steps most (leaves (opcodeOf x) h) m ys n′ e₄ in
+      let few = r .few in
+      rw (← w, ← y) record {
+        bytes = took-join (k .bytes) (r .bytes);
+        within = (k .within, r .within);
+        heights = (k .enough, k .room, r .heights);
+        few = omega arith;
+        ended = r .ended;
+      })
 
 -- Steps that were read to the end are all of the bytes.
 pub skim-took : (s : List ℕ) → Bytes s → (xs : List Step) → skim s ≡ accepted xs → SheetOf s xs × Heights xs 0

@@ -52,8 +52,8 @@ checked xs p =
     play-one named-commutes namedAt differ (λ x. refl) (pervade false false) pervade-named pervade-differ (moves xs) enough (left ∙ p .one)
     (λ e (i, w). differs i (no-type (steps xs []) (same ∙ ap verdict e)) w)
     (λ x e w.
-        one-type (steps xs []) x (same ∙ ap verdict e) λ t f g.
-        agrees t f (rw g e) λ i. rw g (cell-one i x e))
+    one-type (steps xs []) x (same ∙ ap verdict e) λ t f g.
+    agrees t f (rw g e) λ i. rw g (cell-one i x e))
   where
     cell-one : (i : ℕ) (x : Shape) → play (pervade false false) (moves xs) [] ≡ some (x ∷ []) → cellAt i x ≡ said i (laid (moves xs))
     cell-one i x e =

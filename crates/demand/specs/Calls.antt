@@ -4,23 +4,21 @@ use Prim.Native.Nat.{ℕ, zero, suc, _≤_}
 use native.Mathlib.Omega.{arith}
 use mathlib.Core.Bool.{Bool, true, false, cond}
 use mathlib.Core.List.{List, [], _∷_, reverse, reverseAux}
-use mathlib.Core.Option.{Option, none, some}
+use mathlib.Core.Option.{some}
 use mathlib.Core.Path.{_≡_, refl, sym, _∙_, ap}
 use lib.ListN.{length, take, drop, getElem?}
 use lib.Seq.{take-at, take-append-seam}
 use lib.Dec.{leb, ltb}
 use borrow.Author.Tests.{le-leb, le-ltb}
-use Rattle.model.specs.Limits.{maxBytes}
 use Rattle.model.specs.Refusals.{tooShort, unpervaded}
-use Rattle.model.specs.Types.{Ty, shapeOf}
-use Rattle.model.specs.Within.{All, Within}
+use Rattle.model.specs.Types.{Ty}
 use Rattle.format.specs.ReaderLaws.{Bytes}
 use Rattle.format.specs.Outcome.{Outcome, accepted, refused}
 use Rattle.machine.specs.SheetLimits.{scratchBytes}
 use Rattle.machine.specs.Steps.{Step}
-use Rattle.machine.specs.Run.{Answer, gives, refuses, aside, Stack, steps}
+use Rattle.machine.specs.Run.{gives, refuses, aside, Stack, steps}
 use Rattle.machine.specs.Sheet.{sheetRun}
-use Rattle.machine.specs.Call.{Tally, tally, Called, called, writeTypes, zeroed, atFront, handOver, sheetCall}
+use Rattle.machine.specs.Call.{Tally, tally, called, writeTypes, zeroed, atFront, handOver, sheetCall}
 use Rattle.machine.specs.Real.{RealShape, Holds}
 use Rattle.machine.specs.Steps.{SheetOf}
 use Rattle.demand.specs.Claims.{Leaves, Mismatched, EachHolds}

@@ -1,18 +1,16 @@
 -- The second half of demand 3, from lists of steps to what the call answers.
 use Prim.Native.Nat.{ℕ, _≤_}
 use native.Mathlib.Omega.{arith}
-use mathlib.Core.List.{List, [], _∷_, reverse}
-use mathlib.Core.Path.{_≡_, refl, sym, _∙_, ap}
+use mathlib.Core.List.{List, [], _∷_}
+use mathlib.Core.Path.{_≡_, sym, _∙_, ap}
 use Rattle.model.specs.Refusals.{unpervaded}
 use Rattle.model.specs.Types.{Ty, ty, shapeOf}
 use Rattle.format.specs.ReaderLaws.{Bytes}
 use Rattle.format.specs.Records.{writeShape}
-use Rattle.format.specs.Outcome.{Outcome, accepted, refused, shapeRecord}
+use Rattle.format.specs.Outcome.{shapeRecord}
 use Rattle.machine.specs.Steps.{Step}
-use Rattle.machine.specs.Run.{Answer, gives, refuses, steps}
-use Rattle.machine.specs.Call.{Called, called, sheetCall}
-use Rattle.machine.specs.WellFormed.{WellFormed}
-use Rattle.machine.specs.Real.{RealShape, Feeds, Through}
+use Rattle.machine.specs.Run.{gives, refuses, steps}
+use Rattle.machine.specs.Call.{sheetCall}
 use Rattle.machine.specs.Steps.{SheetOf}
 use Rattle.machine.specs.Conditions.{puts, SamePuts, closers}
 use Rattle.demand.specs.Claims.{Leaves, Mismatched, verdictOf, SecondConditions}

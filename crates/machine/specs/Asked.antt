@@ -2,19 +2,19 @@
 -- shape that fits asks for no less.
 use Prim.Native.Nat.{ℕ, zero, suc}
 use native.Mathlib.Omega.{arith}
-use mathlib.Core.Bool.{Bool, true, false}
+use mathlib.Core.Bool.{true, false}
 use mathlib.Core.List.{List, [], _∷_}
 use mathlib.Core.Option.{Option, none, some}
 use mathlib.Core.Path.{_≡_, refl, sym, _∙_, ap}
 use lib.ListN.{getElem?}
-use Rattle.model.specs.Types.{Dim, static, unknown, Shape, shape, Ty, ty, shapeOf}
+use Rattle.model.specs.Types.{Dim, static, unknown, Shape, shape, shapeOf}
 use Rattle.rules.specs.Pervade.{Pervaded, sizes, clash, pervadeDims, pervadeClosing, closedBy, pervade}
 use Rattle.machine.specs.Steps.{Step, put, row, pervading, join, validating}
 use Rattle.machine.specs.Real.{RealShape, fits, realPervade, Feeds, FitsPuts}
-use Rattle.machine.specs.Fitting.{Fit, Fits, fits-of}
+use Rattle.machine.specs.Fitting.{Fits, fits-of}
 use Rattle.machine.specs.PervadeHolds.{closedBy-some}
-use Rattle.machine.specs.Cells.{Named, unnamed, only, differ, Cell, cell, named, joinNamed, joinCell, cellOf, namedBy, joinNamed-differ, joinNamed-idem, joinNamed-comm, joinNamed-assoc, joinCell-comm, joinCell-assoc, named-join}
-use Rattle.machine.specs.CellsPervade.{cell-pervade, differ-pervade, named-realPervade, differ-realPervade}
+use Rattle.machine.specs.Cells.{Named, unnamed, differ, Cell, cell, named, joinNamed, joinCell, cellOf, namedBy, joinNamed-idem, joinNamed-comm, joinNamed-assoc, joinCell-comm, joinCell-assoc, named-join}
+use Rattle.machine.specs.CellsPervade.{cell-pervade, differ-pervade, named-realPervade}
 use Rattle.machine.specs.Play.{Commutes, gather, laid}
 use Rattle.machine.specs.PlaySteps.{moves, feedMoves}
 

@@ -1,7 +1,7 @@
 -- What the puts of a sheet say of one index, gathered part by part: a semilattice, so that order and grouping do not matter.
 use Prim.Native.Nat.{ℕ, suc}
 use native.Mathlib.Omega.{arith}
-use mathlib.Core.Bool.{Bool, true, false, _||_, cond, or-comm, or-assoc}
+use mathlib.Core.Bool.{Bool, true, false, _||_, or-comm, or-assoc}
 use mathlib.Core.List.{List, [], _∷_}
 use mathlib.Core.Option.{Option, none, some}
 use mathlib.Core.Path.{_≡_, refl, sym, _∙_, ap}

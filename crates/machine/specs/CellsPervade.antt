@@ -5,15 +5,14 @@ use native.Mathlib.Omega.{arith}
 use mathlib.Core.Bool.{Bool, true, false, cond}
 use mathlib.Core.List.{List, [], _∷_}
 use mathlib.Core.Option.{Option, none, some}
-use mathlib.Core.Path.{_≡_, refl, sym, _∙_, ap}
+use mathlib.Core.Path.{_≡_, refl, sym, _∙_}
 use lib.ListN.{getElem?}
 use lib.Dec.{eqb}
 use Rattle.model.specs.Types.{Dim, static, unknown}
-use Rattle.rules.specs.Sizes.{isOne}
 use Rattle.rules.specs.Pervade.{againstAbsent, together, Pervaded, sizes, clash, thenRest, pervadeDims}
 use Rattle.rules.specs.PervadeLaws.{together-unknown, together-unfilled, together-comm, thenRest-sizes}
 use Rattle.machine.specs.Real.{RealShape, realDim, consBoth, realPervade}
-use Rattle.machine.specs.Cells.{Named, unnamed, only, differ, Cell, cell, named, joinNamed, joinCell, cellStatic, cellOf, namedBy, joinNamed-comm, joinCell-comm}
+use Rattle.machine.specs.Cells.{unnamed, differ, cell, named, joinNamed, joinCell, cellStatic, cellOf, namedBy, joinNamed-comm, joinCell-comm}
 use Rattle.machine.specs.PervadeHolds.{consBoth-some}
 
 -- ---- pervading joins cells

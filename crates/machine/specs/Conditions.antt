@@ -3,10 +3,10 @@
 use Prim.Native.Nat.{ℕ, _+_}
 use mathlib.Core.Bool.{Bool, true, false, cond}
 use mathlib.Core.List.{List, [], _∷_}
-use mathlib.Core.Option.{Option, none, some}
+use mathlib.Core.Option.{none, some}
 use mathlib.Core.Path.{_≡_}
 use lib.ListN.{length}
-use Rattle.model.specs.Types.{Shape, shape, Scalar, plain, boxAny, boxAll, boxDef, Ty, ty, shapeOf}
+use Rattle.model.specs.Types.{Shape, shape, plain, boxAny, boxAll, boxDef, Ty, ty, shapeOf}
 use Rattle.rules.specs.Sizes.{Order, less, same, more}
 use Rattle.rules.specs.Order.{compare}
 use Rattle.machine.specs.Steps.{Step, put, row, pervading, join, validating, flagByte}

@@ -1,5 +1,5 @@
 -- How often a value stands in a list. Two lists in which each value stands as often gather to the same in any commutative monoid.
-use Prim.Native.Nat.{ℕ, zero, suc, _+_, _<_}
+use Prim.Native.Nat.{_+_, _<_}
 use native.Mathlib.Omega.{arith}
 use mathlib.Core.Bool.{Bool, true, false, cond}
 use mathlib.Core.List.{List, [], _∷_}

@@ -1,16 +1,15 @@
 -- The closing sizes that a list of puts and pervadings leaves: where at most two puts name closing sizes, they are told by whether any
 -- put is open and by which ones name closing sizes, in whatever order.
-use Prim.Native.Nat.{ℕ, zero, suc, _+_, _≤_, min}
+use Prim.Native.Nat.{ℕ, _+_, _≤_, min}
 use native.Mathlib.Omega.{arith}
 use mathlib.Core.Bool.{Bool, true, false, _||_, or-comm, or-assoc}
 use mathlib.Core.List.{List, [], _∷_}
 use mathlib.Core.Option.{Option, none, some}
-use mathlib.Core.Path.{_≡_, refl, sym, _∙_, ap}
-use Rattle.model.specs.Types.{Dim, Shape, shape}
-use Rattle.rules.specs.Pervade.{pervadeDims, pervadeClosing, closedBy, pervade}
+use mathlib.Core.Path.{_≡_, refl, sym}
+use Rattle.model.specs.Types.{Dim, Shape}
+use Rattle.rules.specs.Pervade.{pervadeClosing}
 use Rattle.machine.specs.Bare.{isOpen}
-use Rattle.machine.specs.PervadeHolds.{closedBy-some}
-use Rattle.machine.specs.Play.{Move, lay, mix, laid, mixed, mixed-some, play, gather, Commutes, past-first}
+use Rattle.machine.specs.Play.{Commutes}
 use Rattle.machine.specs.Asked.{closingOf}
 
 -- ---- endings

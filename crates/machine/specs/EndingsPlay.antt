@@ -1,16 +1,15 @@
 -- Puts and unfilled pervadings that leave one type: where at most two puts name closing sizes, the type's closing sizes are those that
 -- the endings of all puts tell together.
-use Prim.Native.Nat.{ℕ, zero, suc, _+_, _≤_, min}
+use Prim.Native.Nat.{ℕ, _≤_}
 use native.Mathlib.Omega.{arith}
-use mathlib.Core.Bool.{Bool, true, false}
+use mathlib.Core.Bool.{false}
 use mathlib.Core.List.{List, [], _∷_}
-use mathlib.Core.Option.{Option, none, some}
-use mathlib.Core.Path.{_≡_, refl, sym, _∙_, ap}
-use lib.ListN.{length}
-use Rattle.model.specs.Types.{Dim, Shape, shape}
-use Rattle.rules.specs.Pervade.{pervadeDims, pervadeClosing, closedBy, pervade}
+use mathlib.Core.Option.{some}
+use mathlib.Core.Path.{_≡_, sym, _∙_, ap}
+use Rattle.model.specs.Types.{Shape, shape}
+use Rattle.rules.specs.Pervade.{pervadeDims, pervadeClosing, pervade}
 use Rattle.machine.specs.PervadeHolds.{closedBy-some}
-use Rattle.machine.specs.Play.{Move, lay, mix, laid, mixed, mixed-some, play, gather, past-first}
+use Rattle.machine.specs.Play.{Move, lay, mix, laid, mixed-some, play, gather, past-first}
 use Rattle.machine.specs.Asked.{closingOf}
 use Rattle.machine.specs.Endings.{Ending, addEnding, noEnding, endingOf, close, ending-commutes, endings, endings-add, close-add, close-of}
 

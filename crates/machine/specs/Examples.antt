@@ -1,19 +1,18 @@
 -- Worked examples of the sheet in one list: document 01's own, and those where its words are easily read otherwise. What comes first of
 -- several refusals, which place is named, which side is the first, and what stands at the bottom.
 use Prim.Native.Nat.{ℕ, zero, suc, _≤_}
-use native.Mathlib.Omega.{arith}
 use mathlib.Core.Bool.{true, false}
 use mathlib.Core.List.{List, [], _∷_, _++_, map}
-use mathlib.Core.Option.{none, some}
-use mathlib.Core.Path.{_≡_, refl, _∙_}
+use mathlib.Core.Option.{none}
+use mathlib.Core.Path.{_≡_, refl}
 use lib.ListN.{length, replicate}
-use borrow.Author.Tests.{le-ltb, le-leb}
+use borrow.Author.Tests.{le-ltb}
 use Rattle.model.specs.Refusals.{ended, unmarked, outOfRange, tooShort, unpervaded, wrongScalar, wrongShape, underflow, overflow}
-use Rattle.model.specs.Types.{Dim, static, unknown, Shape, shape, Kind, num, char, plain, boxAny, boxAll, Ty, ty, inside, below}
+use Rattle.model.specs.Types.{static, unknown, shape, Kind, num, char, plain, boxAny, boxAll, Ty, ty, inside, below}
 use Rattle.model.specs.Within.{All}
 use Rattle.format.specs.Reader.{byte, judged, number, bytesOf}
 use Rattle.format.specs.Records.{code, kindOf, writeShape, writeScalar, writeTy, readMark, readDim, readDims, shapeFrom, readName, readFields, defFrom, boxFrom, scalarFrom, readTy}
-use Rattle.format.specs.Outcome.{Outcome, accepted, refused, mapped}
+use Rattle.format.specs.Outcome.{accepted, refused, mapped}
 use Rattle.rules.specs.Sizes.{cmpDim, larger, compatible, joinDim}
 use Rattle.rules.specs.Shapes.{isAny, rank, rowShape, mergeDims, mergeClosing, mergeFrom, joinDims, joinLonger, joinEnds, joinClosing, joinShapes}
 use Rattle.rules.specs.Order.{codeOf}
@@ -24,11 +23,11 @@ use Rattle.validation.specs.CheckShape.{agree, equalDim, equalDims, mismatch, s
 use Rattle.validation.specs.AsFields.{keepsLimits}
 use Rattle.validation.specs.CheckScalar.{checkScalar}
 use Rattle.validation.specs.Validate.{validate}
-use Rattle.machine.specs.SheetLimits.{maxSteps, scratchBytes}
+use Rattle.machine.specs.SheetLimits.{scratchBytes}
 use Rattle.machine.specs.Steps.{Step, put, row, pervading, join, validating, writeSteps}
 use Rattle.machine.specs.Run.{pervadeTypes, step}
 use Rattle.machine.specs.Sheet.{opcodeFrom, argumentFrom, stepFrom, workFrom, sheetFrom, skimFrom, sheetRun, skim}
-use Rattle.machine.specs.Call.{tally, Called, called, writeTypes, zeroed, atFront, handOver, sheetCall}
+use Rattle.machine.specs.Call.{tally, called, writeTypes, zeroed, handOver, sheetCall}
 
 pub data Example : Type 0 where
   -- a sheet's bytes, and the bytes of the types left

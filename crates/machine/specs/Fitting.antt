@@ -1,16 +1,16 @@
 -- Fitting as a predicate, by the structure of the two lists: the test `fits` says the same. Shapes that name no closing size are
 -- closed or open and no more, which is all that the first half of demand 3 asks of a shape.
-use Prim.Native.Nat.{ℕ, zero, suc, _+_, _-_, _≤_}
+use Prim.Native.Nat.{ℕ, suc, _+_, _-_, _≤_}
 use native.Mathlib.Omega.{arith}
-use mathlib.Core.Bool.{Bool, true, false, _&&_, cond}
-use mathlib.Core.List.{List, [], _∷_, _++_, append-nil}
+use mathlib.Core.Bool.{Bool, true, false, _&&_}
+use mathlib.Core.List.{List, [], _∷_, _++_}
 use mathlib.Core.Option.{Option, none, some}
 use mathlib.Core.Path.{_≡_, refl, sym, _∙_, ap}
-use lib.ListN.{length, take, drop, length-append, length-take, length-drop, take-append-drop}
+use lib.ListN.{length, take, drop, length-append, take-append-drop}
 use lib.Seq.{drop-at}
-use lib.Dec.{eqb, leb}
+use lib.Dec.{leb}
 use borrow.Author.Tests.{eqb-true, eq-eqb, leb-true, le-leb}
-use Rattle.model.specs.Types.{Dim, static, unknown, Shape, shape}
+use Rattle.model.specs.Types.{Dim, static, unknown, shape}
 use Rattle.machine.specs.Real.{RealShape, fitsDim, fitsDims, starts, ends, fits}
 
 -- ---- the predicate

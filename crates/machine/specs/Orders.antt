@@ -1,26 +1,24 @@
 -- Another order or grouping of the same puts: the same verdict and, where at most two puts name closing sizes, the same shape.
-use Prim.Native.Nat.{ℕ, zero, suc, _+_, _≤_, min}
+use Prim.Native.Nat.{ℕ, _≤_, min}
 use native.Mathlib.Omega.{arith}
-use mathlib.Core.Bool.{Bool, true, false, cond}
+use mathlib.Core.Bool.{true, cond}
 use mathlib.Core.List.{List, [], _∷_, map}
-use mathlib.Core.Option.{Option, none, some}
+use mathlib.Core.Option.{none, some}
 use mathlib.Core.Path.{_≡_, refl, sym, _∙_, ap}
-use lib.ListN.{length}
 use Rattle.model.specs.Refusals.{unpervaded}
 use Rattle.model.specs.Types.{Shape, shape, Ty, shapeOf}
 use Rattle.rules.specs.Sizes.{Order, less, same, more}
 use Rattle.rules.specs.Order.{compare}
 use Rattle.rules.specs.OrderLaws.{compare-refl, compare-same}
-use Rattle.rules.specs.Pervade.{pervade}
 use Rattle.machine.specs.Steps.{Step}
-use Rattle.machine.specs.Run.{Answer, gives, refuses, steps}
+use Rattle.machine.specs.Run.{gives, refuses, steps}
 use Rattle.machine.specs.Conditions.{namesClosing, puts, isSame, sameType, SamePuts, closers}
-use Rattle.machine.specs.Cells.{Cell, cell, unnamed, joinCell, named, differ, cells-same}
-use Rattle.machine.specs.Play.{Commutes, gather, laid, play}
+use Rattle.machine.specs.Cells.{named, cells-same}
+use Rattle.machine.specs.Play.{Commutes, gather, laid}
 use Rattle.machine.specs.PlaySteps.{moves, laid-moves}
 use Rattle.machine.specs.Asked.{cell-commutes, openingOf, closingOf, cellAt, said, asked, asked-said}
 use Rattle.machine.specs.Verdicts.{Pervadings, Checked, agrees, differs, checked, agreed}
-use Rattle.machine.specs.Endings.{Ending, noEnding, addEnding, endingOf, close, ending-commutes, endings, endings-add}
+use Rattle.machine.specs.Endings.{endingOf, close, ending-commutes, endings, endings-add}
 use Rattle.machine.specs.EndingsPlay.{endingsOf, closing-told}
 use Rattle.machine.specs.Counting.{gather-counts}
 

@@ -8,8 +8,7 @@ use mathlib.Core.Path.{_≡_, refl, sym, _∙_, ap}
 use lib.Dec.{eqb}
 use borrow.Author.Tests.{eqb-true, eqb-false}
 use Rattle.model.specs.Types.{Dim, static, unknown, Shape, shape}
-use Rattle.rules.specs.Sizes.{isOne}
-use Rattle.rules.specs.Pervade.{againstAbsent, together, Pervaded, sizes, clash, thenRest, pervadeDims, pervadeClosing, closedBy, pervade}
+use Rattle.rules.specs.Pervade.{againstAbsent, together, Pervaded, sizes, clash, pervadeDims, pervadeClosing, closedBy, pervade}
 use Rattle.rules.specs.PervadeLaws.{together-unknown, together-unfilled, together-comm, thenRest-sizes, pervadeDims-comm}
 use Rattle.machine.specs.Real.{RealShape, fits, realDim, consBoth, realPervade}
 use Rattle.machine.specs.Fitting.{Fit}

@@ -1,24 +1,23 @@
 -- Puts and unfilled pervadings as moves: what the steps do to the shapes of the types, and the real run to the real shapes, is the
 -- same play with two different rules.
-use Prim.Native.Nat.{ℕ, zero, suc, _-_, _≤_}
+use Prim.Native.Nat.{ℕ, suc, _-_}
 use native.Mathlib.Omega.{arith}
-use mathlib.Core.Bool.{Bool, true, false, cond}
+use mathlib.Core.Bool.{Bool, true, false}
 use mathlib.Core.List.{List, [], _∷_, map}
 use mathlib.Core.Option.{Option, none, some}
-use mathlib.Core.Path.{_≡_, refl, sym, _∙_, ap}
+use mathlib.Core.Path.{_≡_, refl, ap}
 use lib.ListN.{length}
-use lib.Dec.{ltb}
 use borrow.Author.Tests.{lt-ltb}
-use Rattle.model.specs.Refusals.{unpervaded, overflow}
-use Rattle.model.specs.Types.{Shape, Scalar, Ty, ty, shapeOf}
+use Rattle.model.specs.Refusals.{unpervaded}
+use Rattle.model.specs.Types.{Shape, ty, shapeOf}
 use Rattle.model.specs.Within.{All}
 use Rattle.rules.specs.Pervade.{pervade}
 use Rattle.rules.specs.Scalars.{union}
 use Rattle.machine.specs.SheetLimits.{maxStack}
-use Rattle.machine.specs.Steps.{Step, put, row, pervading, join, validating, opcodeOf, flagByte}
+use Rattle.machine.specs.Steps.{Step, put, row, pervading, join, validating, flagByte}
 use Rattle.machine.specs.Run.{Answer, gives, refuses, following, orRefuses, Stack, onto, pervadeTypes, step, steps}
 use Rattle.machine.specs.WellFormed.{heightAfter, Heights}
-use Rattle.machine.specs.Real.{RealShape, realPervade, Feed, Feeds, realStep, ontoReal, goesOn, realRun}
+use Rattle.machine.specs.Real.{RealShape, realPervade, Feeds, realStep, ontoReal, goesOn, realRun}
 use Rattle.machine.specs.Conditions.{PutOrPervade, puts}
 use Rattle.machine.specs.Play.{Move, lay, mix, laid, Enough, heightLeft, mixed, play}
 

@@ -1,16 +1,16 @@
 -- Row, join and merge of shapes that name no closing sizes say of real shapes what the real run does: a row drops the first size, a
 -- join keeps either side, a validation keeps what fits its spec.
-use Prim.Native.Nat.{ℕ, suc}
+use Prim.Native.Nat.{ℕ}
 use native.Mathlib.Omega.{arith}
 use mathlib.Core.Bool.{Bool, true, false, cond}
 use mathlib.Core.List.{List, [], _∷_}
-use mathlib.Core.Option.{Option, none, some}
+use mathlib.Core.Option.{none, some}
 use mathlib.Core.Path.{_≡_, refl, _∙_}
 use lib.ListN.{length}
 use lib.Dec.{eqb}
 use borrow.Author.Tests.{eqb-true}
 use Rattle.model.specs.Types.{Dim, static, unknown, Shape, shape}
-use Rattle.rules.specs.Sizes.{larger, joinDim}
+use Rattle.rules.specs.Sizes.{joinDim}
 use Rattle.rules.specs.Shapes.{rowShape, mergeDims, mergeClosing, mergeFrom, joinDims, joinEnds, joinClosing, joinShapes}
 use Rattle.rules.specs.SizesLaws.{larger-either}
 use Rattle.machine.specs.Real.{RealShape, fits, realRow, Kept, theTop, theOneBelow, keeps}

@@ -7,12 +7,12 @@ use mathlib.Core.Option.{Option, none, some}
 use lib.ListN.{length}
 use lib.Dec.{ltb}
 use Rattle.model.specs.Refusals.{unpervaded, underflow, overflow}
-use Rattle.model.specs.Types.{Shape, Scalar, Ty, ty}
+use Rattle.model.specs.Types.{Ty, ty}
 use Rattle.format.specs.Outcome.{Outcome, accepted, refused}
 use Rattle.rules.specs.Pervade.{pervade}
 use Rattle.rules.specs.Scalars.{union}
 use Rattle.rules.specs.Types.{joinTypes, intoRow}
-use Rattle.validation.specs.CheckShape.{Side, unsided}
+use Rattle.validation.specs.CheckShape.{unsided}
 use Rattle.validation.specs.Validate.{validate}
 use Rattle.machine.specs.SheetLimits.{maxStack}
 use Rattle.machine.specs.Steps.{Step, put, row, pervading, join, validating}

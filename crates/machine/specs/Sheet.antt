@@ -9,7 +9,7 @@ use lib.ListN.{length}
 use lib.Dec.{eqb, leb, ltb}
 use Rattle.model.specs.Refusals.{unmarked, underflow, overflow}
 use Rattle.model.specs.Types.{Ty}
-use Rattle.format.specs.Reader.{Read, got, stopped, Reader, andThen, _>>=_, _>>_, give, stop, need, here, byte, judged}
+use Rattle.format.specs.Reader.{Read, got, stopped, Reader, _>>=_, _>>_, give, stop, need, here, byte, judged}
 use Rattle.format.specs.Records.{Mark, mark, isCount, orStop, readType}
 use Rattle.format.specs.Outcome.{Outcome, accepted, refused, mapped}
 use Rattle.machine.specs.SheetLimits.{maxSteps, maxStack}

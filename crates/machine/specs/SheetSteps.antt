@@ -1,14 +1,12 @@
 -- What a loop over a sheet's steps needs of its reading: where the bytes end, a step past the last one allowed, one step and then the
 -- steps after it; and of one step, what each part of it answers in turn.
 use Prim.Native.Nat.{ℕ, zero, suc, _≤_, _<_}
-use mathlib.Core.Bool.{Bool, cond}
 use mathlib.Core.List.{List}
-use mathlib.Core.Path.{_≡_, refl}
+use mathlib.Core.Path.{_≡_}
 use lib.ListN.{length}
-use lib.Dec.{leb}
 use borrow.Author.Tests.{lt-ltb, le-ltb, le-leb, lt-leb}
 use Rattle.model.specs.Refusals.{underflow, overflow}
-use Rattle.format.specs.Reader.{Read, got, stopped, Reader, andThen, here, stop}
+use Rattle.format.specs.Reader.{got, stopped, Reader}
 use Rattle.machine.specs.SheetLimits.{maxStack}
 use Rattle.machine.specs.Steps.{Step, Opcode, takes, leaves}
 use Rattle.machine.specs.Run.{Stack, step}

@@ -1,25 +1,23 @@
 -- A sheet's run against the run of a list of steps: where the reading gives a list of steps, the sheet gets what these steps get, the
 -- place aside; and a sheet that is accepted is read to the end.
-use Prim.Native.Nat.{ℕ, zero, suc, _+_, _-_, _≤_, _<_}
+use Prim.Native.Nat.{ℕ, zero, suc, _-_}
 use native.Mathlib.Omega.{arith}
 use mathlib.Core.Bool.{Bool, true, false, cond}
 use mathlib.Core.List.{List, [], _∷_}
-use mathlib.Core.Option.{Option, none, some}
-use mathlib.Core.Path.{_≡_, refl, sym, _∙_, ap}
+use mathlib.Core.Path.{_≡_, refl, _∙_, ap}
 use lib.ListN.{length}
 use lib.Dec.{ltb}
-use Rattle.model.specs.Refusals.{unpervaded, underflow, overflow}
-use Rattle.model.specs.Types.{Ty, ty}
-use Rattle.format.specs.Reader.{Read, got, stopped, Reader, andThen, _>>=_, give, stop, here}
+use Rattle.model.specs.Refusals.{overflow}
+use Rattle.model.specs.Types.{Ty}
+use Rattle.format.specs.Reader.{Read, got, stopped, Reader, andThen, _>>=_, stop, here}
 use Rattle.format.specs.ReaderLaws.{split, gave}
-use Rattle.rules.specs.Pervade.{pervade}
 use Rattle.rules.specs.Types.{intoRow, joinTypes}
 use Rattle.validation.specs.CheckShape.{unsided}
 use Rattle.validation.specs.Validate.{validate}
-use Rattle.machine.specs.SheetLimits.{maxSteps, maxStack}
-use Rattle.machine.specs.Steps.{Step, put, row, pervading, join, validating, opcodeOf, takes, leaves}
+use Rattle.machine.specs.SheetLimits.{maxStack}
+use Rattle.machine.specs.Steps.{Step, put, row, pervading, join, validating, opcodeOf, leaves}
 use Rattle.machine.specs.Run.{Answer, gives, refuses, following, aside, Stack, onto, pervadeTypes, step, steps}
-use Rattle.machine.specs.Sheet.{placed, stepFrom, workFrom, toEnd, sheetFrom, skimFrom}
+use Rattle.machine.specs.Sheet.{placed, stepFrom, workFrom, sheetFrom, skimFrom}
 use Rattle.machine.specs.SheetSteps.{toEnd-end, toEnd-more}
 use Rattle.machine.specs.StepsHold.{following-gives}
 use Rattle.machine.specs.StepsTook.{ended-or, stepAndMore}

@@ -2,19 +2,19 @@
 -- steps get.
 use Prim.Native.Nat.{ℕ}
 use native.Mathlib.Omega.{arith}
-use mathlib.Core.List.{List, [], _∷_, _++_, reverse, reverse-reverse}
+use mathlib.Core.List.{List, [], reverse, reverse-reverse}
 use mathlib.Core.Path.{_≡_, refl, sym, _∙_, ap}
 use Rattle.model.specs.Types.{Ty}
 use Rattle.model.specs.Within.{All, Within}
 use Rattle.format.specs.Reader.{Read, got, stopped}
 use Rattle.format.specs.ReaderLaws.{Bytes}
-use Rattle.format.specs.Outcome.{Outcome, accepted, refused, mapped}
+use Rattle.format.specs.Outcome.{accepted, mapped}
 use Rattle.rules.specs.Lists.{all-reverse}
 use Rattle.machine.specs.SheetLimits.{maxSteps}
 use Rattle.machine.specs.Steps.{Step}
 use Rattle.machine.specs.Run.{Answer, gives, refuses, aside, Stack, steps}
-use Rattle.machine.specs.Sheet.{sheetFrom, skimFrom, outcomeOf, sheetRun, skim}
-use Rattle.machine.specs.Steps.{StepWithin, SheetOf}
+use Rattle.machine.specs.Sheet.{sheetFrom, outcomeOf, sheetRun, skim}
+use Rattle.machine.specs.Steps.{SheetOf}
 use Rattle.machine.specs.WellFormed.{Heights}
 use Rattle.machine.specs.StepsTook.{skim-took}
 use Rattle.machine.specs.SheetWorked.{Same, accepted-skims}

@@ -5,26 +5,26 @@ use native.Mathlib.Omega.{arith}
 use mathlib.Core.Bool.{Bool, true, false, cond}
 use mathlib.Core.List.{List, [], _∷_}
 use mathlib.Core.Option.{Option, none, some}
-use mathlib.Core.Path.{_≡_, refl, sym, _∙_, ap}
+use mathlib.Core.Path.{_≡_, refl}
 use lib.ListN.{length}
 use lib.Dec.{ltb}
 use Rattle.model.specs.Refusals.{unpervaded, overflow}
-use Rattle.model.specs.Types.{Shape, shape, Scalar, Ty, ty, shapeOf}
+use Rattle.model.specs.Types.{Shape, shape, ty, shapeOf}
 use Rattle.model.specs.Within.{All}
 use Rattle.format.specs.Outcome.{Outcome, accepted, refused}
-use Rattle.rules.specs.Shapes.{rowShape, mergeFrom, joinShapes}
+use Rattle.rules.specs.Shapes.{rowShape, joinShapes}
 use Rattle.rules.specs.Pervade.{pervade}
 use Rattle.rules.specs.Scalars.{union}
-use Rattle.rules.specs.Types.{firstField, rowScalar, rowBy, intoRow, joinTypes}
+use Rattle.rules.specs.Types.{firstField, rowScalar, rowBy, joinTypes}
 use Rattle.validation.specs.CheckShape.{unsided}
 use Rattle.validation.specs.Validate.{validate}
 use Rattle.validation.specs.ValidateLaws.{validate-shape}
 use Rattle.machine.specs.SheetLimits.{maxStack}
 use Rattle.machine.specs.Steps.{Step, put, row, pervading, join, validating}
-use Rattle.machine.specs.Run.{Answer, gives, refuses, following, orRefuses, aside, Stack, onto, pervadeTypes, step, steps}
+use Rattle.machine.specs.Run.{Answer, gives, refuses, following, orRefuses, aside, Stack, pervadeTypes, step, steps}
 use Rattle.machine.specs.Real.{RealShape, fits, Holds, realPervade, Feed, Feeds, realRow, keeps, ontoReal, realStep, goesOn, realRun, FitsPut, FitsPuts}
-use Rattle.machine.specs.Conditions.{namesClosing, NamesNoClosing, FillsNothing, Alike, JoinsAlike, Along}
-use Rattle.machine.specs.Bare.{BareClosing, Bare}
+use Rattle.machine.specs.Conditions.{namesClosing, NamesNoClosing, FillsNothing, JoinsAlike, Along}
+use Rattle.machine.specs.Bare.{Bare}
 use Rattle.machine.specs.PervadeHolds.{pervade-holds}
 use Rattle.machine.specs.RulesHold.{row-holds, join-holds, merge-holds}
 use Rattle.machine.specs.PlaySteps.{unfilled}

@@ -1,26 +1,23 @@
 -- The bytes of a list of steps, read as a sheet: they get what the steps get, the place aside; and where no step lacks types or lays
 -- down one too many, the reading gives the steps back.
-use Prim.Native.Nat.{ℕ, zero, suc, _+_, _-_, _≤_, _<_}
+use Prim.Native.Nat.{ℕ, zero, suc, _+_, _≤_, _<_}
 use native.Mathlib.Omega.{arith}
-use native.Mathlib.Nat.{add-assoc}
-use mathlib.Core.Bool.{Bool, true, false, cond}
+use mathlib.Core.Bool.{Bool, true, false}
 use mathlib.Core.List.{List, [], _∷_, _++_, append-assoc, append-cancel-left}
-use mathlib.Core.Option.{Option, none, some}
 use mathlib.Core.Path.{_≡_, refl, sym, _∙_, ap}
 use lib.ListN.{length, drop, length-drop, length-append}
-use lib.Dec.{leb, ltb}
-use borrow.Author.Tests.{le-leb, lt-leb, lt-ltb, le-ltb, leb-true, leb-false}
-use Rattle.model.specs.Refusals.{unmarked, underflow, overflow}
-use Rattle.model.specs.Types.{Ty, ty}
-use Rattle.model.specs.Within.{All, Within}
-use Rattle.format.specs.Reader.{Read, got, stopped, Reader, andThen, _>>=_, give, stop, need, here, byte, judged}
+use lib.Dec.{leb}
+use borrow.Author.Tests.{le-leb, le-ltb, leb-true, leb-false}
+use Rattle.model.specs.Refusals.{underflow, overflow}
+use Rattle.model.specs.Within.{All}
+use Rattle.format.specs.Reader.{got, stop, here}
 use Rattle.format.specs.ReaderLaws.{Reads, drop-past, reads-give, reads-bind, reads-byte, reads-need, reads-judged, reads-last}
-use Rattle.format.specs.Records.{Mark, mark, markBytes, isCount, orStop, readType, writeTy}
+use Rattle.format.specs.Records.{markBytes, isCount}
 use Rattle.format.specs.WriteRead.{write-read}
-use Rattle.machine.specs.SheetLimits.{maxSteps, maxStack}
-use Rattle.machine.specs.Steps.{Step, put, row, pervading, join, validating, Opcode, aPut, aRow, aPervading, aJoin, aValidating, opcodeOf, markOf, opcodes, takes, leaves, flagByte, maxFlag, fillsTop, fillsBelow, handsIn, writeStep, writeSteps}
-use Rattle.machine.specs.Run.{Answer, gives, refuses, following, Stack, step, steps}
-use Rattle.machine.specs.Sheet.{opcodeIn, placed, opcodeFrom, argumentFrom, stepFrom, workFrom, toEnd, sheetFrom, skimFrom}
+use Rattle.machine.specs.SheetLimits.{maxStack}
+use Rattle.machine.specs.Steps.{Step, put, row, pervading, join, validating, Opcode, aPut, aRow, aPervading, aJoin, aValidating, opcodeOf, markOf, takes, leaves, flagByte, maxFlag, fillsTop, fillsBelow, handsIn, writeStep, writeSteps}
+use Rattle.machine.specs.Run.{gives, refuses, Stack, step, steps}
+use Rattle.machine.specs.Sheet.{placed, opcodeFrom, argumentFrom, stepFrom, workFrom, sheetFrom, skimFrom}
 use Rattle.machine.specs.Steps.{StepWithin}
 use Rattle.machine.specs.WellFormed.{Heights}
 use Rattle.machine.specs.SheetWorked.{Same, same-after, step-height, workAndMore}

@@ -1,23 +1,22 @@
 -- What an accepted reading of steps took: the bytes of the steps that it gives, which keep every limit and every height.
-use Prim.Native.Nat.{ℕ, zero, suc, _+_, _-_, _≤_, _<_}
+use Prim.Native.Nat.{ℕ, zero, suc, _≤_, _<_}
 use native.Mathlib.Omega.{arith}
 use mathlib.Core.Bool.{Bool, true, false, _&&_, cond}
-use mathlib.Core.List.{List, [], _∷_, _++_, append-nil}
+use mathlib.Core.List.{List, [], _∷_, append-nil}
 use mathlib.Core.Option.{Option, none, some}
-use mathlib.Core.Path.{_≡_, refl, sym, _∙_, ap}
-use lib.ListN.{length, drop, drop-of-length-le}
+use mathlib.Core.Path.{_≡_, refl, _∙_}
+use lib.ListN.{length, drop-of-length-le}
 use lib.Dec.{eqb, leb, ltb}
 use borrow.Author.Tests.{eqb-true, leb-true, ltb-true, ltb-false}
-use Rattle.model.specs.Refusals.{unmarked, outOfRange, underflow, overflow}
-use Rattle.model.specs.Types.{Ty}
-use Rattle.model.specs.Within.{All, Within}
-use Rattle.format.specs.Reader.{Read, got, stopped, Reader, andThen, _>>=_, give, stop, need, here, byte, judged}
+use Rattle.model.specs.Refusals.{unmarked, underflow, overflow}
+use Rattle.model.specs.Within.{All}
+use Rattle.format.specs.Reader.{Read, got, stopped, Reader, _>>=_, give, stop, here, byte, judged}
 use Rattle.format.specs.ReaderLaws.{Bytes, Took, took-none, took-join, split, needed, gave, took-byte, took-judged}
-use Rattle.format.specs.Records.{Mark, mark, markBytes, isCount, orStop, readType, writeTy}
+use Rattle.format.specs.Records.{Mark, mark, markBytes, isCount, orStop, readType}
 use Rattle.format.specs.ReadWrite.{read-write}
-use Rattle.format.specs.Outcome.{Outcome, accepted, refused}
+use Rattle.format.specs.Outcome.{accepted}
 use Rattle.machine.specs.SheetLimits.{maxSteps, maxStack}
-use Rattle.machine.specs.Steps.{Step, put, row, pervading, join, validating, Opcode, aPut, aRow, aPervading, aJoin, aValidating, opcodeOf, markOf, opcodes, takes, leaves, flagByte, maxFlag, fillsTop, fillsBelow, handsIn, writeStep, writeSteps}
+use Rattle.machine.specs.Steps.{Step, Opcode, aPut, aRow, aPervading, aJoin, aValidating, opcodeOf, markOf, opcodes, takes, leaves, flagByte, maxFlag, fillsTop, fillsBelow, handsIn, writeStep, writeSteps}
 use Rattle.machine.specs.Sheet.{isMark, opcodeIn, opcodeFrom, argumentFrom, stepFrom, toEnd, skimFrom, outcomeOf, skim}
 use Rattle.machine.specs.Steps.{StepWithin, SheetOf}
 use Rattle.machine.specs.WellFormed.{Heights}

@@ -1,22 +1,19 @@
 -- The types on the stack keep every limit: what is put does, and no rule leaves them. So the types left can be written, 4,992 bytes
 -- suffice for each, and their bytes tell them.
-use Prim.Native.Nat.{ℕ, suc, _+_, _*_, _≤_, max}
+use Prim.Native.Nat.{ℕ, _*_, _≤_, max}
 use native.Mathlib.Omega.{arith}
-use mathlib.Core.Bool.{Bool, true, false, cond}
+use mathlib.Core.Bool.{Bool}
 use mathlib.Core.List.{List, [], _∷_, _++_, append-cancel-left}
-use mathlib.Core.Option.{Option, none, some}
-use mathlib.Core.Path.{_≡_, refl, sym, _∙_, ap}
-use lib.ListN.{length, drop, length-append}
+use mathlib.Core.Path.{_≡_, refl}
+use lib.ListN.{length, length-append}
 use lib.Dec.{ltb}
 use Rattle.model.specs.Limits.{maxBytes}
 use Rattle.model.specs.Refusals.{unpervaded, overflow}
-use Rattle.model.specs.Types.{Shape, Scalar, Ty, ty, inside, below}
-use Rattle.model.specs.Within.{All, Each, ShapeWithin, Within}
-use Rattle.format.specs.Reader.{Read, got}
-use Rattle.format.specs.Records.{writeTy, readType}
+use Rattle.model.specs.Types.{Ty, ty, inside, below}
+use Rattle.model.specs.Within.{All, Within}
+use Rattle.format.specs.Records.{writeTy}
 use Rattle.format.specs.WriteRead.{write-read}
 use Rattle.format.specs.Suffices.{suffices}
-use Rattle.format.specs.Outcome.{Outcome, accepted, refused}
 use Rattle.rules.specs.Pervade.{pervade}
 use Rattle.rules.specs.PervadeLaws.{pervade-within}
 use Rattle.rules.specs.Scalars.{union}
@@ -29,7 +26,7 @@ use Rattle.validation.specs.Validate.{validate}
 use Rattle.validation.specs.ValidateLaws.{validate-within}
 use Rattle.machine.specs.SheetLimits.{maxStack}
 use Rattle.machine.specs.Steps.{Step, put, row, pervading, join, validating}
-use Rattle.machine.specs.Run.{Answer, gives, refuses, following, orRefuses, aside, Stack, onto, pervadeTypes, step, steps}
+use Rattle.machine.specs.Run.{Answer, gives, orRefuses, aside, Stack, onto, pervadeTypes, step, steps}
 use Rattle.machine.specs.Call.{writeTypes}
 use Rattle.machine.specs.Steps.{StepWithin}
 use Rattle.machine.specs.StepsHold.{following-gives, orRefuses-gives, aside-gives, cond-gives}

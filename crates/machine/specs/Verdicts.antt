@@ -1,12 +1,12 @@
 -- Lists of puts and unfilled pervadings that leave one type: refused with 8 exactly where the puts ask for different sizes at an index,
 -- which is exactly where no fitting real arrays get through; otherwise accepted.
-use Prim.Native.Nat.{ℕ, zero, suc}
+use Prim.Native.Nat.{ℕ}
 use native.Mathlib.Omega.{arith}
-use mathlib.Core.Bool.{Bool, true, false}
-use mathlib.Core.List.{List, [], _∷_, map}
-use mathlib.Core.Option.{Option, none, some}
+use mathlib.Core.Bool.{false}
+use mathlib.Core.List.{List, [], _∷_}
+use mathlib.Core.Option.{none, some}
 use mathlib.Core.Path.{_≡_, refl, sym, _∙_, ap}
-use lib.ListN.{length, getElem?}
+use lib.ListN.{getElem?}
 use Rattle.model.specs.Refusals.{unpervaded}
 use Rattle.model.specs.Types.{Shape, Ty, shapeOf}
 use Rattle.model.specs.Within.{All}
@@ -14,10 +14,10 @@ use Rattle.rules.specs.Pervade.{pervade}
 use Rattle.machine.specs.Steps.{Step}
 use Rattle.machine.specs.Run.{Answer, gives, refuses, Stack, steps}
 use Rattle.machine.specs.WellFormed.{typesLeft, Heights}
-use Rattle.machine.specs.Real.{RealShape, realPervade, Feeds, FitsPuts, realRun, Through}
-use Rattle.machine.specs.Cells.{Named, unnamed, differ, named, joinNamed, joinCell, cell, cell-sure, real-sure}
+use Rattle.machine.specs.Real.{RealShape, realPervade, Feeds, realRun, Through}
+use Rattle.machine.specs.Cells.{unnamed, differ, named, cell, cell-sure, real-sure}
 use Rattle.machine.specs.CellsPervade.{differ-realPervade}
-use Rattle.machine.specs.Play.{laid, play, gather, gather-play, play-one}
+use Rattle.machine.specs.Play.{laid, play, gather-play, play-one}
 use Rattle.machine.specs.Conditions.{PutOrPervade}
 use Rattle.machine.specs.PlaySteps.{moves, shapes, verdict, steps-play, enough-moves, feedMoves, real-play, enough-feeds}
 use Rattle.machine.specs.Asked.{named-commutes, cell-commutes, openingOf, cellAt, namedAt, said, asked, asked-said, pervade-cell, pervade-named, pervade-differ, realAt, realAsked, realPervade-named, asked-differ}

@@ -5,15 +5,15 @@ use native.Mathlib.Omega.{arith}
 use mathlib.Core.Bool.{Bool, true, false}
 use mathlib.Core.List.{List, [], _∷_, _++_, map, append-nil}
 use mathlib.Core.Option.{Option, none, some}
-use mathlib.Core.Path.{_≡_, refl, sym, _∙_, ap}
+use mathlib.Core.Path.{_≡_, refl, sym, _∙_}
 use lib.ListN.{length, replicate, getElem?, length-append, length-map, length-replicate}
 use lib.Dec.{ltb}
 use borrow.Author.Tests.{ltb-true, ltb-false}
-use Rattle.model.specs.Types.{Dim, static, unknown, Shape, shape, Ty, shapeOf}
+use Rattle.model.specs.Types.{Dim, static, unknown, Shape, shape, shapeOf}
 use Rattle.machine.specs.Steps.{Step, put, row, pervading, join, validating}
-use Rattle.machine.specs.Real.{RealShape, fits, Feeds, FitsPuts, Kept, theTop}
+use Rattle.machine.specs.Real.{RealShape, fits, Feeds, FitsPuts, theTop}
 use Rattle.machine.specs.Fitting.{FitAll, Follows, Fits, of-fits}
-use Rattle.machine.specs.Cells.{Named, unnamed, differ, named, joinNamed, cellOf, namedBy, joinNamed-comm, real-sure}
+use Rattle.machine.specs.Cells.{unnamed, differ, named, cellOf, joinNamed-comm, real-sure}
 use Rattle.machine.specs.Play.{laid}
 use Rattle.machine.specs.PlaySteps.{moves, feedMoves}
 use Rattle.machine.specs.Asked.{openingOf, namedAt, asked, realAt, realAsked}

@@ -1,0 +1,4 @@
+pub mod Claims
+pub mod Calls
+pub mod SecondCalls
+pub mod Demand

@@ -1,0 +1,141 @@
+-- Worked examples of the sheet in one list: document 01's own, and those where its words are easily read otherwise. What comes first of
+-- several refusals, which place is named, which side is the first, and what stands at the bottom.
+use Prim.Native.Nat.{ℕ, zero, suc, _≤_}
+use mathlib.Core.Bool.{true, false}
+use mathlib.Core.List.{List, [], _∷_, _++_, map}
+use mathlib.Core.Option.{none}
+use mathlib.Core.Path.{_≡_, refl}
+use lib.ListN.{length, replicate}
+use borrow.Author.Tests.{le-ltb}
+use Rattle.model.specs.Refusals.{ended, unmarked, outOfRange, tooShort, unpervaded, wrongScalar, wrongShape, underflow, overflow}
+use Rattle.model.specs.Types.{static, unknown, shape, Kind, num, char, plain, boxAny, boxAll, Ty, ty, inside, below}
+use Rattle.model.specs.Within.{All}
+use Rattle.format.specs.Reader.{byte, judged, number, bytesOf}
+use Rattle.format.specs.Records.{code, kindOf, writeShape, writeScalar, writeTy, readMark, readDim, readDims, shapeFrom, readName, readFields, defFrom, boxFrom, scalarFrom, readTy}
+use Rattle.format.specs.Outcome.{accepted, refused, mapped}
+use Rattle.rules.specs.Sizes.{cmpDim, larger, compatible, joinDim}
+use Rattle.rules.specs.Shapes.{isAny, rank, rowShape, mergeDims, mergeClosing, mergeFrom, joinDims, joinLonger, joinEnds, joinClosing, joinShapes}
+use Rattle.rules.specs.Order.{codeOf}
+use Rattle.rules.specs.Scalars.{supersetCodes, supersetOf, union}
+use Rattle.rules.specs.Pervade.{againstAbsent, together, pervadeDims, pervadeClosing, pervade}
+use Rattle.rules.specs.Types.{joinTypes, whollyAny, rowScalar, rowBy}
+use Rattle.validation.specs.CheckShape.{agree, equalDim, equalDims, mismatch, shapeMismatch, sidedShape, checkShape}
+use Rattle.validation.specs.AsFields.{keepsLimits}
+use Rattle.validation.specs.CheckScalar.{checkScalar}
+use Rattle.validation.specs.Validate.{validate}
+use Rattle.machine.specs.SheetLimits.{scratchBytes}
+use Rattle.machine.specs.Steps.{Step, put, row, pervading, join, validating, writeSteps}
+use Rattle.machine.specs.Run.{pervadeTypes, step}
+use Rattle.machine.specs.Sheet.{opcodeFrom, argumentFrom, stepFrom, workFrom, sheetFrom, skimFrom, sheetRun, skim}
+use Rattle.machine.specs.Call.{tally, called, writeTypes, zeroed, handOver, sheetCall}
+
+pub data Example : Type 0 where
+  -- a sheet's bytes, and the bytes of the types left
+  theBytes : List ℕ → List ℕ → Example
+  -- steps, and the types left, bottom first
+  theTypes : List Step → List Ty → Example
+  -- a sheet's bytes, and its refusal with the place
+  theRefusal : List ℕ → ℕ → ℕ → Example
+  -- a sheet's bytes, and the steps that are read with the rules passed over
+  theSteps : List ℕ → List Step → Example
+
+abbrev pub Holds : Example → Type 0
+Holds (theBytes s w) = mapped writeTypes (sheetRun s) ≡ accepted w
+Holds (theTypes xs ts) = sheetRun (writeSteps xs) ≡ accepted ts
+Holds (theRefusal s k p) = sheetRun s ≡ refused k p
+Holds (theSteps s xs) = skim s ≡ accepted xs
+
+-- ---- how the examples are written
+
+-- a kind under [sizes], and Num
+abbrev pub of : Kind → List ℕ → Ty
+of k ns = ty (shape (map static ns) none) (plain k)
+
+abbrev pub nums : List ℕ → Ty
+nums ns = of num ns
+
+-- the record of [n] Num
+abbrev record3 : List ℕ
+record3 = 0x53 ∷ 0x48 ∷ 0x01 ∷ 0xFF ∷ 0x03 ∷ 0 ∷ 0 ∷ 0 ∷ 0 ∷ 0 ∷ 0 ∷ 0 ∷ 0x53 ∷ 0x43 ∷ 0x03 ∷ []
+
+abbrev record? : List ℕ
+record? = 0x53 ∷ 0x48 ∷ 0x01 ∷ 0xFF ∷ 0xFF ∷ 0xFF ∷ 0xFF ∷ 0xFF ∷ 0xFF ∷ 0xFF ∷ 0xFF ∷ 0xFF ∷ 0x53 ∷ 0x43 ∷ 0x03 ∷ []
+
+abbrev times : ℕ → Step → List Step
+times zero x = []
+times (suc n) x = x ∷ times n x
+
+-- ---- the examples
+
+unfoldable pub examples : List Example
+examples =
+    -- Put [3] Num, put [?] Num, pervade 0; and the empty sheet.
+    theBytes ((0x50 ∷ 0x55 ∷ record3) ++ ((0x50 ∷ 0x55 ∷ record?) ++ (0x50 ∷ 0x56 ∷ 0x00 ∷ []))) record3
+    ∷ theBytes [] []
+    -- The types left are written bottom first.
+    ∷ theTypes (put (nums (2 ∷ [])) ∷ put (nums (3 ∷ [])) ∷ []) (nums (2 ∷ []) ∷ nums (3 ∷ []) ∷ [])
+    -- Bit 0 fills the top, bit 1 the one below.
+    ∷ theTypes (put (nums (4 ∷ [])) ∷ put (nums (3 ∷ [])) ∷ pervading true false ∷ []) (nums (4 ∷ []) ∷ [])
+    ∷ theTypes (put (nums (3 ∷ [])) ∷ put (nums (4 ∷ [])) ∷ pervading false true ∷ []) (nums (4 ∷ []) ∷ [])
+    ∷ theRefusal (writeSteps (put (nums []) ∷ put (nums (4 ∷ [])) ∷ put (nums (3 ∷ [])) ∷ pervading false true ∷ [])) unpervaded 43
+    -- The top is the first: of box Any and box All, the one that stands on top.
+    ∷ theTypes (put (ty (shape [] none) (boxAll (shape [] none) (plain num))) ∷ put (ty (shape [] none) boxAny) ∷ pervading false false ∷ []) (ty (shape [] none) boxAny ∷ [])
+    ∷ theTypes (put (ty (shape [] none) boxAny) ∷ put (ty (shape [] none) (boxAll (shape [] none) (plain num))) ∷ join ∷ []) (ty (shape [] none) (boxAll (shape [] none) (plain num)) ∷ [])
+    -- Row, join, validate.
+    ∷ theTypes (put (nums (2 ∷ 3 ∷ [])) ∷ row ∷ []) (nums (3 ∷ []) ∷ [])
+    ∷ theTypes (put (nums (2 ∷ [])) ∷ put (nums (2 ∷ 3 ∷ [])) ∷ join ∷ []) (nums (2 ∷ []) ∷ [])
+    ∷ theTypes (put (nums (3 ∷ [])) ∷ validating (ty (shape (unknown ∷ []) none) (plain num)) ∷ []) (nums (3 ∷ []) ∷ [])
+    ∷ theRefusal (writeSteps (put (of char []) ∷ validating (nums []) ∷ [])) wrongScalar 9
+    ∷ theRefusal (writeSteps (put (nums (3 ∷ [])) ∷ validating (nums (2 ∷ [])) ∷ [])) wrongShape 17
+    -- A mark is judged once both its bytes are there; the place is the step's mark.
+    ∷ theRefusal (0x58 ∷ []) ended 0
+    ∷ theRefusal (0x58 ∷ 0x58 ∷ []) unmarked 0
+    -- Inside a type the place is its reader's; a flag belongs to its step's mark.
+    ∷ theRefusal (0x50 ∷ 0x55 ∷ []) ended 2
+    ∷ theRefusal (writeSteps (put (nums []) ∷ put (nums []) ∷ []) ++ (0x50 ∷ 0x56 ∷ [])) ended 18
+    ∷ theRefusal (writeSteps (put (nums []) ∷ put (nums []) ∷ []) ++ (0x50 ∷ 0x56 ∷ 0x04 ∷ [])) outOfRange 18
+    -- The stack comes before the step's bytes.
+    ∷ theRefusal (0x52 ∷ 0x57 ∷ []) underflow 0
+    ∷ theRefusal (0x50 ∷ 0x56 ∷ 0x09 ∷ []) underflow 0
+    ∷ theRefusal (0x56 ∷ 0x41 ∷ []) underflow 0
+    ∷ theRefusal (writeSteps (times 8 (put (nums []))) ++ (0x50 ∷ 0x55 ∷ [])) overflow 72
+    -- 64 steps and no byte more; one byte more is step 65, whatever it is.
+    ∷ theTypes (put (nums []) ∷ times 63 row) (nums [] ∷ [])
+    ∷ theRefusal (writeSteps (put (nums []) ∷ times 63 row) ++ (0x52 ∷ [])) overflow 135
+    -- Read to the end, a rule's refusal is passed over.
+    ∷ theSteps (writeSteps (put (nums (3 ∷ [])) ∷ put (nums (4 ∷ [])) ∷ pervading false false ∷ row ∷ [])) (put (nums (3 ∷ [])) ∷ put (nums (4 ∷ [])) ∷ pervading false false ∷ row ∷ [])
+    ∷ []
+
+pub examples-hold : All Holds examples
+unfolding examples inside below byte judged number bytesOf code kindOf writeShape writeScalar writeTy readMark readDim readDims shapeFrom readName readFields defFrom boxFrom scalarFrom readTy cmpDim larger compatible joinDim isAny rank rowShape mergeDims mergeClosing mergeFrom joinDims joinLonger joinEnds joinClosing joinShapes codeOf supersetCodes supersetOf union againstAbsent together pervadeDims pervadeClosing pervade joinTypes whollyAny rowScalar rowBy agree equalDim equalDims mismatch shapeMismatch sidedShape checkShape keepsLimits checkScalar validate writeSteps pervadeTypes step opcodeFrom argumentFrom stepFrom workFrom sheetFrom skimFrom sheetRun skim writeTypes
+examples-hold = (refl, (refl, (refl, (refl, (refl, (refl, (refl, (refl, (refl, (refl, (refl, (refl, (refl, (refl, (refl, (refl, (refl, (refl, (refl, (refl, (refl, (refl, (refl, (refl, (refl, tt)))))))))))))))))))))))))
+
+-- ---- the whole call
+
+-- put [] Num, and its record
+abbrev oneSheet : List ℕ
+oneSheet = 0x50 ∷ 0x55 ∷ 0x53 ∷ 0x48 ∷ 0x00 ∷ 0xFF ∷ 0x53 ∷ 0x43 ∷ 0x03 ∷ []
+
+abbrev oneRecord : List ℕ
+oneRecord = 0x53 ∷ 0x48 ∷ 0x00 ∷ 0xFF ∷ 0x53 ∷ 0x43 ∷ 0x03 ∷ []
+
+-- A scratch that is too short is found first and stays as lent.
+pub call-no-scratch : (s result : List ℕ) → sheetCall s result [] ≡ called (refused tooShort 0) result []
+unfolding sheetCall
+call-no-scratch s result = refl
+
+module _ (scratch : List ℕ) (enough : scratchBytes ≤ length scratch) where
+  -- An empty sheet needs no result.
+  pub call-empty : sheetCall [] [] scratch ≡ called (accepted (tally 0 0)) [] (zeroed scratch)
+  unfolding sheetCall sheetRun sheetFrom handOver writeTypes
+  call-empty = rw (le-ltb (length scratch) scratchBytes enough)
+
+  -- The bytes go to the front of the result, and one past them stays.
+  pub call-one : sheetCall oneSheet (replicate 8 7) scratch ≡ called (accepted (tally 1 7)) (oneRecord ++ (7 ∷ [])) (zeroed scratch)
+  unfolding sheetCall sheetRun sheetFrom workFrom stepFrom opcodeFrom argumentFrom step handOver writeTypes byte judged number bytesOf code kindOf writeShape writeScalar writeTy readMark readDim readDims shapeFrom scalarFrom readTy
+  call-one = rw (le-ltb (length scratch) scratchBytes enough)
+
+  -- A result that is one byte too short stays as lent, and is found at the sheet's length.
+  pub call-short : sheetCall oneSheet (replicate 6 7) scratch ≡ called (refused tooShort 9) (replicate 6 7) (zeroed scratch)
+  unfolding sheetCall sheetRun sheetFrom workFrom stepFrom opcodeFrom argumentFrom step handOver writeTypes byte judged number bytesOf code kindOf writeShape writeScalar writeTy readMark readDim readDims shapeFrom scalarFrom readTy
+  call-short = rw (le-ltb (length scratch) scratchBytes enough)

@@ -1,0 +1,133 @@
+-- Real shapes and the real run (document 01, "The sheet, added"). The run is fed the steps, a real shape for each put and a side for
+-- each join; nothing that the checker worked out enters it.
+use Prim.Native.Nat.{ℕ, _+_, _-_}
+use mathlib.Core.Bool.{Bool, true, false, _&&_, cond}
+use mathlib.Core.List.{List, [], _∷_}
+use mathlib.Core.Option.{Option, none, some}
+use mathlib.Core.Path.{_≡_}
+use lib.ListN.{length, take, drop}
+use lib.Dec.{eqb, leb}
+use Rattle.model.specs.Types.{Dim, static, unknown, Shape, shape, Ty, shapeOf}
+use Rattle.machine.specs.Steps.{Step, put, row, pervading, join, validating}
+
+-- ---- real shapes
+
+-- The term real shape: whole sizes, any number of them.
+abbrev pub RealShape : Type 0
+RealShape = List ℕ
+
+-- ? fits any size.
+abbrev pub fitsDim : Dim → ℕ → Bool
+fitsDim (static m) n = eqb m n
+fitsDim unknown n = true
+
+abbrev pub fitsDims : List Dim → RealShape → Bool
+fitsDims [] [] = true
+fitsDims [] (n ∷ r) = false
+fitsDims (d ∷ o) [] = false
+fitsDims (d ∷ o) (n ∷ r) = fitsDim d n && fitsDims o r
+
+abbrev pub starts : List Dim → RealShape → Bool
+starts o r = fitsDims o (take (length o) r)
+
+abbrev pub ends : List Dim → RealShape → Bool
+ends c r = fitsDims c (drop (length r - length c) r)
+
+-- The term fits: it starts with the opening sizes and, if open, ends with the closing ones without overlap; closed admits nothing more.
+unfoldable pub fits : Shape → RealShape → Bool
+fits (shape o none) r = fitsDims o r
+fits (shape o (some c)) r = starts o r && ends c r && leb (length o + length c) (length r)
+
+-- The term holds: a type holds what fits its shape.
+abbrev pub Holds : Ty → RealShape → Type 0
+Holds t r = fits (shapeOf t) r ≡ true
+
+-- ---- real pervading
+
+-- Two sizes: 1 yields, equals stay, else it stops.
+abbrev pub realDim : ℕ → ℕ → Option ℕ
+realDim m n = cond (eqb m 1) (some n) (cond (eqb n 1) (some m) (cond (eqb m n) (some m) none))
+
+abbrev pub consBoth : {A : Type 0} → Option A → Option (List A) → Option (List A)
+consBoth none r = none
+consBoth (some a) none = none
+consBoth (some a) (some r) = some (a ∷ r)
+
+-- The term real pervading, index by index: 1 against absent is 1, and absent yields. None where it stops.
+unfoldable pub realPervade : RealShape → RealShape → Option RealShape
+realPervade [] q = some q
+realPervade (m ∷ r) [] = some (m ∷ r)
+realPervade (m ∷ r) (n ∷ q) = consBoth (realDim m n) (realPervade r q)
+
+-- ---- the real run
+
+-- Which side a join keeps.
+pub data Kept : Type 0 where
+  theTop theOneBelow : Kept
+
+abbrev pub keeps : Kept → RealShape → RealShape → RealShape
+keeps theTop r q = r
+keeps theOneBelow r q = q
+
+-- What a step is fed, and all steps.
+abbrev pub Feed : Step → Type 0
+Feed (put t) = RealShape
+Feed row = Unit {0}
+Feed (pervading f g) = Unit {0}
+Feed join = Kept
+Feed (validating spec) = Unit {0}
+
+abbrev pub Feeds : List Step → Type 0
+Feeds [] = Unit {0}
+Feeds (x ∷ xs) = Feed x × Feeds xs
+
+-- A row drops the first size; a scalar stays.
+abbrev pub realRow : RealShape → RealShape
+realRow [] = []
+realRow (n ∷ r) = r
+
+abbrev pub ontoReal : List RealShape → Option RealShape → Option (List RealShape)
+ontoReal rs none = none
+ontoReal rs (some r) = some (r ∷ rs)
+
+-- One step on a stack of real shapes, top first. None where the run stops; an accepted or well-formed sheet never lacks a shape.
+unfoldable pub realStep : (x : Step) → Feed x → List RealShape → Option (List RealShape)
+realStep (put t) r rs = some (r ∷ rs)
+realStep row u [] = none
+realStep row u (r ∷ rs) = some (realRow r ∷ rs)
+realStep (pervading f g) u [] = none
+realStep (pervading f g) u (r ∷ []) = none
+realStep (pervading f g) u (r ∷ q ∷ rs) = ontoReal rs (realPervade r q)
+realStep join side [] = none
+realStep join side (r ∷ []) = none
+realStep join side (r ∷ q ∷ rs) = some (keeps side r q ∷ rs)
+realStep (validating spec) u [] = none
+realStep (validating spec) u (r ∷ rs) = cond (fits (shapeOf spec) r) (some (r ∷ rs)) none
+
+-- A stopped run takes no further step.
+abbrev pub goesOn : Option (List RealShape) → (List RealShape → Option (List RealShape)) → Option (List RealShape)
+goesOn none f = none
+goesOn (some rs) f = f rs
+
+unfoldable pub realRun : (xs : List Step) → Feeds xs → List RealShape → Option (List RealShape)
+realRun [] u rs = some rs
+realRun (x ∷ xs) f rs = goesOn (realStep x (f .0) rs) λ rs₁. realRun xs (f .1) rs₁
+
+-- ---- fit and get through
+
+abbrev pub FitsPut : (x : Step) → Feed x → Type 0
+FitsPut (put t) r = Holds t r
+FitsPut row u = Unit {0}
+FitsPut (pervading f g) u = Unit {0}
+FitsPut join side = Unit {0}
+FitsPut (validating spec) u = Unit {0}
+
+abbrev pub FitsPuts : (xs : List Step) → Feeds xs → Type 0
+FitsPuts [] u = Unit {0}
+FitsPuts (x ∷ xs) f = FitsPut x (f .0) × FitsPuts xs (f .1)
+
+-- The terms fit and get through: the shapes fed fit the puts, and the run on them, from the empty stack, never stops. It leaves `left`,
+-- top first.
+pub record Through (xs : List Step) (f : Feeds xs) (left : List RealShape) : Type 0 where
+  pub fit : FitsPuts xs f
+  pub run : realRun xs f [] ≡ some left

@@ -1,0 +1,101 @@
+-- Reading a sheet (document 01, "The sheet, added"), step by step to the end of its bytes: step 65 is refused first, then the mark,
+-- the stack, the step's bytes, its rule. A refusal names the step's mark, but inside a type the place that its reader names.
+-- The same reading with the rules left out says what a well-formed sheet is.
+use Prim.Native.Nat.{ℕ, zero, suc}
+use mathlib.Core.Bool.{Bool, _&&_, cond}
+use mathlib.Core.List.{List, [], _∷_, reverse}
+use mathlib.Core.Option.{Option, none, some}
+use lib.ListN.{length}
+use lib.Dec.{eqb, leb, ltb}
+use Rattle.model.specs.Refusals.{unmarked, underflow, overflow}
+use Rattle.model.specs.Types.{Ty}
+use Rattle.format.specs.Reader.{Read, got, stopped, Reader, _>>=_, _>>_, give, stop, need, here, byte, judged}
+use Rattle.format.specs.Records.{Mark, mark, isCount, orStop, readType}
+use Rattle.format.specs.Outcome.{Outcome, accepted, refused, mapped}
+use Rattle.machine.specs.SheetLimits.{maxSteps, maxStack}
+use Rattle.machine.specs.Steps.{Step, put, row, pervading, join, validating, Opcode, aPut, aRow, aPervading, aJoin, aValidating, opcodeOf, markOf, opcodes, takes, leaves, maxFlag, fillsTop, fillsBelow}
+use Rattle.machine.specs.Run.{Answer, gives, refuses, Stack, step}
+
+-- ---- one step
+
+abbrev pub isMark : Mark → ℕ → ℕ → Bool
+isMark (mark a b) x y = eqb x a && eqb y b
+
+-- the first of a list that has these two mark bytes
+abbrev pub opcodeIn : List Opcode → ℕ → ℕ → Option Opcode
+opcodeIn [] x y = none
+opcodeIn (c ∷ cs) x y = cond (isMark (markOf c) x y) (some c) (opcodeIn cs x y)
+
+-- a rule's answer; its refusal names the place p
+abbrev pub placed : {A : Type 0} → Answer A → ℕ → Reader A
+placed (gives a) p = give a
+placed (refuses k) p = stop k p
+
+module _ (s : List ℕ) where
+  -- Both mark bytes are there before the mark is judged.
+  unfoldable pub opcodeFrom : ℕ → Reader Opcode
+  opcodeFrom p = do
+    x ← byte s p
+    y ← byte s p
+    orStop (opcodeIn opcodes x y) unmarked p
+
+  unfoldable pub argumentFrom : Opcode → ℕ → Reader Step
+  argumentFrom aPut p = do
+    t ← readType s
+    give (put t)
+  argumentFrom aRow p = give row
+  argumentFrom aPervading p = do
+    n ← judged s (isCount maxFlag) p
+    give (pervading (fillsTop n) (fillsBelow n))
+  argumentFrom aJoin p = give join
+  argumentFrom aValidating p = do
+    spec ← readType s
+    give (validating spec)
+
+  -- A step on a stack of height h, but for its rule.
+  unfoldable pub stepFrom : ℕ → ℕ → Reader Step
+  stepFrom h p = do
+    c ← opcodeFrom p
+    need (leb (takes c) h) underflow p
+    need (leb (leaves c h) maxStack) overflow p
+    argumentFrom c p
+
+  unfoldable pub workFrom : Stack → ℕ → Reader Stack
+  workFrom st p = do
+    x ← stepFrom (length st) p
+    placed (step x st) p
+
+  -- ---- all steps
+
+  -- gives a at the end of the bytes, else goes on
+  abbrev pub toEnd : {A : Type 0} → A → Reader A → Reader A
+  toEnd a more = λ at. cond (ltb at (length s)) (more at) (got a at)
+
+  -- From any stack, with at most n steps more.
+  unfoldable pub sheetFrom : ℕ → Stack → Reader Stack
+  sheetFrom zero st = toEnd st (here (stop overflow))
+  sheetFrom (suc n) st = toEnd st do
+    st₁ ← here (workFrom st)
+    sheetFrom n st₁
+
+  -- From any height, with at most n steps more, rule refusals passed over: the steps that were read.
+  unfoldable pub skimFrom : ℕ → ℕ → Reader (List Step)
+  skimFrom zero h = toEnd [] (here (stop overflow))
+  skimFrom (suc n) h = toEnd [] do
+    x ← here (stepFrom h)
+    xs ← skimFrom n (leaves (opcodeOf x) h)
+    give (x ∷ xs)
+
+-- ---- from the empty stack
+
+abbrev pub outcomeOf : {A : Type 0} → Read A → Outcome A
+outcomeOf (got a next) = accepted a
+outcomeOf (stopped k p) = refused k p
+
+-- The types left, bottom first.
+unfoldable pub sheetRun : List ℕ → Outcome (List Ty)
+sheetRun s = mapped reverse (outcomeOf (sheetFrom s maxSteps [] 0))
+
+-- The steps, as they are read to the end.
+unfoldable pub skim : List ℕ → Outcome (List Step)
+skim s = outcomeOf (skimFrom s maxSteps 0 0)

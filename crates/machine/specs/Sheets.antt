@@ -1,0 +1,67 @@
+-- A sheet's bytes and lists of steps: an accepted sheet is the bytes of a list of steps, and the bytes of a list of steps get what the
+-- steps get.
+use Prim.Native.Nat.{ℕ}
+use native.Mathlib.Omega.{arith}
+use mathlib.Core.List.{List, [], reverse, reverse-reverse}
+use mathlib.Core.Path.{_≡_, refl, sym, _∙_, ap}
+use Rattle.model.specs.Types.{Ty}
+use Rattle.model.specs.Within.{All, Within}
+use Rattle.format.specs.Reader.{Read, got, stopped}
+use Rattle.format.specs.ReaderLaws.{Bytes}
+use Rattle.format.specs.Outcome.{accepted, mapped}
+use Rattle.rules.specs.Lists.{all-reverse}
+use Rattle.machine.specs.SheetLimits.{maxSteps}
+use Rattle.machine.specs.Steps.{Step}
+use Rattle.machine.specs.Run.{Answer, gives, refuses, aside, Stack, steps}
+use Rattle.machine.specs.Sheet.{sheetFrom, outcomeOf, sheetRun, skim}
+use Rattle.machine.specs.Steps.{SheetOf}
+use Rattle.machine.specs.WellFormed.{Heights}
+use Rattle.machine.specs.StepsTook.{skim-took}
+use Rattle.machine.specs.SheetWorked.{Same, accepted-skims}
+use Rattle.machine.specs.StepsReads.{written-worked, written-skims, writeSteps-same}
+use Rattle.machine.specs.StepsWithin.{steps-within}
+
+-- a stack as the types left, bottom first
+abbrev pub bottomFirst : Answer Stack → Answer (List Ty)
+bottomFirst (gives st) = gives (reverse st)
+bottomFirst (refuses k) = refuses k
+
+same-aside : (a : Answer Stack) (r : Read Stack) → Same a r → aside (mapped reverse (outcomeOf r)) ≡ bottomFirst a
+same-aside (gives st) r (n, e) = rw e
+same-aside (refuses k) r (p, e) = rw e
+
+-- The bytes of a list of steps get what the steps get, the place aside.
+pub sheet-steps : (s : List ℕ) (xs : List Step) → SheetOf s xs → aside (sheetRun s) ≡ bottomFirst (steps xs [])
+unfolding sheetRun
+sheet-steps s xs h = same-aside (steps xs []) (sheetFrom s maxSteps [] 0) (written-worked s xs [] maxSteps 0 (h .few) (omega arith) (h .within) (h .bytes))
+
+-- An accepted sheet is the bytes of a list of steps, worked to the types left.
+pub accepted-steps : (s : List ℕ) → Bytes s → (ts : List Ty) → sheetRun s ≡ accepted ts → (xs : List Step) × SheetOf s xs × (steps xs [] ≡ gives (reverse ts))
+unfolding sheetRun skim
+accepted-steps s small ts e = go (sheetFrom s maxSteps [] 0) refl e
+  where
+    go : (r : Read Stack) → sheetFrom s maxSteps [] 0 ≡ r → mapped reverse (outcomeOf r) ≡ accepted ts → (xs : List Step) × SheetOf s xs × (steps xs [] ≡ gives (reverse ts))
+    go (stopped k p) h e = let z : _≡_ {A = ℕ} 0 1 = cc in absurd (omega arith)
+    go (got st n) h e =
+        let (xs, e₁, e₂) = accepted-skims s maxSteps [] st 0 n h in
+        let w : reverse st ≡ ts = cc in
+        (xs, skim-took s small xs (rw e₁) .0, rw (← w, reverse-reverse st) e₂)
+
+-- There is one such list.
+pub steps-told : (s : List ℕ) (xs ys : List Step) → SheetOf s xs → SheetOf s ys → xs ≡ ys
+steps-told s xs ys h k = writeSteps-same xs ys (h .within) (k .within) (sym (h .bytes) ∙ k .bytes)
+
+-- Steps that lack no types and lay down none too many are read back to the end.
+pub skim-steps : (s : List ℕ) (xs : List Step) → SheetOf s xs → Heights xs 0 → skim s ≡ accepted xs
+unfolding skim
+skim-steps s xs h k = let (n, e) = written-skims s xs 0 maxSteps 0 (h .few) k (h .within) (h .bytes) in rw e
+
+-- The types left keep every limit.
+pub left-within : (s : List ℕ) (xs : List Step) (ts : List Ty) → SheetOf s xs → sheetRun s ≡ accepted ts → (steps xs [] ≡ gives (reverse ts)) × All Within ts
+left-within s xs ts h e = go (steps xs []) refl (sym (sheet-steps s xs h) ∙ ap aside e)
+  where
+    go : (a : Answer Stack) → steps xs [] ≡ a → bottomFirst a ≡ gives ts → (steps xs [] ≡ gives (reverse ts)) × All Within ts
+    go (refuses k) f e = let z : _≡_ {A = ℕ} 0 1 = cc in absurd (omega arith)
+    go (gives st) f e =
+        let w : reverse st ≡ ts = cc in
+        (rw (← w, reverse-reverse st) f, rw (← w) (all-reverse Within st (steps-within xs [] st (h .within) tt f)))

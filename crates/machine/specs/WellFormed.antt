@@ -1,0 +1,30 @@
+-- Well-formed sheets (document 01, "The sheet, added"): read to the end, rule refusals passed over, a sheet meets none of 1 to 5, 11
+-- and 12, and both buffers hold 39,936 bytes. The types left are counted on that reading.
+use Prim.Native.Nat.{ℕ, _≤_}
+use mathlib.Core.List.{List, [], _∷_}
+use mathlib.Core.Path.{_≡_}
+use lib.ListN.{length}
+use Rattle.format.specs.Outcome.{accepted}
+use Rattle.machine.specs.SheetLimits.{maxStack, scratchBytes}
+use Rattle.machine.specs.Steps.{Step, opcodeOf, takes, leaves}
+use Rattle.machine.specs.Sheet.{skim}
+
+-- The term well-formed, of a sheet's bytes and of the two buffers, with the steps that the reading gives: the reading's own refusals
+-- are 1 to 5, 11 and 12, so that it meets none of them if it is accepted.
+pub record WellFormed (s result scratch : List ℕ) (xs : List Step) : Type 0 where
+  pub read : skim s ≡ accepted xs
+  pub result-holds : scratchBytes ≤ length result
+  pub scratch-holds : scratchBytes ≤ length scratch
+
+-- The height that steps leave of height h; from the empty stack, the number of types left.
+abbrev pub heightAfter : List Step → ℕ → ℕ
+heightAfter [] h = h
+heightAfter (x ∷ xs) h = heightAfter xs (leaves (opcodeOf x) h)
+
+abbrev pub typesLeft : List Step → ℕ
+typesLeft xs = heightAfter xs 0
+
+-- No step lacks types or lays down one too many, from height h on.
+abbrev pub Heights : List Step → ℕ → Type 0
+Heights [] h = Unit {0}
+Heights (x ∷ xs) h = (takes (opcodeOf x) ≤ h) × (leaves (opcodeOf x) h ≤ maxStack) × Heights xs (leaves (opcodeOf x) h)

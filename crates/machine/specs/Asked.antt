@@ -1,5 +1,5 @@
--- What shapes ask of each index, and what real shapes do: pervading is refused exactly where different sizes are asked for, and a real
--- shape that fits asks for no less.
+-- What shapes ask of each index, and what real shapes do: pervading is refused exactly where different sizes are asked for, and a
+-- real shape that fits asks for no less.
 use Prim.Native.Nat.{ℕ, zero, suc}
 use native.Mathlib.Omega.{arith}
 use mathlib.Core.Bool.{true, false}

@@ -1,5 +1,6 @@
--- A stack of values of any kind that are laid down, and mixed two by two by a rule that may refuse. What is on the stack and still to
--- be laid, gathered in a commutative monoid, stays the same along the moves; and where the rule refuses, it holds what refuses.
+-- A stack of values of any kind that are laid down, and mixed two by two by a rule that may refuse. What is on the stack and
+-- still to be laid, gathered in a commutative monoid, stays the same along the moves; and where the rule refuses, it holds what
+-- refuses.
 use Prim.Native.Nat.{ℕ, suc, _-_, _≤_}
 use native.Mathlib.Omega.{arith}
 use mathlib.Core.List.{List, [], _∷_}

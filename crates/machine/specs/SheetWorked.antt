@@ -1,5 +1,5 @@
--- A sheet's run against the run of a list of steps: where the reading gives a list of steps, the sheet gets what these steps get, the
--- place aside; and a sheet that is accepted is read to the end.
+-- A sheet's run against the run of a list of steps: where the reading gives a list of steps, the sheet gets what these steps get,
+-- the place aside; and a sheet that is accepted is read to the end.
 use Prim.Native.Nat.{ℕ, zero, suc, _-_}
 use native.Mathlib.Omega.{arith}
 use mathlib.Core.Bool.{Bool, true, false, cond}

@@ -1,5 +1,5 @@
--- Lists of puts and unfilled pervadings that leave one type: refused with 8 exactly where the puts ask for different sizes at an index,
--- which is exactly where no fitting real arrays get through; otherwise accepted.
+-- Lists of puts and unfilled pervadings that leave one type: refused with 8 exactly where the puts ask for different sizes at an
+-- index, which is exactly where no fitting real arrays get through; otherwise accepted.
 use Prim.Native.Nat.{ℕ}
 use native.Mathlib.Omega.{arith}
 use mathlib.Core.Bool.{false}

@@ -7,7 +7,7 @@ use mathlib.Core.Option.{Option, none, some}
 use lib.Dec.{eqb, leb}
 use Rattle.model.specs.Limits.{maxFields, maxTypes, maxDepth}
 use Rattle.model.specs.Refusals.{tooMany}
-use Rattle.model.specs.Types.{static, unknown, Shape, shape, any, Scalar, plain, boxAny, boxAll, boxDef, Fields, Ty, ty, types, depth}
+use Rattle.model.specs.Types.{static, unknown, Shape, shape, any, Scalar, plain, boxAny, boxAll, boxDef, Ty, ty, types, depth}
 use Rattle.format.specs.Records.{code}
 use Rattle.format.specs.Outcome.{Outcome, accepted, refused}
 use Rattle.rules.specs.Types.{anyTy, copies}

@@ -5,7 +5,7 @@ use mathlib.Core.List.{List, [], _∷_, _++_, map}
 use mathlib.Core.Option.{some}
 use mathlib.Core.Path.{_≡_, refl}
 use Rattle.model.specs.Refusals.{wrongScalar, wrongShape}
-use Rattle.model.specs.Types.{Dim, static, unknown, Shape, shape, Kind, int, num, any, plain, Ty, ty, inside, below}
+use Rattle.model.specs.Types.{static, unknown, Shape, shape, Kind, int, num, any, plain, Ty, ty, inside, below}
 use Rattle.model.specs.Within.{All}
 use Rattle.format.specs.Records.{code}
 use Rattle.format.specs.Outcome.{Outcome, accepted, refused}
@@ -34,12 +34,12 @@ Holds (theShapeCheck side s t x) = checkShape side s t ≡ x
 
 -- ---- how the cases are written
 
--- [n ..] of static sizes, and the same open
-abbrev pub sizes : List ℕ → Shape
-sizes ns = closed (map static ns)
+-- [sizes] of static sizes, and [sizes..]
+abbrev pub statics : List ℕ → Shape
+statics ns = closed (map static ns)
 
-abbrev pub opening : List ℕ → Shape
-opening ns = shape (map static ns) (some [])
+abbrev pub starting : List ℕ → Shape
+starting ns = shape (map static ns) (some [])
 
 -- a kind under a shape
 abbrev pub of : Kind → Shape → Ty
@@ -52,11 +52,11 @@ cases =
     map ofRules ruleCases
     ++ (
     -- (l) Num [?] on Int [3] leaves Int [3]; Num [..] on Any [3] is 9.
-    theValidation unsided (of num (closed (unknown ∷ []))) (of int (sizes (3 ∷ []))) (accepted (of int (sizes (3 ∷ []))))
-    ∷ theValidation unsided (of num anyShape) (of any (sizes (3 ∷ []))) (refused wrongScalar 0)
+    theValidation unsided (of num (closed (unknown ∷ []))) (of int (statics (3 ∷ []))) (accepted (of int (statics (3 ∷ []))))
+    ∷ theValidation unsided (of num anyShape) (of any (statics (3 ∷ []))) (refused wrongScalar 0)
     -- (m) [2 3] on [2..] is 10. Right-side [3] on [2 3] leaves [2 3..3].
-    ∷ theShapeCheck unsided (sizes (2 ∷ 3 ∷ [])) (opening (2 ∷ [])) (refused wrongShape 0)
-    ∷ theShapeCheck right (sizes (3 ∷ [])) (sizes (2 ∷ 3 ∷ [])) (accepted (shape (static 2 ∷ static 3 ∷ []) (some (static 3 ∷ []))))
+    ∷ theShapeCheck unsided (statics (2 ∷ 3 ∷ [])) (starting (2 ∷ [])) (refused wrongShape 0)
+    ∷ theShapeCheck right (statics (3 ∷ [])) (statics (2 ∷ 3 ∷ [])) (accepted (shape (static 2 ∷ static 3 ∷ []) (some (static 3 ∷ []))))
     ∷ [])
 
 with-rules : (cs : List RuleCase) (ds : List Case) → All RuleHolds cs → All Holds ds → All Holds (map ofRules cs ++ ds)

@@ -58,7 +58,8 @@ onDef contents n f keeps (boxAll t l) = accepted (boxAll t l)
 onDef contents n f keeps (boxDef m g) = mapped (boxDef m) (contents (λ h. keeps (boxDef m h)) g)
 
 unfoldable mutual
-  -- A spec's scalar on a type's shape and scalar: the scalar that the type then has.
+  -- A spec's scalar on a type's shape and scalar: the scalar that the type then has. A kind, and box Any, must be a superset; box Any
+  -- is one of every box, which stays as it is.
   pub checkScalar : Scalar → (Scalar → Bool) → Shape → Scalar → Outcome Scalar
   checkScalar (plain k) keeps t l = unlessAny keeps (plain k) t l (superset (plain k) l)
   checkScalar boxAny keeps t l = unlessAny keeps boxAny t l (superset boxAny l)

@@ -1,9 +1,8 @@
 -- `check_shape` (document 01, "mod.rs"): a spec's shape on a type's, without a side or for one. Opening sizes are compared from the
 -- front, for the right side from the end; [..] on either side excuses a mismatch; what is not refused is merged.
-use Prim.Native.Nat.{ℕ}
 use mathlib.Core.Bool.{Bool, true, false, _&&_, _||_, not, cond}
 use mathlib.Core.List.{List, [], _∷_, _++_, reverse}
-use mathlib.Core.Option.{Option, none, some}
+use mathlib.Core.Option.{none, some}
 use lib.ListN.{length}
 use lib.Dec.{eqb, ltb}
 use Rattle.model.specs.Refusals.{wrongShape}
@@ -44,9 +43,9 @@ abbrev pub lastSizes : Shape → List Dim
 lastSizes (shape p none) = p
 lastSizes (shape p (some d)) = d
 
--- The opening sizes of a spec's shape, against a type's shape. A closed type needs equal counts and sizes that agree; an open one,
--- its opening and closing sizes one after the other, is equal to the spec's. The left side may have more sizes than the spec, and
--- an open shape may have fewer; the right side may have more in front.
+-- The opening sizes of a spec against a type's shape. Without a side, a closed type has as many sizes, and they agree; an open type's
+-- opening and closing sizes, one list after the other, equal the spec's. For the left side, a closed type has no fewer sizes, and the
+-- opening sizes agree from the front. For the right side, opening and closing sizes are no fewer, and the last ones agree from the end.
 unfoldable pub mismatch : Side → List Dim → Shape → Bool
 mismatch unsided o (shape p none) = not (eqb (length p) (length o) && agree p o)
 mismatch unsided o (shape p (some d)) = not (equalDims (p ++ d) o)

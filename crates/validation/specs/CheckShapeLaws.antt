@@ -1,16 +1,14 @@
 -- Laws about `check_shape`: it accepts what is no mismatch, with the merged shape, and refuses only a mismatch; a shape agrees with
 -- itself and is equal to itself; the result keeps to the limits.
-use Prim.Native.Nat.{ℕ}
 use native.Mathlib.Omega.{arith}
-use mathlib.Core.Bool.{Bool, true, false, _&&_, cond}
+use mathlib.Core.Bool.{Bool, true, false, _&&_}
 use mathlib.Core.List.{List, [], _∷_}
-use mathlib.Core.Option.{none, some}
 use mathlib.Core.Path.{_≡_, refl, ap}
 use borrow.Author.Tests.{eq-eqb, eqb-true}
 use Rattle.model.specs.Refusals.{wrongShape}
 use Rattle.model.specs.Types.{Dim, static, unknown, Shape, shape}
 use Rattle.model.specs.Within.{ShapeWithin}
-use Rattle.format.specs.Outcome.{Outcome, accepted, refused}
+use Rattle.format.specs.Outcome.{accepted, refused}
 use Rattle.rules.specs.Shapes.{mergeFrom}
 use Rattle.rules.specs.ShapesLaws.{merge-within}
 use Rattle.validation.specs.CheckShape.{Side, unsided, left, right, equalDim, equalDims, shapeMismatch, sidedShape, checkShape}

@@ -19,7 +19,7 @@ use Rattle.validation.specs.CheckShape.{unsided, left, right, agree, equ
 use Rattle.validation.specs.AsFields.{keepsLimits, fieldsFor, asBox, copied, named, asFields}
 use Rattle.validation.specs.CheckScalar.{eachField, onAll, onDef, checkScalar}
 use Rattle.validation.specs.Validate.{validate}
-use Rattle.validation.specs.Cases.{Case, theValidation, theShapeCheck, Holds, sizes, opening, of}
+use Rattle.validation.specs.Cases.{Case, theValidation, theShapeCheck, Holds, statics, starting, of}
 
 -- ---- how the examples are written
 
@@ -43,62 +43,64 @@ abbrev pub defN : Shape → List Ty → Ty
 defN s ts = ty s (boxDef (some (110 ∷ [])) (fields ts))
 
 -- [], and [n] of one size
-abbrev pub lone : Shape
-lone = scalarShape
+abbrev pub scalar : Shape
+scalar = scalarShape
 
-abbrev pub row : ℕ → Shape
-row n = sizes (n ∷ [])
+abbrev pub sized : ℕ → Shape
+sized n = statics (n ∷ [])
 
 -- ---- the examples
 
 unfoldable pub examples : List Case
 examples =
     -- Scalar first, then shape: [2] Num on [3] Char is 9, and a 9 inside a box comes before the outer shape's 10.
-    theValidation unsided (of num (row 2)) (of char (row 3)) (refused wrongScalar 0)
-    ∷ theValidation unsided (ty (row 2) (boxOf (of num lone))) (ty (row 3) (boxOf (of char lone))) (refused wrongScalar 0)
+    theValidation unsided (of num (sized 2)) (of char (sized 3)) (refused wrongScalar 0)
+    ∷ theValidation unsided (ty (sized 2) (boxOf (of num scalar))) (ty (sized 3) (boxOf (of char scalar))) (refused wrongScalar 0)
     -- A wholly Any type takes the spec's scalar as it is: what it takes would not pass against itself.
     ∷ theValidation unsided (ty anyShape (boxOf (of num (shape (static 2 ∷ []) (some (static 3 ∷ [])))))) anyTy (accepted (ty anyShape (boxOf (of num (shape (static 2 ∷ []) (some (static 3 ∷ [])))))))
     ∷ theShapeCheck unsided (shape (static 2 ∷ []) (some (static 3 ∷ []))) (shape (static 2 ∷ []) (some (static 3 ∷ []))) (refused wrongShape 0)
     -- The side does not reach into boxes.
-    ∷ theValidation right (of num (row 3)) (of num (sizes (2 ∷ 3 ∷ []))) (accepted (of num (shape (static 2 ∷ static 3 ∷ []) (some (static 3 ∷ [])))))
-    ∷ theValidation right (boxed (of num (row 3))) (boxed (of num (sizes (2 ∷ 3 ∷ [])))) (refused wrongShape 0)
-    ∷ theValidation left (def (of num (row 2) ∷ [])) (def (of num (sizes (2 ∷ 3 ∷ [])) ∷ [])) (refused wrongShape 0)
+    ∷ theValidation right (of num (sized 3)) (of num (statics (2 ∷ 3 ∷ []))) (accepted (of num (shape (static 2 ∷ static 3 ∷ []) (some (static 3 ∷ [])))))
+    ∷ theValidation right (boxed (of num (sized 3))) (boxed (of num (statics (2 ∷ 3 ∷ [])))) (refused wrongShape 0)
+    ∷ theValidation left (def (of num (sized 2) ∷ [])) (def (of num (statics (2 ∷ 3 ∷ [])) ∷ [])) (refused wrongShape 0)
     -- 1 is not special.
-    ∷ theShapeCheck unsided (row 1) (row 3) (refused wrongShape 0)
-    -- An open type passes if its sizes, one list after the other, are the spec's, ? only with ?. [..] opens, and [..] is closed.
-    ∷ theShapeCheck unsided (shape (unknown ∷ []) (some [])) (opening (2 ∷ [])) (refused wrongShape 0)
-    ∷ theShapeCheck unsided (row 2) (ending (static 2 ∷ [])) (accepted (shape (static 2 ∷ []) (some (static 2 ∷ []))))
-    ∷ theShapeCheck unsided anyShape (row 3) (accepted (opening (3 ∷ [])))
-    ∷ theShapeCheck unsided (row 3) anyShape (accepted (row 3))
+    ∷ theShapeCheck unsided (sized 1) (sized 3) (refused wrongShape 0)
+    -- An open type passes if its sizes, one list after the other, are the spec's, ? only with ?. A spec [..] opens the type; a type [..]
+    -- is closed by a closed spec.
+    ∷ theShapeCheck unsided (shape (unknown ∷ []) (some [])) (starting (2 ∷ [])) (refused wrongShape 0)
+    ∷ theShapeCheck unsided (sized 2) (ending (static 2 ∷ [])) (accepted (shape (static 2 ∷ []) (some (static 2 ∷ []))))
+    ∷ theShapeCheck unsided anyShape (sized 3) (accepted (starting (3 ∷ [])))
+    ∷ theShapeCheck unsided (sized 3) anyShape (accepted (sized 3))
     -- A side has room for more sizes, and an open type for fewer.
-    ∷ theShapeCheck left (row 2) (sizes (2 ∷ 3 ∷ [])) (accepted (opening (2 ∷ 3 ∷ [])))
-    ∷ theShapeCheck left (sizes (2 ∷ 3 ∷ [])) (row 2) (refused wrongShape 0)
-    ∷ theShapeCheck left (sizes (2 ∷ 3 ∷ [])) (opening (2 ∷ [])) (accepted (opening (2 ∷ 3 ∷ [])))
-    ∷ theShapeCheck right (sizes (2 ∷ 3 ∷ [])) (ending (static 3 ∷ [])) (refused wrongShape 0)
+    ∷ theShapeCheck left (sized 2) (statics (2 ∷ 3 ∷ [])) (accepted (starting (2 ∷ 3 ∷ [])))
+    ∷ theShapeCheck left (statics (2 ∷ 3 ∷ [])) (sized 2) (refused wrongShape 0)
+    ∷ theShapeCheck left (statics (2 ∷ 3 ∷ [])) (starting (2 ∷ [])) (accepted (starting (2 ∷ 3 ∷ [])))
+    ∷ theShapeCheck right (statics (2 ∷ 3 ∷ [])) (ending (static 3 ∷ [])) (refused wrongShape 0)
     -- A name of length 0 is a name; a closed shape of one static size says how many fields.
-    ∷ theValidation unsided (ty anyShape (boxDef (some []) noFields)) (of any (row 3)) (accepted (ty (opening (3 ∷ [])) (boxDef (some []) (fields (anyTy ∷ anyTy ∷ anyTy ∷ [])))))
-    ∷ theValidation unsided (defN anyShape (of num lone ∷ [])) (of any (row 2)) (accepted (defN (opening (2 ∷ [])) (of num lone ∷ anyTy ∷ [])))
-    ∷ theValidation unsided (defN anyShape (of num lone ∷ [])) (ty lone boxAny) (accepted (defN (ending []) (of num lone ∷ [])))
-    ∷ theValidation unsided (defN anyShape (of num lone ∷ [])) (ty (row 2) (boxOf (of int lone))) (accepted (defN (opening (2 ∷ [])) (of int lone ∷ of int lone ∷ [])))
-    ∷ theValidation unsided (defN lone []) (def (of int lone ∷ [])) (accepted (defN lone (of int lone ∷ [])))
+    ∷ theValidation unsided (ty anyShape (boxDef (some []) noFields)) (of any (sized 3)) (accepted (ty (starting (3 ∷ [])) (boxDef (some []) (fields (anyTy ∷ anyTy ∷ anyTy ∷ [])))))
+    ∷ theValidation unsided (defN anyShape (of num scalar ∷ [])) (of any (sized 2)) (accepted (defN (starting (2 ∷ [])) (of num scalar ∷ anyTy ∷ [])))
+    ∷ theValidation unsided (defN anyShape (of num scalar ∷ [])) (ty scalar boxAny) (accepted (defN (ending []) (of num scalar ∷ [])))
+    ∷ theValidation unsided (defN anyShape (of num scalar ∷ [])) (ty (sized 2) (boxOf (of int scalar))) (accepted (defN (starting (2 ∷ [])) (of int scalar ∷ of int scalar ∷ [])))
+    ∷ theValidation unsided (defN scalar []) (def (of int scalar ∷ [])) (accepted (defN scalar (of int scalar ∷ [])))
     -- Counts of fields are not compared; unlike boxes pass, also an unnamed Def on All.
-    ∷ theValidation unsided (def (of num lone ∷ [])) (def (of int lone ∷ of char lone ∷ [])) (accepted (def (of int lone ∷ of char lone ∷ [])))
-    ∷ theValidation unsided (def (of num lone ∷ of char lone ∷ [])) (def (of int lone ∷ [])) (accepted (def (of int lone ∷ [])))
-    ∷ theValidation unsided (boxed (of num lone)) (def (of int lone ∷ of char lone ∷ [])) (refused wrongScalar 0)
-    ∷ theValidation unsided (def (of num lone ∷ [])) (boxed (of char lone)) (accepted (boxed (of char lone)))
-    ∷ theValidation unsided (def (of num lone ∷ [])) (ty lone boxAny) (accepted (def (of num lone ∷ [])))
+    ∷ theValidation unsided (def (of num scalar ∷ [])) (def (of int scalar ∷ of char scalar ∷ [])) (accepted (def (of int scalar ∷ of char scalar ∷ [])))
+    ∷ theValidation unsided (def (of num scalar ∷ of char scalar ∷ [])) (def (of int scalar ∷ [])) (accepted (def (of int scalar ∷ [])))
+    ∷ theValidation unsided (boxed (of num scalar)) (def (of int scalar ∷ of char scalar ∷ [])) (refused wrongScalar 0)
+    ∷ theValidation unsided (def (of num scalar ∷ [])) (boxed (of char scalar)) (accepted (boxed (of char scalar)))
+    ∷ theValidation unsided (def (of num scalar ∷ [])) (ty scalar boxAny) (accepted (def (of num scalar ∷ [])))
     -- A ninth depth: seven boxes around a Def named n without fields, on seven around [3], [0] and [?] of Any.
-    ∷ theValidation unsided (boxedTimes 7 (defN anyShape [])) (boxedTimes 7 (of any (row 3))) (refused tooMany 0)
-    ∷ theValidation unsided (boxedTimes 7 (defN anyShape [])) (boxedTimes 7 (of any (row 0))) (accepted (boxedTimes 7 (defN (opening (0 ∷ [])) [])))
+    ∷ theValidation unsided (boxedTimes 7 (defN anyShape [])) (boxedTimes 7 (of any (sized 3))) (refused tooMany 0)
+    ∷ theValidation unsided (boxedTimes 7 (defN anyShape [])) (boxedTimes 7 (of any (sized 0))) (accepted (boxedTimes 7 (defN (starting (0 ∷ [])) [])))
     ∷ theValidation unsided (boxedTimes 7 (defN anyShape [])) (boxedTimes 7 (of any (closed (unknown ∷ [])))) (accepted (boxedTimes 7 (defN (shape (unknown ∷ []) (some [])) [])))
     -- A 33rd type: 31 fields are too many inside a box, and so are 2^53 anywhere.
-    ∷ theValidation unsided (boxed (defN anyShape [])) (boxed (of any (row 31))) (refused tooMany 0)
-    ∷ theValidation unsided (defN anyShape []) (of any (row 9007199254740992)) (refused tooMany 0)
+    ∷ theValidation unsided (boxed (defN anyShape [])) (boxed (of any (sized 31))) (refused tooMany 0)
+    ∷ theValidation unsided (defN anyShape []) (of any (sized 9007199254740992)) (refused tooMany 0)
     -- 5 comes at the change that takes the type over: before a later field's 9, and also where a later change would make room.
-    ∷ theValidation unsided (def (defN anyShape [] ∷ of num lone ∷ [])) (def (of any (row 31) ∷ of char lone ∷ [])) (refused tooMany 0)
-    ∷ theValidation unsided (def (of num lone ∷ defN anyShape [] ∷ [])) (def (of char lone ∷ of any (row 31) ∷ [])) (refused wrongScalar 0)
-    ∷ theValidation unsided (def (defN anyShape [] ∷ defN (row 0) [] ∷ [])) (def (of any (row 29) ∷ ty (row 0) (boxOf (of num lone)) ∷ [])) (refused tooMany 0)
-    ∷ theValidation unsided (def (defN (row 0) [] ∷ of num lone ∷ [])) (def (ty (row 0) (boxOf (of num lone)) ∷ of int lone ∷ [])) (accepted (def (defN (row 0) [] ∷ of int lone ∷ [])))
+    ∷ theValidation unsided (def (defN anyShape [] ∷ of num scalar ∷ [])) (def (of any (sized 31) ∷ of char scalar ∷ [])) (refused tooMany 0)
+    ∷ theValidation unsided (def (of num scalar ∷ defN anyShape [] ∷ [])) (def (of char scalar ∷ of any (sized 31) ∷ [])) (refused wrongScalar 0)
+    ∷ theValidation unsided (def (defN anyShape [] ∷ defN (sized 0) [] ∷ [])) (def (of any (sized 29) ∷ ty (sized 0) (boxOf (of num scalar)) ∷ [])) (refused tooMany 0)
+    -- The same two the other way round: what was replaced no longer counts.
+    ∷ theValidation unsided (def (defN (sized 0) [] ∷ defN anyShape [] ∷ [])) (def (ty (sized 0) (boxOf (of num scalar)) ∷ of any (sized 29) ∷ [])) (accepted (def (defN (sized 0) [] ∷ ty (starting (29 ∷ [])) (boxDef (some (110 ∷ [])) (copies 29 anyTy)) ∷ [])))
     ∷ []
 
 pub examples-hold : All Holds examples

@@ -1,17 +1,16 @@
 -- Laws about `check_scalar` and the limits: if the outermost type kept to them before, it keeps to them with what is accepted in its
 -- place. All that is asked of the measure is that it goes by the number of types inside and by the depth.
-use Prim.Native.Nat.{ℕ, suc, _+_, max}
-use native.Mathlib.Omega.{arith}
+use Prim.Native.Nat.{ℕ, suc}
 use mathlib.Core.Bool.{Bool, true, false, cond}
 use mathlib.Core.List.{List}
 use mathlib.Core.Option.{Option, none, some}
-use mathlib.Core.Path.{_≡_, refl, sym, _∙_, ap, ap₂}
+use mathlib.Core.Path.{_≡_, refl, _∙_, ap}
 use lib.Dec.{eqb, leb}
 use Rattle.model.specs.Limits.{maxFields}
 use Rattle.model.specs.Refusals.{tooMany}
 use Rattle.model.specs.Types.{Shape, any, Scalar, plain, boxAny, boxAll, boxDef, Fields, noFields, field, Ty, ty, fieldOf, fieldCount, inside, among, below, deepest}
 use Rattle.format.specs.Records.{code}
-use Rattle.format.specs.Outcome.{Outcome, accepted, refused}
+use Rattle.format.specs.Outcome.{Outcome, accepted}
 use Rattle.rules.specs.Types.{anyTy, copies}
 use Rattle.validation.specs.CheckShape.{unsided, checkShape}
 use Rattle.validation.specs.AsFields.{measured, fieldsFor, asBox, copied, orName, named, asFields}

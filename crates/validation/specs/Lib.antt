@@ -6,6 +6,11 @@ pub mod Cases
 pub mod Examples
 pub mod OutcomeLaws
 pub mod CheckShapeLaws
+pub mod CheckShapeSteps
 pub mod RecordsLaws
 pub mod KeepsLaws
+pub mod FitsLaws
+pub mod CheckScalarSteps
+pub mod LimitsLaws
+pub mod RefusalsLaws
 pub mod ValidateLaws

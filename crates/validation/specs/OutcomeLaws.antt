@@ -2,7 +2,7 @@
 -- values between the parts are variables.
 use Prim.Native.Nat.{ℕ}
 use native.Mathlib.Omega.{arith}
-use mathlib.Core.Bool.{Bool, true, false, cond}
+use mathlib.Core.Bool.{Bool, true, false, _&&_, cond}
 use mathlib.Core.Path.{_≡_, refl}
 use Rattle.model.specs.Refusals.{tooMany, wrongScalar}
 use Rattle.model.specs.Types.{Shape, Scalar, boxAll, Fields, field, Ty, ty, boxOf, fieldOf}
@@ -13,6 +13,10 @@ use Rattle.validation.specs.AsFields.{measured}
 use Rattle.validation.specs.CheckScalar.{_>>=_, inTurn, superset, unlessAny}
 
 -- ---- tests
+
+pub both-true : (a b : Bool) → (a && b) ≡ true → (a ≡ true) × (b ≡ true)
+both-true true b h = (refl, h)
+both-true false b h = (cc, cc)
 
 -- one that had to hold, and one that had to fail
 pub held {κ} : {A : Type 0} {C : Type κ} (t : Bool) (r : Outcome A) (n p : ℕ) {a : A} → cond t r (refused n p) ≡ accepted a → (t ≡ true → r ≡ accepted a → C) → C

@@ -1,6 +1,6 @@
 -- Laws about `check_scalar`: every record of what it accepts keeps to the limits, the number of a Def's fields among them, if every
 -- record of the spec and of the type did.
-use Prim.Native.Nat.{ℕ, suc, _≤_}
+use Prim.Native.Nat.{ℕ, suc}
 use native.Mathlib.Omega.{arith}
 use mathlib.Core.Bool.{Bool, true, false, cond}
 use mathlib.Core.List.{List}
@@ -13,7 +13,7 @@ use Rattle.model.specs.Refusals.{tooMany}
 use Rattle.model.specs.Types.{Shape, any, Scalar, plain, boxAny, boxAll, boxDef, Fields, noFields, field, Ty, ty, fieldOf, fieldCount}
 use Rattle.model.specs.Within.{Each, NameWithin, ShapeWithin, ScalarWithin, FieldsWithin, RecordsWithin}
 use Rattle.format.specs.Records.{code}
-use Rattle.format.specs.Outcome.{Outcome, accepted, refused}
+use Rattle.format.specs.Outcome.{Outcome, accepted}
 use Rattle.rules.specs.Types.{anyTy, copies}
 use Rattle.rules.specs.FieldsLaws.{anyTy-within, copies-count, copies-within}
 use Rattle.validation.specs.CheckShape.{unsided, checkShape}

@@ -1,20 +1,24 @@
 -- Laws about validation on whole types: the shape of what is accepted; that it keeps to the limits, so that what validation writes
--- can be read and 4,992 bytes suffice for it; and which refusals there are.
+-- can be read and 4,992 bytes suffice for it.
 use Prim.Native.Nat.{_≤_}
-use mathlib.Core.Bool.{Bool, true, false, _&&_}
-use mathlib.Core.Path.{_≡_, refl, sym}
+use mathlib.Core.Bool.{true, false, false≢true}
+use mathlib.Core.Path.{_≡_, sym, _∙_}
+use lib.ListN.{length}
 use lib.Dec.{leb}
 use borrow.Author.Tests.{le-leb, leb-true}
-use Rattle.model.specs.Limits.{maxTypes, maxDepth}
-use Rattle.model.specs.Types.{Shape, Scalar, inside, below, Ty, ty, shapeOf, scalarOf, types, depth}
+use Rattle.model.specs.Limits.{maxTypes, maxDepth, maxBytes}
+use Rattle.model.specs.Types.{Shape, Scalar, Ty, ty, shapeOf, types, depth}
 use Rattle.model.specs.Within.{Within}
-use Rattle.format.specs.Outcome.{Outcome, accepted, refused}
+use Rattle.format.specs.Records.{writeTy}
+use Rattle.format.specs.Outcome.{accepted, lone}
+use Rattle.format.specs.WriteRead.{write-lone}
+use Rattle.format.specs.Suffices.{suffices}
 use Rattle.rules.specs.Shapes.{mergeFrom}
 use Rattle.validation.specs.CheckShape.{Side, unsided, shapeMismatch, sidedShape, checkShape}
 use Rattle.validation.specs.AsFields.{keepsLimits}
 use Rattle.validation.specs.CheckScalar.{checkScalar}
 use Rattle.validation.specs.Validate.{outermost, validate, checkScalarOnly, checkShapeOnly}
-use Rattle.validation.specs.OutcomeLaws.{mapped-accepted, inTurn-accepted}
+use Rattle.validation.specs.OutcomeLaws.{both-true, mapped-accepted, inTurn-accepted}
 use Rattle.validation.specs.CheckShapeLaws.{checkShape-accepted, checkShape-within}
 use Rattle.validation.specs.RecordsLaws.{checkScalar-records}
 use Rattle.validation.specs.KeepsLaws.{Counts, checkScalar-keeps}
@@ -37,17 +41,15 @@ validate-match side (ty s k) (ty t l) u e =
     checkShape-accepted side s t e₂ λ m y.
     m
 
+pub validate-mismatch : (side : Side) (s t u : Ty) → shapeMismatch side (shapeOf s) (shapeOf t) ≡ true → validate side s t ≡ accepted u → ⊥
+validate-mismatch side s t u h e = false≢true (sym (validate-match side s t u e) ∙ h)
+
 -- Without a side, the spec's shape itself is merged.
 pub validate-shape : (s t u : Ty) → validate unsided s t ≡ accepted u → shapeOf u ≡ mergeFrom (shapeOf t) (shapeOf s)
 unfolding sidedShape
 validate-shape s t u e = validate-merged unsided s t u e
 
 -- ---- the limits
-
--- both halves of a test
-pub both-true : (a b : Bool) → (a && b) ≡ true → (a ≡ true) × (b ≡ true)
-both-true true b h = (refl, h)
-both-true false b h = (cc, cc)
 
 pub keepsLimits-true : (t : Ty) → keepsLimits t ≡ true → (types t ≤ maxTypes) × (depth t ≤ maxDepth)
 unfolding keepsLimits
@@ -99,3 +101,9 @@ validate-within side (ty s k) (ty t l) u v w e =
       few = h .few;
       shallow = h .shallow;
     }
+
+-- ---- the bytes
+
+-- What validation writes can be read, and 4,992 bytes suffice for it.
+pub validate-written : (side : Side) (s t u : Ty) → Within s → Within t → validate side s t ≡ accepted u → (lone (writeTy u) ≡ accepted u) × (length (writeTy u) ≤ maxBytes)
+validate-written side s t u v w e = let h = validate-within side s t u v w e in (write-lone u h, suffices u h)

@@ -1,5 +1,5 @@
--- What an accepted call says of its sheet; the call's answer from the run of a list of steps; and the types left from a stack, counted
--- from the bottom.
+-- What an accepted call says of its sheet; the call's answer from the run of a list of steps; and the types left from a stack,
+-- counted from the bottom.
 use Prim.Native.Nat.{ℕ, zero, suc, _≤_}
 use native.Mathlib.Omega.{arith}
 use mathlib.Core.Bool.{Bool, true, false, cond}
@@ -15,12 +15,11 @@ use Rattle.model.specs.Types.{Ty}
 use Rattle.format.specs.ReaderLaws.{Bytes}
 use Rattle.format.specs.Outcome.{Outcome, accepted, refused}
 use Rattle.machine.specs.SheetLimits.{scratchBytes}
-use Rattle.machine.specs.Steps.{Step}
+use Rattle.machine.specs.Steps.{Step, SheetOf}
 use Rattle.machine.specs.Run.{gives, refuses, aside, Stack, steps}
 use Rattle.machine.specs.Sheet.{sheetRun}
 use Rattle.machine.specs.Call.{Tally, tally, called, writeTypes, zeroed, atFront, handOver, sheetCall}
 use Rattle.machine.specs.Real.{RealShape, Holds}
-use Rattle.machine.specs.Steps.{SheetOf}
 use Rattle.demand.specs.Claims.{Leaves, Mismatched, EachHolds}
 use Rattle.machine.specs.StepsHold.{Held}
 use Rattle.machine.specs.StepsWithin.{writeTypes-suffices, writeTypes-same}

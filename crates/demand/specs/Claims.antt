@@ -1,4 +1,4 @@
--- What demand 3 says of the call: the answers that it speaks of, and the conditions of its two halves, each with the demand's words.
+-- The words of demand 3 about the call: the answers that it speaks of, and the conditions of its two halves.
 use Prim.Native.Nat.{ℕ}
 use mathlib.Core.List.{List, []}
 use mathlib.Core.Option.{some}
@@ -17,13 +17,13 @@ use Rattle.machine.specs.Conditions.{NamesNoClosing, FillsNothing, RowsNoOpenDe
 
 -- ---- what the call answers
 
--- The call accepts the sheet, and these are the types left, bottom first: the answer has their number and their bytes, which stand at
--- the front of the result.
+-- "an accepted sheet", and the types left, bottom first: the answer is their number and the number of their bytes, and their bytes
+-- stand at the front of the result.
 pub record Leaves (s result scratch : List ℕ) (ts : List Ty) : Type 0 where
   pub within : All Within ts
   pub outcome : sheetCall s result scratch ≡ called (accepted (tally (length ts) (length (writeTypes ts)))) (atFront (writeTypes ts) result) (zeroed scratch)
 
--- The call answers mismatch, refusal 8, at some place.
+-- "mismatch, refusal 8, is answered", at some place.
 pub record Mismatched (s result scratch : List ℕ) : Type 0 where
   pub place : ℕ
   pub outcome : sheetCall s result scratch ≡ called (refused unpervaded place) result (zeroed scratch)
@@ -35,21 +35,22 @@ verdictOf (called (refused k p) result scratch) = refuses k
 
 -- ---- the first half
 
--- All conditions of the first half, of a list that is worked in order from an empty stack.
+-- All conditions of the first half, of a list that is worked in order from an empty stack. The proof does without the third.
 pub record FirstConditions (xs : List Step) : Type 0 where
   pub names-no-closing : All NamesNoClosing xs
   pub fills-nothing : All FillsNothing xs
   pub rows-no-open-def : Along RowsNoOpenDef xs []
   pub joins-alike : Along JoinsAlike xs []
 
--- "each type left holds the shape of the real array there": equally many, and the n-th from the bottom holds the n-th from the bottom.
+-- "each type left holds the shape of the real array there": the n-th type from the bottom the n-th real shape from the bottom,
+-- and there are equally many.
 pub record EachHolds (ts : List Ty) (rs : List RealShape) : Type 0 where
   pub equally-many : length ts ≡ length rs
   pub nth : (n : ℕ) (t : Ty) (r : RealShape) → getElem? ts n ≡ some t → getElem? rs n ≡ some r → Holds t r
 
 -- ---- the second half
 
--- All conditions of the second half: "a list of puts and unfilled pervadings that makes a well-formed sheet leaving one type".
+-- All conditions of the second half: "puts and unfilled pervadings", "a well-formed sheet", "leaving one type".
 pub record SecondConditions (s result scratch : List ℕ) (xs : List Step) : Type 0 where
   pub well-formed : WellFormed s result scratch xs
   pub puts-and-pervadings : All PutOrPervade xs

@@ -8,11 +8,10 @@ use Rattle.model.specs.Types.{Ty, ty, shapeOf}
 use Rattle.format.specs.ReaderLaws.{Bytes}
 use Rattle.format.specs.Records.{writeShape}
 use Rattle.format.specs.Outcome.{shapeRecord}
-use Rattle.machine.specs.Steps.{Step}
+use Rattle.machine.specs.Steps.{Step, SheetOf}
 use Rattle.machine.specs.Run.{gives, refuses, steps}
 use Rattle.machine.specs.Call.{sheetCall}
-use Rattle.machine.specs.Steps.{SheetOf}
-use Rattle.machine.specs.Conditions.{puts, SamePuts, closers}
+use Rattle.machine.specs.Conditions.{puts, SamePuts, countClosing}
 use Rattle.demand.specs.Claims.{Leaves, Mismatched, verdictOf, SecondConditions}
 use Rattle.machine.specs.Sheets.{left-within}
 use Rattle.machine.specs.StepsTook.{skim-took}
@@ -70,7 +69,7 @@ module _ (s result scratch s′ result′ scratch′ : List ℕ) (small : Bytes 
       (λ t u e e′. ap verdictOf (leaves-of s result scratch small xs c t e .outcome) ∙ sym (ap verdictOf (leaves-of s′ result′ scratch′ small′ ys c′ u e′ .outcome)))
       (λ e e′. ap verdictOf (mismatched-of s result scratch small xs c e .outcome) ∙ sym (ap verdictOf (mismatched-of s′ result′ scratch′ small′ ys c′ e′ .outcome)))
 
-  pub call-shape : (t : Ty) → Leaves s result scratch (t ∷ []) → closers (puts xs) ≤ 2 → (u : Ty) × Leaves s′ result′ scratch′ (u ∷ []) × (shapeRecord t ≡ shapeRecord u)
+  pub call-shape : (t : Ty) → Leaves s result scratch (t ∷ []) → countClosing (puts xs) ≤ 2 → (u : Ty) × Leaves s′ result′ scratch′ (u ∷ []) × (shapeRecord t ≡ shapeRecord u)
   call-shape t l n =
       both
       (λ t′ u e e′. (u, leaves-of s′ result′ scratch′ small′ ys c′ u e′, record-same t u (order-shape xs ys same (pervadings s result scratch small xs c) (pervadings s′ result′ scratch′ small′ ys c′) n t u (steps-of s result scratch small xs c t l) e′)))

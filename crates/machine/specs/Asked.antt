@@ -1,5 +1,5 @@
--- What shapes ask of each index, and what real shapes do: pervading is refused exactly where different sizes are asked for, and a real
--- shape that fits asks for no less.
+-- What shapes ask of each index, and what real shapes do: pervading is refused exactly where different sizes are asked for, and a
+-- real shape that fits asks for no less.
 use Prim.Native.Nat.{ℕ, zero, suc}
 use native.Mathlib.Omega.{arith}
 use mathlib.Core.Bool.{true, false}
@@ -14,8 +14,8 @@ use Rattle.machine.specs.Real.{RealShape, fits, realPervade, Feeds, Fits
 use Rattle.machine.specs.Fitting.{Fits, fits-of}
 use Rattle.machine.specs.PervadeHolds.{closedBy-some}
 use Rattle.machine.specs.Cells.{Named, unnamed, differ, Cell, cell, named, joinNamed, joinCell, cellOf, namedBy, joinNamed-idem, joinNamed-comm, joinNamed-assoc, joinCell-comm, joinCell-assoc, named-join}
-use Rattle.machine.specs.CellsPervade.{cell-pervade, differ-pervade, named-realPervade}
-use Rattle.machine.specs.Play.{Commutes, gather, laid}
+use Rattle.machine.specs.CellsPervade.{cell-pervade, differ-pervade, named-realPervade, differ-realPervade}
+use Rattle.machine.specs.Play.{Commutes, Joins, gather, laid}
 use Rattle.machine.specs.PlaySteps.{moves, feedMoves}
 
 pub named-commutes : Commutes unnamed joinNamed
@@ -58,16 +58,19 @@ pervade-cell i (shape o c) (shape p d) x e =
     closedBy-some (pervadeClosing c d) (pervadeDims false false o p) e λ l e₀ w.
     rw (← w) (cell-pervade o p l e₀ i)
 
-pub pervade-named : (i : ℕ) (s t x : Shape) → pervade false false s t ≡ some x → namedAt i x ≡ joinNamed (namedAt i s) (namedAt i t)
+pervade-named : (i : ℕ) (s t x : Shape) → pervade false false s t ≡ some x → namedAt i x ≡ joinNamed (namedAt i s) (namedAt i t)
 pervade-named i s t x e = ap named (pervade-cell i s t x e) ∙ named-join (cellAt i s) (cellAt i t)
 
-pub pervade-differ : (s t : Shape) → pervade false false s t ≡ none → (i : ℕ) × (joinNamed (namedAt i s) (namedAt i t) ≡ differ)
+pervade-differ : (s t : Shape) → pervade false false s t ≡ none → (i : ℕ) × (joinNamed (namedAt i s) (namedAt i t) ≡ differ)
 unfolding pervade
 pervade-differ (shape o c) (shape p d) e = go (pervadeDims false false o p) refl e
   where
     go : (r : Pervaded) → pervadeDims false false o p ≡ r → closedBy (pervadeClosing c d) r ≡ none → (i : ℕ) × (joinNamed (named (cellOf (getElem? o i))) (named (cellOf (getElem? p i))) ≡ differ)
     go (sizes l) h e = let z : _≡_ {A = ℕ} 0 1 = cc in absurd (omega arith)
     go (clash i) h e = (i, sym (named-join (cellOf (getElem? o i)) (cellOf (getElem? p i))) ∙ differ-pervade o p i h)
+
+pub pervade-joins : Joins joinNamed namedAt differ (pervade false false)
+pervade-joins = record { absorbs = λ x. refl; joins = pervade-named; refuses = pervade-differ }
 
 -- ---- real shapes
 
@@ -77,8 +80,8 @@ realAt i r = namedBy (getElem? r i)
 abbrev pub realAsked : ℕ → List RealShape → Named
 realAsked i l = gather unnamed joinNamed (realAt i) l
 
-pub realPervade-named : (i : ℕ) (r q z : RealShape) → realPervade r q ≡ some z → realAt i z ≡ joinNamed (realAt i r) (realAt i q)
-realPervade-named i r q z e = named-realPervade r q z e i
+pub realPervade-joins : Joins joinNamed realAt differ realPervade
+realPervade-joins = record { absorbs = λ x. refl; joins = λ i r q z e. named-realPervade r q z e i; refuses = differ-realPervade }
 
 -- ---- a real shape that fits asks for no less
 

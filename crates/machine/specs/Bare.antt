@@ -1,5 +1,5 @@
--- Shapes that name no closing size: closed or open, and no more. What they say of a real shape is said by their opening sizes and by
--- whether more may follow.
+-- Shapes that name no closing size: closed or open, and no more. What they say of a real shape is said by their opening sizes and
+-- by whether more may follow.
 use mathlib.Core.Bool.{Bool, true, false}
 use mathlib.Core.List.{List, [], _∷_, append-nil}
 use mathlib.Core.Option.{Option, none, some}

@@ -1,5 +1,5 @@
--- The sheet check as one call (document 01, "Thirteen ways of saying no"): its answer, and what it leaves in the two buffers that it
--- was lent, as one function of the sheet's bytes and of both buffers at entry.
+-- The sheet check as one call (document 01, "Thirteen ways of saying no"): its answer, and what it leaves in the two buffers that
+-- it was lent, as one function of the sheet's bytes and of both buffers at entry.
 use Prim.Native.Nat.{ℕ}
 use mathlib.Core.Bool.{cond}
 use mathlib.Core.List.{List, [], _∷_, _++_}

@@ -1,5 +1,5 @@
--- The words of demand 3 as predicates of a list of steps. Those of a row or a join look at the type that it takes, which is the one that
--- the rules give there from the steps before.
+-- The words of demand 3 as predicates of a list of steps. Those of a row or a join look at the type that it takes, which is the
+-- one that the rules give there from the steps before.
 use Prim.Native.Nat.{ℕ, _+_}
 use mathlib.Core.Bool.{Bool, true, false, cond}
 use mathlib.Core.List.{List, [], _∷_}
@@ -111,6 +111,6 @@ abbrev pub SamePuts : List Step → List Step → Type 0
 SamePuts xs ys = (t : Ty) → count sameType t (puts xs) ≡ count sameType t (puts ys)
 
 -- how many of some types name closing sizes
-abbrev pub closers : List Ty → ℕ
-closers [] = 0
-closers (t ∷ l) = cond (namesClosing (shapeOf t)) 1 0 + closers l
+abbrev pub countClosing : List Ty → ℕ
+countClosing [] = 0
+countClosing (t ∷ l) = cond (namesClosing (shapeOf t)) 1 0 + countClosing l

@@ -1,5 +1,5 @@
--- The closing sizes that a list of puts and pervadings leaves: where at most two puts name closing sizes, they are told by whether any
--- put is open and by which ones name closing sizes, in whatever order.
+-- The closing sizes that a list of puts and pervadings leaves: where at most two puts name closing sizes, they are told by
+-- whether any put is open and by which ones name closing sizes, in whatever order.
 use Prim.Native.Nat.{ℕ, _+_, _≤_, min}
 use native.Mathlib.Omega.{arith}
 use mathlib.Core.Bool.{Bool, true, false, _||_, or-comm, or-assoc}

@@ -1,5 +1,5 @@
--- Puts and unfilled pervadings that leave one type: where at most two puts name closing sizes, the type's closing sizes are those that
--- the endings of all puts tell together.
+-- Puts and unfilled pervadings that leave one type: where at most two puts name closing sizes, the type's closing sizes are those
+-- that the endings of all puts tell together.
 use Prim.Native.Nat.{ℕ, _≤_}
 use native.Mathlib.Omega.{arith}
 use mathlib.Core.Bool.{false}

@@ -1,14 +1,14 @@
--- Worked examples of the sheet in one list: document 01's own, and those where its words are easily read otherwise. What comes first of
--- several refusals, which place is named, which side is the first, and what stands at the bottom.
+-- Worked examples of the sheet in one list: document 01's own, and those where its words are easily read otherwise. What comes
+-- first of several refusals, which place is named, which side is the first, and what stands at the bottom.
 use Prim.Native.Nat.{ℕ, zero, suc, _≤_}
-use mathlib.Core.Bool.{true, false}
+use mathlib.Core.Bool.{Bool, true, false}
 use mathlib.Core.List.{List, [], _∷_, _++_, map}
-use mathlib.Core.Option.{none}
+use mathlib.Core.Option.{Option, none, some}
 use mathlib.Core.Path.{_≡_, refl}
 use lib.ListN.{length, replicate}
 use borrow.Author.Tests.{le-ltb}
 use Rattle.model.specs.Refusals.{ended, unmarked, outOfRange, tooShort, unpervaded, wrongScalar, wrongShape, underflow, overflow}
-use Rattle.model.specs.Types.{static, unknown, shape, Kind, num, char, plain, boxAny, boxAll, Ty, ty, inside, below}
+use Rattle.model.specs.Types.{static, unknown, Shape, shape, Kind, num, char, plain, boxAny, boxAll, Ty, ty, inside, below}
 use Rattle.model.specs.Within.{All}
 use Rattle.format.specs.Reader.{byte, judged, number, bytesOf}
 use Rattle.format.specs.Records.{code, kindOf, writeShape, writeScalar, writeTy, readMark, readDim, readDims, shapeFrom, readName, readFields, defFrom, boxFrom, scalarFrom, readTy}
@@ -28,6 +28,7 @@ use Rattle.machine.specs.Steps.{Step, put, row, pervading, join, validat
 use Rattle.machine.specs.Run.{pervadeTypes, step}
 use Rattle.machine.specs.Sheet.{opcodeFrom, argumentFrom, stepFrom, workFrom, sheetFrom, skimFrom, sheetRun, skim}
 use Rattle.machine.specs.Call.{tally, called, writeTypes, zeroed, handOver, sheetCall}
+use Rattle.machine.specs.Real.{RealShape, fits, realPervade, Kept, theTop, theOneBelow, realStep, realRun}
 
 pub data Example : Type 0 where
   -- a sheet's bytes, and the bytes of the types left
@@ -139,3 +140,42 @@ module _ (scratch : List ℕ) (enough : scratchBytes ≤ length scratch) where
   pub call-short : sheetCall oneSheet (replicate 6 7) scratch ≡ called (refused tooShort 9) (replicate 6 7) (zeroed scratch)
   unfolding sheetCall sheetRun sheetFrom workFrom stepFrom opcodeFrom argumentFrom step handOver writeTypes byte judged number bytesOf code kindOf writeShape writeScalar writeTy readMark readDim readDims shapeFrom scalarFrom readTy
   call-short = rw (le-ltb (length scratch) scratchBytes enough)
+
+-- ---- real shapes
+
+pub data RealExample : Type 0 where
+  -- a shape and a real shape, and whether it fits
+  theFit : Shape → RealShape → Bool → RealExample
+  theReal : RealShape → RealShape → Option RealShape → RealExample
+  -- what is fed to put [?], put [3..], join, row, validate [5], and the real shapes left
+  theRun : RealShape → RealShape → Kept → Option (List RealShape) → RealExample
+
+abbrev fiveSteps : List Step
+fiveSteps = put (ty (shape (unknown ∷ []) none) (plain num)) ∷ put (ty (shape (static 3 ∷ []) (some [])) (plain num)) ∷ join ∷ row ∷ validating (nums (5 ∷ [])) ∷ []
+
+abbrev pub RealHolds : RealExample → Type 0
+RealHolds (theFit s r b) = fits s r ≡ b
+RealHolds (theReal r q z) = realPervade r q ≡ z
+RealHolds (theRun r q side z) = realRun fiveSteps (r, (q, (side, (tt, (tt, tt))))) [] ≡ z
+
+unfoldable pub realExamples : List RealExample
+realExamples =
+    -- Closed admits nothing more, ? fits any size, open ends with the closing sizes without overlap.
+    theFit (shape (static 2 ∷ unknown ∷ []) none) (2 ∷ 0 ∷ []) true
+    ∷ theFit (shape (static 2 ∷ []) none) (2 ∷ 3 ∷ []) false
+    ∷ theFit (shape (static 2 ∷ []) (some [])) (2 ∷ 3 ∷ []) true
+    ∷ theFit (shape (static 2 ∷ []) (some (static 3 ∷ []))) (2 ∷ 5 ∷ 3 ∷ []) true
+    ∷ theFit (shape (static 3 ∷ []) (some (static 3 ∷ []))) (3 ∷ []) false
+    ∷ theFit (shape [] (some [])) [] true
+    -- 1 against absent is 1, 1 yields also to 0, equals stay, else it stops.
+    ∷ theReal (1 ∷ []) [] (some (1 ∷ []))
+    ∷ theReal (0 ∷ 2 ∷ []) (1 ∷ 2 ∷ 7 ∷ []) (some (0 ∷ 2 ∷ 7 ∷ []))
+    ∷ theReal (3 ∷ []) (4 ∷ []) none
+    -- A join keeps the top or the one below; a scalar's row is a scalar; a validation stops what does not fit.
+    ∷ theRun (4 ∷ []) (3 ∷ 5 ∷ []) theTop (some ((5 ∷ []) ∷ []))
+    ∷ theRun (4 ∷ []) (3 ∷ 5 ∷ []) theOneBelow none
+    ∷ []
+
+pub realExamples-hold : All RealHolds realExamples
+unfolding realExamples fits realPervade realStep realRun
+realExamples-hold = (refl, (refl, (refl, (refl, (refl, (refl, (refl, (refl, (refl, (refl, (refl, tt)))))))))))

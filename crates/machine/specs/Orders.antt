@@ -12,7 +12,7 @@ use Rattle.rules.specs.Order.{compare}
 use Rattle.rules.specs.OrderLaws.{compare-refl, compare-same}
 use Rattle.machine.specs.Steps.{Step}
 use Rattle.machine.specs.Run.{gives, refuses, steps}
-use Rattle.machine.specs.Conditions.{namesClosing, puts, isSame, sameType, SamePuts, closers}
+use Rattle.machine.specs.Conditions.{namesClosing, puts, isSame, sameType, SamePuts, countClosing}
 use Rattle.machine.specs.Cells.{named, cells-same}
 use Rattle.machine.specs.Play.{Commutes, gather, laid}
 use Rattle.machine.specs.PlaySteps.{moves, laid-moves}
@@ -63,7 +63,7 @@ module _ (xs ys : List Step) (same-puts : SamePuts xs ys) where
 
 -- ---- the same shape
 
-few-endings : (l : List Ty) → endings (endingsOf (map shapeOf l)) ≡ min 3 (closers l)
+few-endings : (l : List Ty) → endings (endingsOf (map shapeOf l)) ≡ min 3 (countClosing l)
 few-endings [] = omega arith
 few-endings (t ∷ l) =
     let a = few-endings l in
@@ -79,7 +79,7 @@ few-endings (t ∷ l) =
 shape-parts : (s t : Shape) → openingOf s ≡ openingOf t → closingOf s ≡ closingOf t → s ≡ t
 shape-parts (shape o c) (shape p d) e f = rw (e, f)
 
-pub order-shape : (xs ys : List Step) → SamePuts xs ys → Pervadings xs → Pervadings ys → closers (puts xs) ≤ 2 → (t u : Ty) → steps xs [] ≡ gives (t ∷ []) → steps ys [] ≡ gives (u ∷ []) → shapeOf t ≡ shapeOf u
+pub order-shape : (xs ys : List Step) → SamePuts xs ys → Pervadings xs → Pervadings ys → countClosing (puts xs) ≤ 2 → (t u : Ty) → steps xs [] ≡ gives (t ∷ []) → steps ys [] ≡ gives (u ∷ []) → shapeOf t ≡ shapeOf u
 order-shape xs ys h p q n t u e f = go (checked xs p) (checked ys q)
   where
     same-endings : endingsOf (laid (moves xs)) ≡ endingsOf (laid (moves ys))

@@ -1,5 +1,6 @@
--- A stack of values of any kind that are laid down, and mixed two by two by a rule that may refuse. What is on the stack and still to
--- be laid, gathered in a commutative monoid, stays the same along the moves; and where the rule refuses, it holds what refuses.
+-- A stack of values of any kind that are laid down, and mixed two by two by a rule that may refuse. What is on the stack and
+-- still to be laid, gathered in a commutative monoid, stays the same along the moves; and where the rule refuses, it holds what
+-- refuses.
 use Prim.Native.Nat.{ℕ, suc, _-_, _≤_}
 use native.Mathlib.Omega.{arith}
 use mathlib.Core.List.{List, [], _∷_}
@@ -79,45 +80,54 @@ module _ {A M : Type 0} {unit : M} {plus : M → M → M} (laws : Commutes unit 
       mixed-some rule (rule a b) e λ c e₁ e₂.
       gather-play rule joins ms (c ∷ st) z e₂ ∙ ap (λ w. plus w (all (laid ms))) (rw (joins a b c e₁) (laws .assoc (value a) (value b) (all st)))
 
-module _ {A M : Type 0} {unit : M} {plus : M → M → M} (laws : Commutes unit plus) (value : ℕ → A → M) (bad : M) (absorbs : (x : M) → plus bad x ≡ bad) where
-  abbrev all-at : ℕ → List A → M
-  all-at i l = gather unit plus (value i) l
+-- A rule whose value at each index is gathered from the two, and that refuses only where they gather to what absorbs all.
+pub record Joins {A M : Type 0} (plus : M → M → M) (value : ℕ → A → M) (bad : M) (rule : A → A → Option A) : Type 0 where
+  pub absorbs : (x : M) → plus bad x ≡ bad
+  pub joins : (i : ℕ) (a b c : A) → rule a b ≡ some c → value i c ≡ plus (value i a) (value i b)
+  pub refuses : (a b : A) → rule a b ≡ none → (i : ℕ) × (plus (value i a) (value i b) ≡ bad)
 
-  -- A rule that refuses only where two values give what absorbs.
-  pub play-none : (rule : A → A → Option A) → ((i : ℕ) (a b c : A) → rule a b ≡ some c → value i c ≡ plus (value i a) (value i b)) → ((a b : A) → rule a b ≡ none → (i : ℕ) × (plus (value i a) (value i b) ≡ bad)) → (ms : List (Move A)) (st : List A) → Enough ms (length st) → play rule ms st ≡ none → (i : ℕ) × (plus (all-at i st) (all-at i (laid ms)) ≡ bad)
+module _ {A M : Type 0} {unit : M} {plus : M → M → M} (laws : Commutes unit plus) {value : ℕ → A → M} {bad : M} (rule : A → A → Option A) (r : Joins plus value bad rule) where
+  abbrev at-index : ℕ → List A → M
+  at-index i l = gather unit plus (value i) l
+
+  pub play-none : (ms : List (Move A)) (st : List A) → Enough ms (length st) → play rule ms st ≡ none → (i : ℕ) × (plus (at-index i st) (at-index i (laid ms)) ≡ bad)
   unfolding play
-  play-none rule joins refuses [] st h e = let z : _≡_ {A = ℕ} 0 1 = cc in absurd (omega arith)
-  play-none rule joins refuses (lay a ∷ ms) st h e =
-      let (i, w) = play-none rule joins refuses ms (a ∷ st) h e in
-      (i, sym (past-first laws (value i) (value i a) (all-at i st) (all-at i (laid ms))) ∙ w)
-  play-none rule joins refuses (mix ∷ ms) [] h e = absurd (omega (arith, h .0))
-  play-none rule joins refuses (mix ∷ ms) (a ∷ []) h e = absurd (omega (arith, h .0))
-  play-none rule joins refuses (mix ∷ ms) (a ∷ b ∷ st) h e = go (rule a b) refl e (λ c k. play-none rule joins refuses ms (c ∷ st) k)
+  play-none [] st h e = let z : _≡_ {A = ℕ} 0 1 = cc in absurd (omega arith)
+  play-none (lay a ∷ ms) st h e =
+      let (i, w) = play-none ms (a ∷ st) h e in
+      (i, sym (past-first laws (value i) (value i a) (at-index i st) (at-index i (laid ms))) ∙ w)
+  play-none (mix ∷ ms) [] h e = absurd (omega (arith, h .0))
+  play-none (mix ∷ ms) (a ∷ []) h e = absurd (omega (arith, h .0))
+  play-none (mix ∷ ms) (a ∷ b ∷ st) h e = go (rule a b) refl e (λ c k. play-none ms (c ∷ st) k)
     where
-      regroup : (i : ℕ) → plus (plus (value i a) (plus (value i b) (all-at i st))) (all-at i (laid ms)) ≡ plus (plus (plus (value i a) (value i b)) (all-at i st)) (all-at i (laid ms))
-      regroup i = ap (λ w. plus w (all-at i (laid ms))) (sym (laws .assoc (value i a) (value i b) (all-at i st)))
+      -- gathered from these on top
+      Found : M → ℕ → Type 0
+      Found x i = plus x (at-index i (laid ms)) ≡ bad
 
-      go : (r : Option A) → rule a b ≡ r → mixed rule r (λ c. play rule ms (c ∷ st)) ≡ none → ((c : A) → Enough ms (suc (length st)) → play rule ms (c ∷ st) ≡ none → (i : ℕ) × (plus (plus (value i c) (all-at i st)) (all-at i (laid ms)) ≡ bad)) → (i : ℕ) × (plus (plus (value i a) (plus (value i b) (all-at i st))) (all-at i (laid ms)) ≡ bad)
-      go none r e k =
-          let (i, w) = refuses a b r in
-          (i, regroup i ∙ rw (w, absorbs (all-at i st)) (absorbs (all-at i (laid ms))))
-      go (some c) r e k = onward (k c (rw n at (h .1)) e)
+      regroup : (i : ℕ) → plus (value i a) (plus (value i b) (at-index i st)) ≡ plus (plus (value i a) (value i b)) (at-index i st)
+      regroup i = sym (laws .assoc (value i a) (value i b) (at-index i st))
+
+      go : (o : Option A) → rule a b ≡ o → mixed rule o (λ c. play rule ms (c ∷ st)) ≡ none → ((c : A) → Enough ms (suc (length st)) → play rule ms (c ∷ st) ≡ none → (i : ℕ) × Found (plus (value i c) (at-index i st)) i) → (i : ℕ) × Found (plus (value i a) (plus (value i b) (at-index i st))) i
+      go none o e k =
+          let (i, w) = r .refuses a b o in
+          (i, rw (regroup i, w, r .absorbs (at-index i st)) (r .absorbs (at-index i (laid ms))))
+      go (some c) o e k = onward (k c (rw n at (h .1)) e)
         where
           n : suc (suc (length st)) - 1 ≡ suc (length st)
           n = omega arith
 
-          onward : (i : ℕ) × (plus (plus (value i c) (all-at i st)) (all-at i (laid ms)) ≡ bad) → (i : ℕ) × (plus (plus (value i a) (plus (value i b) (all-at i st))) (all-at i (laid ms)) ≡ bad)
-          onward (i, w) = (i, regroup i ∙ rw (← joins i a b c r) w)
+          onward : (i : ℕ) × Found (plus (value i c) (at-index i st)) i → (i : ℕ) × Found (plus (value i a) (plus (value i b) (at-index i st))) i
+          onward (i, w) = (i, rw (regroup i, ← r .joins i a b c o) w)
 
-  -- Moves that leave one value: refused, and what absorbs was gathered somewhere; or that value is what was gathered.
-  pub play-one : {C : Type 0} (rule : A → A → Option A) → ((i : ℕ) (a b c : A) → rule a b ≡ some c → value i c ≡ plus (value i a) (value i b)) → ((a b : A) → rule a b ≡ none → (i : ℕ) × (plus (value i a) (value i b) ≡ bad)) → (ms : List (Move A)) → Enough ms 0 → heightLeft ms 0 ≡ 1 → (play rule ms [] ≡ none → (i : ℕ) × (all-at i (laid ms) ≡ bad) → C) → ((a : A) → play rule ms [] ≡ some (a ∷ []) → ((i : ℕ) → value i a ≡ all-at i (laid ms)) → C) → C
-  play-one {C = C} rule joins refuses ms h n k l = go (play rule ms []) refl
+  -- Moves that leave one value: refused, and what absorbs all was gathered somewhere; or that value is what was gathered.
+  pub play-one : {C : Type 0} (ms : List (Move A)) → Enough ms 0 → heightLeft ms 0 ≡ 1 → (play rule ms [] ≡ none → (i : ℕ) × (at-index i (laid ms) ≡ bad) → C) → ((a : A) → play rule ms [] ≡ some (a ∷ []) → ((i : ℕ) → value i a ≡ at-index i (laid ms)) → C) → C
+  play-one {C = C} ms h n k l = go (play rule ms []) refl
     where
       left : (z : List A) → length z ≡ 1 → play rule ms [] ≡ some z → C
       left [] n e = absurd (omega arith)
       left (a ∷ b ∷ z) n e = absurd (omega arith)
-      left (a ∷ []) n e = l a e (λ i. sym (laws .comm (value i a) unit ∙ laws .unital (value i a)) ∙ gather-play laws (value i) rule (joins i) ms [] (a ∷ []) e ∙ laws .unital (all-at i (laid ms)))
+      left (a ∷ []) n e = l a e (λ i. sym (laws .comm (value i a) unit ∙ laws .unital (value i a)) ∙ gather-play laws (value i) rule (r .joins i) ms [] (a ∷ []) e ∙ laws .unital (at-index i (laid ms)))
 
-      go : (r : Option (List A)) → play rule ms [] ≡ r → C
-      go none e = let (i, w) = play-none rule joins refuses ms [] h e in k e (i, sym (laws .unital (all-at i (laid ms))) ∙ w)
+      go : (o : Option (List A)) → play rule ms [] ≡ o → C
+      go none e = let (i, w) = play-none ms [] h e in k e (i, sym (laws .unital (at-index i (laid ms))) ∙ w)
       go (some z) e = left z (play-length rule ms [] z e ∙ n) e

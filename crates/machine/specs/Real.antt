@@ -1,5 +1,5 @@
--- Real shapes and the real run (document 01, "The sheet, added"). The run is fed the steps, a real shape for each put and a side for
--- each join; nothing that the checker worked out enters it.
+-- Real shapes and the real run (document 01, "The sheet, added"). The run is fed the steps, a real shape for each put and a side
+-- for each join; nothing that the checker worked out enters it.
 use Prim.Native.Nat.{ℕ, _+_, _-_}
 use mathlib.Core.Bool.{Bool, true, false, _&&_, cond}
 use mathlib.Core.List.{List, [], _∷_}
@@ -33,7 +33,8 @@ starts o r = fitsDims o (take (length o) r)
 abbrev pub ends : List Dim → RealShape → Bool
 ends c r = fitsDims c (drop (length r - length c) r)
 
--- The term fits: it starts with the opening sizes and, if open, ends with the closing ones without overlap; closed admits nothing more.
+-- The term fits: it starts with the opening sizes and, if open, ends with the closing ones without overlap; closed admits nothing
+-- more.
 unfoldable pub fits : Shape → RealShape → Bool
 fits (shape o none) r = fitsDims o r
 fits (shape o (some c)) r = starts o r && ends c r && leb (length o + length c) (length r)
@@ -126,8 +127,8 @@ abbrev pub FitsPuts : (xs : List Step) → Feeds xs → Type 0
 FitsPuts [] u = Unit {0}
 FitsPuts (x ∷ xs) f = FitsPut x (f .0) × FitsPuts xs (f .1)
 
--- The terms fit and get through: the shapes fed fit the puts, and the run on them, from the empty stack, never stops. It leaves `left`,
--- top first.
+-- The terms fit and get through: the shapes fed fit the puts, and the run on them, from the empty stack, never stops. It leaves
+-- `left`, top first.
 pub record Through (xs : List Step) (f : Feeds xs) (left : List RealShape) : Type 0 where
   pub fit : FitsPuts xs f
   pub run : realRun xs f [] ≡ some left

@@ -1,5 +1,5 @@
 -- The run of a sheet's steps on a stack of types, top first (document 01, "The sheet, added"): what each step's rule makes of the
--- stack. The top is the Rust's first.
+-- stack, or the number of its refusal. The top is the Rust's first.
 use Prim.Native.Nat.{ℕ}
 use mathlib.Core.Bool.{Bool, cond}
 use mathlib.Core.List.{List, [], _∷_}
@@ -58,7 +58,7 @@ step join (t ∷ u ∷ st) = gives (joinTypes t u ∷ st)
 step (validating spec) [] = refuses underflow
 step (validating spec) (t ∷ st) = onto st (aside (validate unsided spec t))
 
--- Each step takes what the one before left; the first refusal is the last word.
+-- Each step takes what the one before left; the first refusal is the answer.
 unfoldable pub steps : List Step → Stack → Answer Stack
 steps [] st = gives st
 steps (x ∷ xs) st = following (step x st) λ st₁. steps xs st₁

@@ -1,5 +1,5 @@
--- What a loop over a sheet's steps needs of its reading: where the bytes end, a step past the last one allowed, one step and then the
--- steps after it; and of one step, what each part of it answers in turn.
+-- What a loop over a sheet's steps needs of its reading: where the bytes end, a step past the last one allowed, one step and then
+-- the steps after it; and of one step, what each part of it answers in turn.
 use Prim.Native.Nat.{ℕ, zero, suc, _≤_, _<_}
 use mathlib.Core.List.{List}
 use mathlib.Core.Path.{_≡_}

@@ -1,5 +1,5 @@
--- A sheet's run against the run of a list of steps: where the reading gives a list of steps, the sheet gets what these steps get, the
--- place aside; and a sheet that is accepted is read to the end.
+-- A sheet's run against the run of a list of steps: the height that each step leaves, and that an accepted sheet, read to the end
+-- with the rules passed over, gives steps that are worked to the same stack.
 use Prim.Native.Nat.{ℕ, zero, suc, _-_}
 use native.Mathlib.Omega.{arith}
 use mathlib.Core.Bool.{Bool, true, false, cond}
@@ -10,7 +10,7 @@ use lib.Dec.{ltb}
 use Rattle.model.specs.Refusals.{overflow}
 use Rattle.model.specs.Types.{Ty}
 use Rattle.format.specs.Reader.{Read, got, stopped, Reader, andThen, _>>=_, stop, here}
-use Rattle.format.specs.ReaderLaws.{split, gave}
+use Rattle.format.specs.ReaderLaws.{split}
 use Rattle.rules.specs.Types.{intoRow, joinTypes}
 use Rattle.validation.specs.CheckShape.{unsided}
 use Rattle.validation.specs.Validate.{validate}
@@ -45,7 +45,7 @@ step-height join (t ∷ u ∷ st) st₁ e = let w : joinTypes t u ∷ st ≡ st�
 step-height (validating spec) [] st₁ e = let z : _≡_ {A = ℕ} 0 1 = cc in absurd (omega arith)
 step-height (validating spec) (t ∷ st) st₁ e = omega (arith, onto-height st (aside (validate unsided spec t)) e)
 
--- ---- the sheet gets what its steps get
+-- ---- the same answer
 
 -- The same answer, the place aside.
 abbrev pub Same : Answer Stack → Read Stack → Type 0
@@ -62,22 +62,6 @@ module _ (s : List ℕ) where
   workAndMore most st = do
     st₁ ← here (workFrom s st)
     sheetFrom s most st₁
-
-  pub skim-worked : (most : ℕ) (st : Stack) (at : ℕ) (xs : List Step) (n : ℕ) → skimFrom s most (length st) at ≡ got xs n → Same (steps xs st) (sheetFrom s most st at)
-  unfolding skimFrom sheetFrom workFrom steps
-  skim-worked zero st at xs n e =
-      ended-or s [] (here (stop overflow)) at e
-      (λ end x y. rw (← x) (at, toEnd-end s st (here (stop overflow)) at end))
-      (λ _ e₁. let z : _≡_ {A = ℕ} 0 1 = cc in absurd (omega arith))
-  skim-worked (suc most) st at xs n e =
-      ended-or s [] (stepAndMore s most (length st)) at e
-      (λ end x y. rw (← x) (at, toEnd-end s st (workAndMore most st) at end))
-      (λ more e₁.
-      split (stepFrom s (length st) at at) e₁ λ x m e₂ e₃.
-      split (skimFrom s most (leaves (opcodeOf x) (length st)) m) e₃ λ ys n′ e₄ e₅.
-      gave e₅ λ w y.
-      rw (← w, toEnd-more s st (workAndMore most st) at more, e₂)
-      (same-after s most ys (step x st) at m λ st₁ k. skim-worked most st₁ m ys n′ (rw (step-height x st st₁ k) e₄)))
 
   -- ---- an accepted sheet is read to the end
 

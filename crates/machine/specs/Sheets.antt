@@ -1,5 +1,5 @@
--- A sheet's bytes and lists of steps: an accepted sheet is the bytes of a list of steps, and the bytes of a list of steps get what the
--- steps get.
+-- A sheet's bytes and lists of steps: an accepted sheet is the bytes of a list of steps, and the bytes of a list of steps get
+-- what the steps get.
 use Prim.Native.Nat.{ℕ}
 use native.Mathlib.Omega.{arith}
 use mathlib.Core.List.{List, [], reverse, reverse-reverse}
@@ -11,10 +11,9 @@ use Rattle.format.specs.ReaderLaws.{Bytes}
 use Rattle.format.specs.Outcome.{accepted, mapped}
 use Rattle.rules.specs.Lists.{all-reverse}
 use Rattle.machine.specs.SheetLimits.{maxSteps}
-use Rattle.machine.specs.Steps.{Step}
+use Rattle.machine.specs.Steps.{Step, SheetOf}
 use Rattle.machine.specs.Run.{Answer, gives, refuses, aside, Stack, steps}
 use Rattle.machine.specs.Sheet.{sheetFrom, outcomeOf, sheetRun, skim}
-use Rattle.machine.specs.Steps.{SheetOf}
 use Rattle.machine.specs.WellFormed.{Heights}
 use Rattle.machine.specs.StepsTook.{skim-took}
 use Rattle.machine.specs.SheetWorked.{Same, accepted-skims}

@@ -1,4 +1,4 @@
--- The steps of a sheet and their bytes (document 01, "The sheet, added"): two mark bytes, then what the step hands in.
+-- The steps of a sheet and their bytes (document 01, "The sheet, added"): two mark bytes, then a type, a flag byte or nothing.
 use Prim.Native.Nat.{ℕ, suc, _+_, _-_, _/_, _%_, _≤_}
 use mathlib.Core.Bool.{Bool, true, cond}
 use mathlib.Core.List.{List, [], _∷_, _++_}
@@ -20,7 +20,7 @@ pub data Step : Type 0 where
 
 -- ---- marks
 
--- Which step it is, what it hands in aside.
+-- Which step it is, without what follows its mark.
 pub data Opcode : Type 0 where
   aPut aRow aPervading aJoin aValidating : Opcode
 
@@ -38,13 +38,13 @@ markOf aPervading = mark 0x50 0x56
 markOf aJoin = mark 0x4A 0x4E
 markOf aValidating = mark 0x56 0x41
 
--- The marks that a step may have are the marks of these.
+-- What marks there are: those of these, and no others.
 abbrev pub opcodes : List Opcode
 opcodes = aPut ∷ aRow ∷ aPervading ∷ aJoin ∷ aValidating ∷ []
 
 -- ---- heights
 
--- How many types a step takes off the stack; it lays one down.
+-- How many types a step takes off the stack. Each step lays one down.
 abbrev pub takes : Opcode → ℕ
 takes aPut = 0
 takes aRow = 1
@@ -52,7 +52,7 @@ takes aPervading = 2
 takes aJoin = 2
 takes aValidating = 1
 
--- The height that it leaves of height h.
+-- The height that a step leaves of height h.
 abbrev pub leaves : Opcode → ℕ → ℕ
 leaves c h = suc (h - takes c)
 
@@ -71,16 +71,16 @@ fillsTop n = eqb (n % 2) 1
 abbrev pub fillsBelow : ℕ → Bool
 fillsBelow n = eqb (n / 2 % 2) 1
 
--- what a step hands in
-abbrev pub handsIn : Step → List ℕ
-handsIn (put t) = writeTy t
-handsIn row = []
-handsIn (pervading f g) = flagByte f g ∷ []
-handsIn join = []
-handsIn (validating spec) = writeTy spec
+-- what follows the mark
+abbrev pub writeArgument : Step → List ℕ
+writeArgument (put t) = writeTy t
+writeArgument row = []
+writeArgument (pervading f g) = flagByte f g ∷ []
+writeArgument join = []
+writeArgument (validating spec) = writeTy spec
 
 abbrev pub writeStep : Step → List ℕ
-writeStep x = markBytes (markOf (opcodeOf x)) ++ handsIn x
+writeStep x = markBytes (markOf (opcodeOf x)) ++ writeArgument x
 
 unfoldable pub writeSteps : List Step → List ℕ
 writeSteps [] = []
@@ -88,7 +88,7 @@ writeSteps (x ∷ xs) = writeStep x ++ writeSteps xs
 
 -- ---- which bytes are those of steps
 
--- The types that a step hands in keep the limits of their records.
+-- A type that follows the mark keeps every limit.
 abbrev pub StepWithin : Step → Type 0
 StepWithin (put t) = Within t
 StepWithin row = Unit {0}
@@ -96,7 +96,7 @@ StepWithin (pervading f g) = Unit {0}
 StepWithin join = Unit {0}
 StepWithin (validating spec) = Within spec
 
--- Some bytes are those of a list of steps that a sheet can have.
+-- These are the bytes of a list of steps within the limits.
 pub record SheetOf (s : List ℕ) (xs : List Step) : Type 0 where
   pub bytes : s ≡ writeSteps xs
   pub within : All StepWithin xs

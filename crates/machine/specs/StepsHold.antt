@@ -1,5 +1,5 @@
--- The first half of demand 3 on lists of steps: from a stack of types that hold the real shapes beside them, whatever is fed that fits
--- the puts and gets through leaves types that hold the real shapes beside them.
+-- The first half of demand 3 on lists of steps: from a stack of types that hold the real shapes beside them, whatever is fed that
+-- fits the puts and gets through leaves types that hold the real shapes beside them.
 use Prim.Native.Nat.{ℕ}
 use native.Mathlib.Omega.{arith}
 use mathlib.Core.Bool.{Bool, true, false, cond}

@@ -1,5 +1,5 @@
--- The bytes of a list of steps, read as a sheet: they get what the steps get, the place aside; and where no step lacks types or lays
--- down one too many, the reading gives the steps back.
+-- The bytes of a list of steps, read as a sheet: they get what the steps get, the place aside; and where no step lacks types or
+-- lays down one too many, the reading gives the steps back.
 use Prim.Native.Nat.{ℕ, zero, suc, _+_, _≤_, _<_}
 use native.Mathlib.Omega.{arith}
 use mathlib.Core.Bool.{Bool, true, false}
@@ -15,10 +15,9 @@ use Rattle.format.specs.ReaderLaws.{Reads, drop-past, reads-give, reads-bind, r
 use Rattle.format.specs.Records.{markBytes, isCount}
 use Rattle.format.specs.WriteRead.{write-read}
 use Rattle.machine.specs.SheetLimits.{maxStack}
-use Rattle.machine.specs.Steps.{Step, put, row, pervading, join, validating, Opcode, aPut, aRow, aPervading, aJoin, aValidating, opcodeOf, markOf, takes, leaves, flagByte, maxFlag, fillsTop, fillsBelow, handsIn, writeStep, writeSteps}
+use Rattle.machine.specs.Steps.{Step, put, row, pervading, join, validating, Opcode, aPut, aRow, aPervading, aJoin, aValidating, opcodeOf, markOf, takes, leaves, flagByte, maxFlag, fillsTop, fillsBelow, writeArgument, writeStep, writeSteps, StepWithin}
 use Rattle.machine.specs.Run.{gives, refuses, Stack, step, steps}
 use Rattle.machine.specs.Sheet.{placed, opcodeFrom, argumentFrom, stepFrom, workFrom, sheetFrom, skimFrom}
-use Rattle.machine.specs.Steps.{StepWithin}
 use Rattle.machine.specs.WellFormed.{Heights}
 use Rattle.machine.specs.SheetWorked.{Same, same-after, step-height, workAndMore}
 use Rattle.machine.specs.SheetSteps.{toEnd-end, toEnd-more}
@@ -47,7 +46,7 @@ module _ (s : List ℕ) where
   reads-opcode aJoin p = reads-byte p _ (reads-byte p _ reads-give)
   reads-opcode aValidating p = reads-byte p _ (reads-byte p _ reads-give)
 
-  reads-argument : (x : Step) (p : ℕ) → StepWithin x → Reads s (argumentFrom s (opcodeOf x) p) (handsIn x) x
+  reads-argument : (x : Step) (p : ℕ) → StepWithin x → Reads s (argumentFrom s (opcodeOf x) p) (writeArgument x) x
   unfolding argumentFrom
   reads-argument (put t) p h = reads-last _ (write-read s t h) refl
   reads-argument row p h = reads-give
@@ -102,7 +101,7 @@ step-room x st st₁ h e = go (leb (takes (opcodeOf x)) (length st)) (leb (leave
 module _ (s : List ℕ) where
   -- a step has bytes
   longer : (x : Step) (at : ℕ) (rest : List ℕ) → drop at s ≡ writeStep x ++ rest → at < length s
-  longer x at rest e = omega (arith, length-drop at s, ap length e, length-append (writeStep x) rest, length-append (markBytes (markOf (opcodeOf x))) (handsIn x), two (opcodeOf x))
+  longer x at rest e = omega (arith, length-drop at s, ap length e, length-append (writeStep x) rest, length-append (markBytes (markOf (opcodeOf x))) (writeArgument x), two (opcodeOf x))
     where
       two : (c : Opcode) → length (markBytes (markOf c)) ≡ 2
       two aPut = refl
@@ -120,7 +119,7 @@ module _ (s : List ℕ) where
   worked st x p at rest h w e = go (leb (takes (opcodeOf x)) (length st)) (leb (leaves (opcodeOf x) (length st)) maxStack) refl refl
     where
       e₁ : opcodeFrom s p at ≡ got (opcodeOf x) (at + length (markBytes (markOf (opcodeOf x))))
-      e₁ = reads-opcode s (opcodeOf x) p .run at (handsIn x ++ rest) (e ∙ append-assoc (markBytes (markOf (opcodeOf x))) (handsIn x) rest)
+      e₁ = reads-opcode s (opcodeOf x) p .run at (writeArgument x ++ rest) (e ∙ append-assoc (markBytes (markOf (opcodeOf x))) (writeArgument x) rest)
 
       go : (t u : Bool) → leb (takes (opcodeOf x)) (length st) ≡ t → leb (leaves (opcodeOf x) (length st)) maxStack ≡ u → workFrom s st p at ≡ placed (step x st) p (at + length (writeStep x))
       go false u a b = rw (e₁, a, lacks x st (leb-false (takes (opcodeOf x)) (length st) a))

@@ -25,10 +25,9 @@ use Rattle.validation.specs.CheckShape.{unsided}
 use Rattle.validation.specs.Validate.{validate}
 use Rattle.validation.specs.ValidateLaws.{validate-within}
 use Rattle.machine.specs.SheetLimits.{maxStack}
-use Rattle.machine.specs.Steps.{Step, put, row, pervading, join, validating}
+use Rattle.machine.specs.Steps.{Step, put, row, pervading, join, validating, StepWithin}
 use Rattle.machine.specs.Run.{Answer, gives, orRefuses, aside, Stack, onto, pervadeTypes, step, steps}
 use Rattle.machine.specs.Call.{writeTypes}
-use Rattle.machine.specs.Steps.{StepWithin}
 use Rattle.machine.specs.StepsHold.{following-gives, orRefuses-gives, aside-gives, cond-gives}
 
 -- ---- one step

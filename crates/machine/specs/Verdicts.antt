@@ -1,5 +1,5 @@
--- Lists of puts and unfilled pervadings that leave one type: refused with 8 exactly where the puts ask for different sizes at an index,
--- which is exactly where no fitting real arrays get through; otherwise accepted.
+-- Lists of puts and unfilled pervadings that leave one type: refused with 8 exactly where the puts ask for different sizes at an
+-- index, which is exactly where no fitting real arrays get through; otherwise accepted.
 use Prim.Native.Nat.{ℕ}
 use native.Mathlib.Omega.{arith}
 use mathlib.Core.Bool.{false}
@@ -16,11 +16,10 @@ use Rattle.machine.specs.Run.{Answer, gives, refuses, Stack, steps}
 use Rattle.machine.specs.WellFormed.{typesLeft, Heights}
 use Rattle.machine.specs.Real.{RealShape, realPervade, Feeds, realRun, Through}
 use Rattle.machine.specs.Cells.{unnamed, differ, named, cell, cell-sure, real-sure}
-use Rattle.machine.specs.CellsPervade.{differ-realPervade}
 use Rattle.machine.specs.Play.{laid, play, gather-play, play-one}
 use Rattle.machine.specs.Conditions.{PutOrPervade}
 use Rattle.machine.specs.PlaySteps.{moves, shapes, verdict, steps-play, enough-moves, feedMoves, real-play, enough-feeds}
-use Rattle.machine.specs.Asked.{named-commutes, cell-commutes, openingOf, cellAt, namedAt, said, asked, asked-said, pervade-cell, pervade-named, pervade-differ, realAt, realAsked, realPervade-named, asked-differ}
+use Rattle.machine.specs.Asked.{named-commutes, cell-commutes, openingOf, cellAt, said, asked, asked-said, pervade-cell, pervade-joins, realAt, realAsked, realPervade-joins, asked-differ}
 use Rattle.machine.specs.Witness.{witness, fits-witness, bound, witness-agrees}
 
 -- A list of steps that the second half of demand 3 is about.
@@ -49,7 +48,7 @@ pub checked : (xs : List Step) → Pervadings xs → Checked xs
 checked xs p =
     let (enough, left) = enough-moves xs 0 (p .only) (p .heights) in
     let same : shapes (steps xs []) ≡ verdict (play (pervade false false) (moves xs) []) = steps-play xs [] (p .only) (p .heights) in
-    play-one named-commutes namedAt differ (λ x. refl) (pervade false false) pervade-named pervade-differ (moves xs) enough (left ∙ p .one)
+    play-one named-commutes (pervade false false) pervade-joins (moves xs) enough (left ∙ p .one)
     (λ e (i, w). differs i (no-type (steps xs []) (same ∙ ap verdict e)) w)
     (λ x e w.
     one-type (steps xs []) x (same ∙ ap verdict e) λ t f g.
@@ -72,7 +71,7 @@ module _ (xs : List Step) (p : Pervadings xs) (f : Feeds xs) where
   real-one k l =
       let (enough, left) = enough-feeds xs f 0 (p .only) (p .heights) in
       let same = real-play xs f [] (p .only) in
-      play-one named-commutes realAt differ (λ x. refl) realPervade realPervade-named differ-realPervade (feedMoves xs f) enough (left ∙ p .one)
+      play-one named-commutes realPervade realPervade-joins (feedMoves xs f) enough (left ∙ p .one)
       (λ e w. k (same ∙ e) w)
       (λ r e w. l r (same ∙ e) w)
 

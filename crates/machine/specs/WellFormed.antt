@@ -1,5 +1,5 @@
--- Well-formed sheets (document 01, "The sheet, added"): read to the end, rule refusals passed over, a sheet meets none of 1 to 5, 11
--- and 12, and both buffers hold 39,936 bytes. The types left are counted on that reading.
+-- Well-formed sheets (document 01, "The sheet, added"): read to the end, rule refusals passed over, a sheet meets none of 1 to 5,
+-- 11 and 12, and both buffers hold 39,936 bytes. The types left are counted on that reading.
 use Prim.Native.Nat.{ℕ, _≤_}
 use mathlib.Core.List.{List, [], _∷_}
 use mathlib.Core.Path.{_≡_}
@@ -9,8 +9,8 @@ use Rattle.machine.specs.SheetLimits.{maxStack, scratchBytes}
 use Rattle.machine.specs.Steps.{Step, opcodeOf, takes, leaves}
 use Rattle.machine.specs.Sheet.{skim}
 
--- The term well-formed, of a sheet's bytes and of the two buffers, with the steps that the reading gives: the reading's own refusals
--- are 1 to 5, 11 and 12, so that it meets none of them if it is accepted.
+-- The term well-formed, of a sheet's bytes and of the two buffers, with the steps that the reading gives: the reading's own
+-- refusals are 1 to 5, 11 and 12, so that it meets none of them if it is accepted.
 pub record WellFormed (s result scratch : List ℕ) (xs : List Step) : Type 0 where
   pub read : skim s ≡ accepted xs
   pub result-holds : scratchBytes ≤ length result

@@ -1,5 +1,5 @@
--- Real shapes for the puts that ask for nothing but what the puts ask for: each ? becomes 1, and the closing sizes of each put stand at
--- places of their own past every opening size, with ones between.
+-- Real shapes for the puts that ask for nothing but what the puts ask for: each ? becomes 1, and the closing sizes of each put
+-- stand at places of their own past every opening size, with ones between.
 use Prim.Native.Nat.{ℕ, zero, suc, _+_, _-_, _≤_, _<_, max}
 use native.Mathlib.Omega.{arith}
 use mathlib.Core.Bool.{Bool, true, false}

@@ -18,6 +18,16 @@ abbrev pub mapped : {A B : Type 0} → (A → B) → Outcome A → Outcome B
 mapped f (accepted a) = accepted (f a)
 mapped f (refused k p) = refused k p
 
+-- What an accepted value goes on to.
+abbrev pub bound : {A B : Type 0} → (A → Outcome B) → Outcome A → Outcome B
+bound f (accepted a) = f a
+bound f (refused k p) = refused k p
+
+-- Of two inputs the first is read whole before the other.
+abbrev pub both : {A B C : Type 0} → (A → B → Outcome C) → Outcome A → Outcome B → Outcome C
+both f (accepted a) y = bound (f a) y
+both f (refused k p) y = refused k p
+
 -- A lone type: nothing may stand after it.
 abbrev pub alone : {A : Type 0} → ℕ → Read A → Outcome A
 alone size (got a next) = cond (ltb next size) (refused trailing next) (accepted a)

@@ -135,11 +135,13 @@ module _ (s : List ℕ) (small : Bytes s) where
       let g = took-dims (listCount b) p m₄ c m₅ e₉ in
       let k = optional-back DimWithin maxSizes b c (j .1) (g .2) (g .1) in
       rw (← x, ← y)
-      (rw (h .2, k .count, k .held)
-      (took-join (took-mark shapeMark p at u m₁ e₁)
-      (took-join (i .0)
-      (took-join (j .0)
-      (took-join (h .0) (g .0)))), ((leb-true a maxSizes (i .1), h .1), k .within)))
+      (rw (h .2, k .count, k .held) (
+        took-join (took-mark shapeMark p at u m₁ e₁)
+            (took-join (i .0)
+            (took-join (j .0)
+            (took-join (h .0) (g .0)))),
+        ((leb-true a maxSizes (i .1), h .1), k .within),
+      ))
 
   took-name : (k p at : ℕ) (r : List ℕ) (n : ℕ) → readName s k p at ≡ got r n → Took s at r n × All Printing r × (length r ≡ k)
   unfolding readName

@@ -21,3 +21,7 @@ module _ (buffer : List ℕ) where
     pub deliver-fits : length w ≤ length buffer → deliver o buffer ≡ delivery (accepted (length w)) (over buffer 0 w)
     unfolding deliver
     deliver-fits h = rw (e, le-leb (length w) (length buffer) h) (ap (delivery (accepted (length w))) (sym (over-front buffer w)))
+
+    -- a count and a buffer that are those of the bytes written
+    pub deliver-wrote : {n : ℕ} {after : List ℕ} → length w ≤ length buffer → n ≡ length w → after ≡ over buffer 0 w → delivery (accepted n) after ≡ deliver o buffer
+    deliver-wrote {n} {after} h same laid = ap (λ k. delivery (accepted k) after) same ∙ ap (delivery (accepted (length w))) laid ∙ sym (deliver-fits h)

@@ -3,6 +3,7 @@ pub mod refusal;
 
 // The largest static size, 2^53, and the number that stands for an unknown one.
 pub const MAX_SIZE: u64 = 9007199254740992;
+
 pub const UNKNOWN: u64 = 18446744073709551615;
 
 // Opening sizes of a shape, and closing sizes.
@@ -10,10 +11,12 @@ pub const MAX_SIZES: usize = 8;
 
 // Bytes of a name; fields of a Def.
 pub const MAX_NAME: u64 = 16;
+
 pub const MAX_FIELDS: u64 = 31;
 
 // Types in one type, itself counted; the outermost is at depth 1.
 pub const MAX_TYPES: u64 = 32;
+
 pub const MAX_DEPTH: u64 = 8;
 
 // Bytes that suffice for any type.
@@ -24,13 +27,20 @@ pub const ABSENT: u64 = 255;
 
 // The codes of the kinds.
 pub const BOOL: u8 = 0;
+
 pub const NAT: u8 = 1;
+
 pub const INT: u8 = 2;
+
 pub const NUM: u8 = 3;
+
 pub const BOX: u64 = 8;
+
 pub const ANY: u64 = 9;
 
 // The forms of a box.
 pub const BOX_ANY: u64 = 0;
+
 pub const BOX_ALL: u64 = 1;
+
 pub const BOX_DEF: u64 = 2;

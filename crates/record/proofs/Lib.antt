@@ -2,3 +2,4 @@ pub mod Known
 mod ByteLaws
 mod ShapeLaws
 mod TypeLaws
+pub mod LoneLaws

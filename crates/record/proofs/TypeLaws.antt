@@ -8,13 +8,12 @@ use mathlib.Core.Option.{Option, none, some}
 use mathlib.Core.Path.{_≡_, refl, sym, _∙_, ap}
 use lib.ListN.{length, getD}
 use lib.Dec.{eqb}
-use borrow.Author.Tests.{eq-eqb, ne-eqb, lt-ltb, le-ltb}
+use borrow.Author.Tests.{eq-eqb, ne-eqb}
 use Rattle.model.specs.Limits.{maxName, maxFields}
-use Rattle.model.specs.Refusals.{outOfRange, tooMany, trailing}
+use Rattle.model.specs.Refusals.{outOfRange, tooMany}
 use Rattle.model.specs.Types.{Shape, Kind, bool, nat, int, num, complex, ascii, char, stream, any, Scalar, plain, boxAny, boxAll, boxDef, Fields, noFields, field, Ty, ty, boxOf, fieldOf, types, inside, among}
 use Rattle.format.specs.Reader.{Read, got, stopped, Reader, andThen, mapRead, give, stop, byte, judged}
-use Rattle.format.specs.Records.{scalarMark, boxMark, boxCode, kindOf, optional, listCount, isCount, isOptional, form, orStop, readMark, readShape, readName, readFields, defFrom, allFrom, boxFrom, plainFrom, scalarFrom, readTy, readType}
-use Rattle.format.specs.Outcome.{Outcome, accepted, refused, mapped, lone}
+use Rattle.format.specs.Records.{scalarMark, boxMark, boxCode, kindOf, optional, listCount, isCount, isOptional, form, orStop, readMark, readShape, readName, readFields, defFrom, allFrom, boxFrom, plainFrom, scalarFrom, readTy}
 use Rattle.record.specs.Answers.{nothing}
 use Rattle.record.proofs.Known.{stopped-map, got-map}
 use Rattle.record.proofs.ShapeLaws.{passed-over}
@@ -205,18 +204,3 @@ module _ (s : List ℕ) where
         got-map (λ t. n - types t) (go n at) e λ t f g.
         let x : suc k - 1 ≡ k = omega arith in
         rw (f, x, ← g) (rest-of-fields n (n - types t) t (readFields s go k (n - types t) next) refl)
-
-  -- ---- a lone type
-
-  module _ (f : Ty → ℕ) where
-    pub lone-trailing : {v n : ℕ} → mapRead f (readType s 0) ≡ got v n → n < length s → mapped nothing (lone s) ≡ refused trailing n
-    unfolding lone
-    lone-trailing {v} {n} e h = got-map f (readType s 0) e λ t g _. rw (g, lt-ltb n (length s) h)
-
-    pub lone-whole : {v n : ℕ} → mapRead f (readType s 0) ≡ got v n → length s ≤ n → mapped nothing (lone s) ≡ accepted 0
-    unfolding lone
-    lone-whole {v} {n} e h = got-map f (readType s 0) e λ t g _. rw (g, le-ltb n (length s) h)
-
-    pub lone-stopped : {k p : ℕ} → mapRead f (readType s 0) ≡ stopped k p → mapped nothing (lone s) ≡ refused k p
-    unfolding lone
-    lone-stopped e = rw (stopped-map f (readType s 0) e)

@@ -2,7 +2,7 @@
 use Prim.Native.Nat.{ℕ, _+_, _*_}
 use mathlib.Core.Bool.{cond}
 use mathlib.Core.List.{List, map}
-use mathlib.Core.Option.{none, some}
+use mathlib.Core.Option.{Option, none, some}
 use lib.ListN.{take, getD}
 use Rattle.model.specs.Types.{Dim, Shape, shape}
 use Rattle.format.specs.Reader.{Read, got, stopped, mapRead}
@@ -25,6 +25,9 @@ answerOf (Refused k p) = stopped k p
 abbrev pub nothing : {A : Type 0} → A → ℕ
 nothing a = 0
 
+abbrev pub nothings : {A B : Type 0} → A → B → Outcome ℕ
+nothings a b = accepted 0
+
 -- eight bytes from a place on, low byte first
 abbrev pub eightBytes : List ℕ → ℕ → ℕ
 eightBytes s at =
@@ -33,8 +36,12 @@ eightBytes s at =
 abbrev pub dimsOf : Dims → List Dim
 dimsOf d = map dimOf (take (d .count) (d .sizes))
 
+-- `none` where the shape is closed
+abbrev pub closingFor : DynShape → Option (List Dim)
+closingFor s = cond (s .closed) none (some (dimsOf (s .suffix)))
+
 abbrev pub shapeFor : DynShape → Shape
-shapeFor s = shape (dimsOf (s .dims)) (cond (s .closed) none (some (dimsOf (s .suffix))))
+shapeFor s = shape (dimsOf (s .dims)) (closingFor s)
 
 -- a value that stands beside its answer
 abbrev pub beside : {A : Type 0} → Answer → A → Read A

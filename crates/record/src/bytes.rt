@@ -103,7 +103,11 @@ pub fn read_mark(s: &[u8], place: usize, at: usize, first: u64, second: u64) -> 
         return a;
     };
     let b = read_byte(s, place, next);
-    let Answer::Got { value: y, next: end } = b else {
+    let Answer::Got {
+        value: y,
+        next: end,
+    } = b
+    else {
         return b;
     };
     if x == first {

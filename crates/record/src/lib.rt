@@ -3,13 +3,16 @@
 mod bytes;
 mod shape;
 mod types;
+mod whole;
 
 use limits::MAX_SIZES;
 pub use shape::no_dims;
 pub use shape::read_shape;
-pub use types::read_lone;
 pub use types::read_type;
-
+pub use whole::lone_scalar;
+pub use whole::lone_shape;
+pub use whole::read_both;
+pub use whole::read_lone;
 
 // A value with the place after it, or a refusal's number and place.
 pub enum Answer {

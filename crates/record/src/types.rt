@@ -1,33 +1,28 @@
 // Types: a shape's record and a scalar's, whose box may hold types again, with a falling depth. In each function `left` is
 // how many types may still stand here, and the value answered is how many may still follow.
 use crate::Answer;
-use crate::Lone;
 use crate::bytes::read_byte;
 use crate::bytes::read_count;
 use crate::bytes::read_mark;
 use crate::bytes::read_name;
 use crate::bytes::read_optional;
+use crate::shape::read_shape;
 use limits::ABSENT;
 use limits::ANY;
 use limits::BOX;
 use limits::BOX_ALL;
 use limits::BOX_ANY;
 use limits::BOX_DEF;
-use limits::MAX_DEPTH;
 use limits::MAX_FIELDS;
 use limits::MAX_NAME;
-use limits::MAX_TYPES;
 use limits::refusal::OUT_OF_RANGE;
 use limits::refusal::TOO_MANY;
-use limits::refusal::TRAILING;
-use crate::shape::read_shape;
 ghost use mathlib.Core.Path.{_≡_};
 ghost use Prim.Native.Nat.{_-_};
 ghost use Rattle.model.specs.Types.{types, inside, among};
 ghost use Rattle.format.specs.Reader.{mapRead};
 ghost use Rattle.format.specs.Records.{listCount, readFields, defFrom, boxFrom, scalarFrom, readTy};
-ghost use Rattle.format.specs.Outcome.{mapped, lone};
-ghost use Rattle.record.specs.Answers.{answerOf, loneOf, nothing};
+ghost use Rattle.record.specs.Answers.{answerOf};
 
 // A type at most `depth` deep. One more of either is refused before its bytes are looked at.
 pub fn read_type(s: &[u8], at: usize, depth: u64, left: u64) -> Answer
@@ -62,7 +57,11 @@ fn read_scalar(s: &[u8], at: usize, depth: u64, left: u64) -> Answer
         return mark;
     };
     let kind = read_byte(s, at, a);
-    let Answer::Got { value: code, next: b } = kind else {
+    let Answer::Got {
+        value: code,
+        next: b,
+    } = kind
+    else {
         return kind;
     };
     if code == BOX {
@@ -88,7 +87,11 @@ fn read_box(s: &[u8], at: usize, depth: u64, left: u64) -> Answer
         return mark;
     };
     let form = read_byte(s, at, a);
-    let Answer::Got { value: code, next: b } = form else {
+    let Answer::Got {
+        value: code,
+        next: b,
+    } = form
+    else {
         return form;
     };
     if code == BOX_ANY {
@@ -131,7 +134,11 @@ fn read_def(s: &[u8], place: usize, at: usize, depth: u64, left: u64) -> Answer
         return name;
     };
     let fields = read_count(s, place, b, MAX_FIELDS);
-    let Answer::Got { value: count, next: c } = fields else {
+    let Answer::Got {
+        value: count,
+        next: c,
+    } = fields
+    else {
         return fields;
     };
     read_fields(s, c, depth, left, count)
@@ -155,24 +162,5 @@ fn read_fields(s: &[u8], start: usize, depth: u64, left: u64, count: u64) -> Ans
     Answer::Got {
         value: still,
         next: at,
-    }
-}
-
-// A lone type: nothing may stand after it.
-pub fn read_lone(s: &[u8]) -> Lone
-    ensures { λ r. ⌜ loneOf r ≡ mapped nothing (lone (now (s .entry))) ⌝ }
-{
-    let answer = read_type(s, 0, MAX_DEPTH, MAX_TYPES);
-    match answer {
-        Answer::Got { value: _, next } => {
-            if next < s.len() {
-                return Lone::Refused {
-                    number: TRAILING,
-                    place: next,
-                };
-            }
-            Lone::Accepted
-        }
-        Answer::Refused { number, place } => Lone::Refused { number, place },
     }
 }

@@ -1,20 +1,24 @@
 // Writing records: a shape by value, and the shape and the scalar of a whole type.
 use lent::Written;
+use lent::hand_over;
 use limits::ABSENT;
-use record::Answer;
+use limits::refusal::TOO_SHORT;
 use record::Dims;
 use record::DynShape;
 use record::Lone;
-use limits::refusal::TOO_SHORT;
+use record::lone_scalar;
+use record::lone_shape;
+use record::read_lone;
 ghost use mathlib.Core.Path.{_≡_};
+ghost use mathlib.Core.List.{[], _∷_, _++_};
 ghost use Prim.Native.Nat.{_+_, _*_, _≤_};
 ghost use lib.ListN.{length};
 ghost use Rattle.format.specs.Reader.{bytesOf};
-ghost use Rattle.format.specs.Records.{writeDims, writeShape};
+ghost use Rattle.format.specs.Records.{shapeMark, markBytes, countOf, writeDims, writeShape};
 ghost use Rattle.format.specs.Outcome.{accepted, deliver, mapped, lone, shapeRecord, scalarRecord};
 ghost use Rattle.lent.specs.Over.{over};
 ghost use Rattle.lent.specs.Written.{delivered};
-ghost use Rattle.record.specs.Answers.{dimsOf, shapeFor};
+ghost use Rattle.record.specs.Answers.{dimsOf, closingFor, shapeFor};
 
 // Eight bytes, low byte first.
 fn put_number(out: &mut [u8], at: usize, n: u64)
@@ -59,4 +63,92 @@ fn put_dims(out: &mut [u8], start: usize, d: Dims) -> usize
         i += 1;
     }
     at
+}
+
+// The count byte of a shape's closing sizes.
+fn closing_count(shape: DynShape) -> u8
+    ensures { λ r. ⌜ r ≡ countOf (closingFor shape) ⌝ }
+{
+    if shape.closed {
+        return ABSENT as u8;
+    }
+    let suffix = shape.suffix;
+    size_count(suffix) as u8
+}
+
+// The length of a shape's record.
+pub fn shape_length(shape: DynShape) -> usize
+    ensures { λ r. ⌜ (r ≡ length (writeShape (shapeFor shape))) × (r ≤ 132) ⌝ }
+{
+    let dims = shape.dims;
+    let start = 4 + 8 * size_count(dims);
+    if shape.closed {
+        return start;
+    }
+    let suffix = shape.suffix;
+    start + 8 * size_count(suffix)
+}
+
+fn put_head(out: &mut [u8], at: usize, opening: u8, closing: u8)
+    requires { ⌜ at + 4 ≤ length (now out) ⌝ }
+    ensures { λ _. ⌜ now (out .exit) ≡ over (now (out .entry)) at (markBytes shapeMark ++ (opening ∷ closing ∷ [])) ⌝ }
+{
+    out[at] = 0x53;
+    out[at + 1] = 0x48;
+    out[at + 2] = opening;
+    out[at + 3] = closing;
+}
+
+// A shape's record, from `at` on. Answers the place after it.
+pub fn put_shape(out: &mut [u8], at: usize, shape: DynShape) -> usize
+    requires { ⌜ at + length (writeShape (shapeFor shape)) ≤ length (now out) ⌝ }
+    ensures { λ r. ⌜ (r ≡ at + length (writeShape (shapeFor shape))) × (now (out .exit) ≡ over (now (out .entry)) at (writeShape (shapeFor shape))) ⌝ }
+{
+    let dims = shape.dims;
+    let closing = closing_count(shape);
+    put_head(&mut *out, at, size_count(dims) as u8, closing);
+    let next = put_dims(&mut *out, at + 4, dims);
+    if shape.closed {
+        return next;
+    }
+    let suffix = shape.suffix;
+    put_dims(&mut *out, next, suffix)
+}
+
+// A shape's record, to the front of the result.
+pub fn write_shape(shape: DynShape, result: &mut [u8]) -> Written
+    ensures { λ r. ⌜ delivered r (now (result .exit)) ≡ deliver (accepted (writeShape (shapeFor shape))) (now (result .entry)) ⌝ }
+{
+    let n = shape_length(shape);
+    if result.len() < n {
+        return Written::Refused {
+            number: TOO_SHORT,
+            place: 0,
+        };
+    }
+    put_shape(&mut *result, 0, shape);
+    Written::Wrote(n)
+}
+
+// The record of a type's shape.
+pub fn shape_record(ty: &[u8], result: &mut [u8]) -> Written
+    ensures { λ r. ⌜ delivered r (now (result .exit)) ≡ deliver (mapped shapeRecord (lone (now (ty .entry)))) (now (result .entry)) ⌝ }
+{
+    let answer = read_lone(ty);
+    if let Lone::Refused { number, place } = answer {
+        return Written::Refused { number, place };
+    }
+    write_shape(lone_shape(ty), &mut *result)
+}
+
+// The record of a type's scalar.
+pub fn scalar_record(ty: &[u8], result: &mut [u8]) -> Written
+    ensures { λ r. ⌜ delivered r (now (result .exit)) ≡ deliver (mapped scalarRecord (lone (now (ty .entry)))) (now (result .entry)) ⌝ }
+{
+    let answer = read_lone(ty);
+    if let Lone::Refused { number, place } = answer {
+        return Written::Refused { number, place };
+    }
+    let start = lone_scalar(ty);
+    hand_over(&ty[start..], &mut *result)
 }

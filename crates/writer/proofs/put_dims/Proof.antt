@@ -45,13 +45,13 @@ loop-less : tie.Need-loop-less Inv-loop μ-loop
 loop-less c = search needs
 
 loop-again : tie.Need-loop-again Inv-loop μ-loop
-loop-again c = let n : c .before .before .before .before .before .before .before .size-count .result ≡ length (dimsOf (c .before .before .before .before .before .before .before .before .before .args .t3)) = c .before .before .before .before .before .before .before .size-count .ensures .0 in let h : c .before .before .before .before .before .before .loop .i < length (dimsOf (c .before .before .before .before .before .before .before .before .before .args .t3)) = omega arith in (omega arith, omega arith, c .before .before .put-number .kept .0 ∙ c .before .before .before .before .before .before .loop .inv .2, c .before .before .put-number .ensures ∙ lay-more _ _ _ _ _ _ _ h (c .before .before .before .before .before .before .before .before .before .pre) (c .before .before .before .before .before .before .loop .inv .1) (c .before .before .before .before .before .before .loop .inv .3))
+loop-again c = let n : c .before .before .before .before .before .before .before .size-count .result ≡ length (dimsOf (c .before .before .before .before .before .before .before .before .before .args .t3)) = c .before .before .before .before .before .before .before .size-count .ensures .0 in let h : c .before .before .before .before .before .before .loop .i < length (dimsOf (c .before .before .before .before .before .before .before .before .before .args .t3)) = omega arith in (omega arith, omega arith, c .before .before .put-number .kept .0 ∙ c .before .before .before .before .before .before .loop .inv .2, c .before .before .put-number .ensures ∙ lay-more (c .before .before .before .before .before .before .before .before .before .args .out .now) (c .before .before .before .before .before .before .before .before .before .args .start) (c .before .before .before .before .before .before .before .before .before .args .t3 .sizes) (c .before .before .before .before .before .before .before .before .before .args .t3 .count) (c .before .before .before .before .before .before .loop .out) (c .before .before .before .before .before .before .loop .i) (c .before .before .before .before .before .before .loop .at) h (c .before .before .before .before .before .before .before .before .before .pre) (c .before .before .before .before .before .before .loop .inv .1) (c .before .before .before .before .before .before .loop .inv .3))
 
 same-length : tie.Need-same-length Inv-loop μ-loop
 same-length c = c .before .loop .inv .2
 
 returns : tie.Need-returns Inv-loop μ-loop
-returns c = let n : c .before .before .size-count .result ≡ length (dimsOf (c .before .before .before .before .args .t3)) = c .before .before .size-count .ensures .0 in let e : c .before .loop .i ≡ length (dimsOf (c .before .before .before .before .args .t3)) = omega arith in (omega arith, lay-all _ _ _ _ _ _ e (c .before .loop .inv .3))
+returns c = let n : c .before .before .size-count .result ≡ length (dimsOf (c .before .before .before .before .args .t3)) = c .before .before .size-count .ensures .0 in let e : c .before .loop .i ≡ length (dimsOf (c .before .before .before .before .args .t3)) = omega arith in (omega arith, lay-all (c .before .before .before .before .args .out .now) (c .before .before .before .before .args .start) (c .before .before .before .before .args .t3 .sizes) (c .before .before .before .before .args .t3 .count) (c .before .loop .out) (c .before .loop .i) e (c .before .loop .inv .3))
 
 pub put-dims-spec : {M : Type 1} → statement M
 put-dims-spec =

@@ -1,11 +1,11 @@
 use mathlib.Core.Path.{sym}
 use Rattle.record.proofs.Known.{known, told}
-use Rattle.record.proofs.TypeLaws.{lone-trailing, lone-whole, lone-stopped}
+use Rattle.record.proofs.LoneLaws.{lone-trailing, lone-whole, lone-stopped}
 use borrow.Author.Needs.{needs}
-use Rattle.record.proofs.types.read_lone.Statement.{statement}
-use Rattle.record.proofs.types.read_lone.Tie as tie
-use Rattle.record.proofs.types.read_lone.Reads as reads
-use Rattle.record.proofs.types.read_lone.Lts as lts
+use Rattle.record.proofs.whole.read_lone.Statement.{statement}
+use Rattle.record.proofs.whole.read_lone.Tie as tie
+use Rattle.record.proofs.whole.read_lone.Reads as reads
+use Rattle.record.proofs.whole.read_lone.Lts as lts
 use Rattle.record.proofs.types.read_type.Reads as read-type-reads
 
 read-type-requires : tie.Need-read-type-requires

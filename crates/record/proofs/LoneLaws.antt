@@ -1,0 +1,91 @@
+-- Lone types: one law for each way out of a function, and what their parts are.
+use Prim.Native.Nat.{ℕ, _≤_, _<_}
+use native.Mathlib.Omega.{arith}
+use mathlib.Core.Path.{_≡_, refl, sym, _∙_, ap}
+use mathlib.Core.List.{List}
+use lib.ListN.{length, drop, length-append}
+use borrow.Author.Tests.{lt-ltb, le-ltb}
+use Rattle.model.specs.Refusals.{trailing}
+use Rattle.model.specs.Types.{Shape, Scalar, Ty, ty, shapeOf}
+use Rattle.format.specs.Reader.{Read, got, stopped, mapRead}
+use Rattle.format.specs.ReaderLaws.{Bytes}
+use Rattle.format.specs.Records.{writeShape, writeScalar, writeTy, readShape, readType}
+use Rattle.format.specs.Outcome.{Outcome, accepted, refused, mapped, bound, both, lone, scalarRecord}
+use Rattle.format.specs.ReadWrite.{lone-parts, lone-write}
+use Rattle.record.specs.Answers.{shapeFor, beside, nothing, nothings}
+use Rattle.record.specs.declared.Answer.{Answer}
+use Rattle.record.specs.declared.Answer.the-variants.{Got, Refused}
+use Rattle.record.specs.declared.DynShape.{DynShape}
+use Rattle.record.proofs.Known.{stopped-map, got-map}
+
+-- ---- outcomes whose value is passed over
+
+pub passed-accepted : {A C : Type 0} (o : Outcome A) → mapped nothing o ≡ accepted 0 → ((a : A) → o ≡ accepted a → C) → C
+passed-accepted (accepted a) e f = f a refl
+passed-accepted (refused k p) e f = let z : _≡_ {A = ℕ} 0 1 = cc in absurd (omega arith)
+
+pub passed-refused : {A : Type 0} (o : Outcome A) {k p : ℕ} → mapped nothing o ≡ refused k p → o ≡ refused k p
+passed-refused (accepted a) e = let z : _≡_ {A = ℕ} 0 1 = cc in absurd (omega arith)
+passed-refused (refused j q) {k} {p} e = let x : j ≡ k = cc in let y : q ≡ p = cc in rw (x, y)
+
+pub mapped-refused : {A B : Type 0} (f : A → B) {o : Outcome A} {k p : ℕ} → o ≡ refused k p → mapped f o ≡ refused k p
+mapped-refused f e = ap (mapped f) e
+
+module _ {A B : Type 0} (x : Outcome A) (y : Outcome B) where
+  pub both-first : {k p : ℕ} → mapped nothing x ≡ refused k p → both nothings x y ≡ refused k p
+  both-first e = rw (passed-refused x e)
+
+  pub both-second : mapped nothing x ≡ accepted 0 → both nothings x y ≡ mapped nothing y
+  both-second e = passed-accepted x e λ a h. rw h (go y)
+    where
+      go : (y : Outcome B) → bound (λ _. accepted 0) y ≡ mapped nothing y
+      go (accepted b) = refl
+      go (refused k p) = refl
+
+-- ---- a lone type
+
+module _ (s : List ℕ) (f : Ty → ℕ) where
+  pub lone-trailing : {v n : ℕ} → mapRead f (readType s 0) ≡ got v n → n < length s → mapped nothing (lone s) ≡ refused trailing n
+  unfolding lone
+  lone-trailing {v} {n} e h = got-map f (readType s 0) e λ t g _. rw (g, lt-ltb n (length s) h)
+
+  pub lone-whole : {v n : ℕ} → mapRead f (readType s 0) ≡ got v n → length s ≤ n → mapped nothing (lone s) ≡ accepted 0
+  unfolding lone
+  lone-whole {v} {n} e h = got-map f (readType s 0) e λ t g _. rw (g, le-ltb n (length s) h)
+
+  pub lone-stopped : {k p : ℕ} → mapRead f (readType s 0) ≡ stopped k p → mapped nothing (lone s) ≡ refused k p
+  unfolding lone
+  lone-stopped e = rw (stopped-map f (readType s 0) e)
+
+-- ---- its parts
+
+beside-got : {A : Type 0} (r : Answer) (a : A) {b : A} {n : ℕ} → beside r a ≡ got b n → a ≡ b
+beside-got (Got v m) a e = cc
+beside-got (Refused k p) a e = let z : _≡_ {A = ℕ} 0 1 = cc in absurd (omega arith)
+
+module _ (s : List ℕ) (small : Bytes s) (accepts : mapped nothing (lone s) ≡ accepted 0) (r : Answer) (d : DynShape) (read : beside r (shapeFor d) ≡ readShape s 0) where
+  pub shape-part : mapped shapeOf (lone s) ≡ accepted (shapeFor d)
+  shape-part = passed-accepted (lone s) accepts λ t e. go t e
+    where
+      go : (t : Ty) → lone s ≡ accepted t → mapped shapeOf (lone s) ≡ accepted (shapeFor d)
+      go (ty o k) e = rw e (ap accepted (sym (beside-got r (shapeFor d) (read ∙ lone-parts s small o k e .0))))
+
+  pub scalar-part : {v n : ℕ} → r ≡ Got v n → (mapped scalarRecord (lone s) ≡ accepted (drop n s)) × (n ≤ length s)
+  unfolding writeTy
+  scalar-part {v} {n} known = passed-accepted (lone s) accepts λ t e. go t e
+    where
+      go : (t : Ty) → lone s ≡ accepted t → (mapped scalarRecord (lone s) ≡ accepted (drop n s)) × (n ≤ length s)
+      go (ty o k) e =
+          let (shaped, rest) = lone-parts s small o k e in
+          let there : got (shapeFor d) n ≡ got o (length (writeShape o)) = sym (ap (λ x. beside x (shapeFor d)) known) ∙ read ∙ shaped in
+          let next : n ≡ length (writeShape o) = cc in
+          (rw (e, next) (ap accepted (sym rest)), rw next (omega (arith, length-append (writeShape o) (writeScalar k), ap length (lone-write s small (ty o k) e .0))))
+
+  pub scalar-there : {k p : ℕ} → r ≡ Refused k p → ⊥
+  scalar-there {k} {p} told = passed-accepted (lone s) accepts λ t e. go t e
+    where
+      go : (t : Ty) → lone s ≡ accepted t → ⊥
+      go (ty o j) e =
+          let there : stopped k p ≡ got o (length (writeShape o)) = sym (ap (λ x. beside x (shapeFor d)) told) ∙ read ∙ lone-parts s small o j e .0 in
+          let z : _≡_ {A = ℕ} 0 1 = cc in
+          omega arith

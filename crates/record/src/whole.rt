@@ -1,0 +1,73 @@
+// Lone types: whether bytes are one, and where its parts stand.
+use crate::Answer;
+use crate::DynShape;
+use crate::Lone;
+use crate::shape::read_shape;
+use crate::types::read_type;
+use limits::MAX_DEPTH;
+use limits::MAX_TYPES;
+use limits::refusal::TRAILING;
+ghost use mathlib.Core.Path.{_≡_};
+ghost use Prim.Native.Nat.{_≤_};
+ghost use lib.ListN.{length, drop};
+ghost use Rattle.model.specs.Types.{shapeOf};
+ghost use Rattle.format.specs.Outcome.{accepted, mapped, both, lone, scalarRecord};
+ghost use Rattle.record.specs.Answers.{loneOf, shapeFor, nothing, nothings};
+
+// A lone type: nothing may stand after it.
+pub fn read_lone(s: &[u8]) -> Lone
+    ensures { λ r. ⌜ loneOf r ≡ mapped nothing (lone (now (s .entry))) ⌝ }
+{
+    let answer = read_type(s, 0, MAX_DEPTH, MAX_TYPES);
+    match answer {
+        Answer::Got { value: _, next } => {
+            if next < s.len() {
+                return Lone::Refused {
+                    number: TRAILING,
+                    place: next,
+                };
+            }
+            Lone::Accepted
+        }
+        Answer::Refused { number, place } => Lone::Refused { number, place },
+    }
+}
+
+// Two lone types: the first is read whole before the other.
+pub fn read_both(a: &[u8], b: &[u8]) -> Lone
+    ensures { λ r. ⌜ loneOf r ≡ both nothings (lone (now (a .entry))) (lone (now (b .entry))) ⌝ }
+{
+    let first = read_lone(a);
+    if let Lone::Refused {
+        number: _,
+        place: _,
+    } = first {
+        return first;
+    }
+    read_lone(b)
+}
+
+// The shape of a lone type.
+pub fn lone_shape(s: &[u8]) -> DynShape
+    requires { ⌜ mapped nothing (lone (now s)) ≡ accepted 0 ⌝ }
+    ensures { λ r. ⌜ mapped shapeOf (lone (now (s .entry))) ≡ accepted (shapeFor r) ⌝ }
+{
+    let read = read_shape(s, 0);
+    read.shape
+}
+
+// Where the scalar of a lone type begins; it reaches to the end.
+pub fn lone_scalar(s: &[u8]) -> usize
+    requires { ⌜ mapped nothing (lone (now s)) ≡ accepted 0 ⌝ }
+    ensures { λ r. ⌜ (mapped scalarRecord (lone (now (s .entry))) ≡ accepted (drop r (now (s .entry)))) × (r ≤ length (now (s .entry))) ⌝ }
+{
+    let read = read_shape(s, 0);
+    let answer = read.answer;
+    match answer {
+        Answer::Got { value: _, next } => next,
+        Answer::Refused {
+            number: _,
+            place: _,
+        } => 0,
+    }
+}

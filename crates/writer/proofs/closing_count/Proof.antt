@@ -1,0 +1,28 @@
+use mathlib.Core.Path.{_≡_, refl, sym, ap, _∙_}
+use Rattle.format.specs.Records.{countOf}
+use Rattle.writer.proofs.Records.{closed-is, open-is}
+use borrow.Author.Needs.{needs}
+use Rattle.writer.proofs.closing_count.Statement.{statement}
+use Rattle.writer.proofs.closing_count.Tie as tie
+use Rattle.writer.proofs.closing_count.Reads as reads
+use Rattle.writer.proofs.closing_count.Lts as lts
+use Rattle.writer.proofs.size_count.Reads as size-count-reads
+
+cast-result : tie.Need-cast-result
+cast-result c = search needs
+
+returns : tie.Need-returns
+returns c = search needs
+
+size-count-requires : tie.Need-size-count-requires
+size-count-requires c κs = search needs
+
+cast-result-2 : tie.Need-cast-result-2
+cast-result-2 c = search needs
+
+returns-2 : tie.Need-returns-2
+returns-2 c = c .size-count .ensures .0 ∙ sym (ap countOf (open-is (c .before .before .before .args .shape) (c .before .before .if1 .left)))
+
+pub closing-count-spec : {M : Type 1} → statement M
+closing-count-spec =
+    tie.close (tie.spec cast-result returns size-count-requires cast-result-2 returns-2)

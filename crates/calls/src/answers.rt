@@ -1,0 +1,125 @@
+// Answers, rendered as lines into the output, which is written in large pieces.
+use crate::words::nth;
+use crate::words::part;
+use lent::Written;
+use text::Placed;
+use text::put_bytes;
+use text::put_decimal;
+use text::put_hex;
+ghost use mathlib.Core.Path.{_≡_};
+ghost use Prim.Native.Nat.{min};
+
+// What a line comes to. Bytes are the first of the result.
+pub enum Answer {
+    Bytes(usize),
+    Number(u64),
+    Refused { number: u8, place: usize },
+    Bad(Fault),
+}
+
+// Why a line is no request.
+pub enum Fault {
+    Long,
+    Request,
+    Words,
+    Number,
+    Hex,
+}
+
+// What a call wrote to its result.
+pub fn delivered(written: Written) -> Answer {
+    match written {
+        Written::Wrote(n) => Answer::Bytes(n),
+        Written::Refused { number, place } => Answer::Refused { number, place },
+    }
+}
+
+// One line, after the answers that stand in `out` up to `end`. Answers where it ends. Without its bytes a line has less
+// than 64.
+pub fn say(answer: Answer, result: &[u8], out: &mut [u8], end: usize) -> usize {
+    let at = room_for(64, &*out, end);
+    match answer {
+        Answer::Bytes(n) => say_bytes(part(result, 0, n), out, at),
+        Answer::Number(n) => say_number(n, out, at),
+        Answer::Refused { number, place } => say_refused(number, place, out, at),
+        Answer::Bad(fault) => say_bad(fault, out, at),
+    }
+}
+
+// Writes what stands in `out` up to `end`.
+pub fn flush(out: &[u8], end: usize) {
+    io::write_all(1, part(out, 0, end));
+}
+
+fn say_bytes(bytes: &[u8], out: &mut [u8], at: usize) -> usize {
+    let mut end = put(b"ok ", &mut *out, at);
+    let mut from = 0usize;
+    while from < bytes.len() {
+        let to = least(bytes.len(), from + 4096);
+        let room = room_for(8192, &*out, end);
+        end = after(put_hex(part(bytes, from, to), &mut *out, room));
+        from = to;
+    }
+    let room = room_for(1, &*out, end);
+    put(b"\n", out, room)
+}
+
+fn say_number(n: u64, out: &mut [u8], at: usize) -> usize {
+    let digits = put(b"ok ", &mut *out, at);
+    let end = after(put_decimal(n, &mut *out, digits));
+    put(b"\n", out, end)
+}
+
+fn say_refused(number: u8, place: usize, out: &mut [u8], at: usize) -> usize {
+    let first = put(b"no ", &mut *out, at);
+    let space = after(put_decimal(number as u64, &mut *out, first));
+    let second = put(b" ", &mut *out, space);
+    let end = after(put_decimal(place as u64, &mut *out, second));
+    put(b"\n", out, end)
+}
+
+fn say_bad(fault: Fault, out: &mut [u8], at: usize) -> usize {
+    let why = put(b"bad ", &mut *out, at);
+    let word = nth(b"long request words number hex", place(fault));
+    let end = put(word, &mut *out, why);
+    put(b"\n", out, end)
+}
+
+// Its word's place among those of `say_bad`.
+fn place(fault: Fault) -> usize {
+    match fault {
+        Fault::Long => 0,
+        Fault::Request => 1,
+        Fault::Words => 2,
+        Fault::Number => 3,
+        Fault::Hex => 4,
+    }
+}
+
+fn put(bytes: &[u8], out: &mut [u8], at: usize) -> usize {
+    after(put_bytes(bytes, out, at))
+}
+
+// A place in `out` that n bytes have room after: the end of what stands there, or the front, once that is written.
+fn room_for(n: usize, out: &[u8], end: usize) -> usize {
+    if end <= out.len() {
+        if n <= out.len() - end {
+            return end;
+        }
+    }
+    flush(out, end);
+    0
+}
+
+fn after(placed: Placed) -> usize {
+    match placed {
+        Placed::To(next) => next,
+        Placed::NoRoom => 0,
+    }
+}
+
+fn least(a: usize, b: usize) -> usize
+    ensures { λ r. ⌜ r ≡ min a b ⌝ }
+{
+    if a < b { a } else { b }
+}

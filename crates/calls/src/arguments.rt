@@ -1,0 +1,25 @@
+// The arguments of a request, each a word.
+use check::same;
+use text::Decoded;
+use text::Number;
+use text::decode_hex;
+use text::parse_decimal;
+
+// HEX: bytes in hexadecimal, or a dash for none, into `input` from `at` on.
+pub fn hex(word: &[u8], input: &mut [u8], at: usize) -> Decoded {
+    if same(word, b"-") {
+        return Decoded::To(at);
+    }
+    decode_hex(word, input, at)
+}
+
+// N: a decimal number, at most `most`.
+pub fn decimal(word: &[u8], most: u64) -> Number {
+    let parsed = parse_decimal(word);
+    if let Number::Value(n) = parsed {
+        if n <= most {
+            return parsed;
+        }
+    }
+    Number::Other
+}

@@ -1,0 +1,58 @@
+// Every public call from a shell: one request to a line of standard input, one answer to a line of standard output.
+// The program decides nothing: a line is taken apart, the call made, its outcome rendered.
+mod answers;
+mod arguments;
+mod lines;
+mod one_type;
+mod records;
+mod requests;
+mod words;
+
+use answers::flush;
+use lines::feed;
+use lines::last_line;
+use words::part;
+
+// A line has at most 131,072 bytes, so its hexadecimal arguments stand for at most 65,536 in all. No answer has more
+// than 163,840.
+fn main() {
+    let mut chunk = [0u8; 65536];
+    let mut line = [0u8; 131073];
+    let mut input = [0u8; 65536];
+    let mut result = [0u8; 163840];
+    let mut out = [0u8; 65536];
+    serve(&mut chunk, &mut line, &mut input, &mut result, &mut out);
+}
+
+// Answers line by line until the input ends. What was answered is written before more is read, so that whoever asks by
+// hand is answered at once. That the input ends cannot be proved, so a number of turns falls that no input uses up.
+fn serve(chunk: &mut [u8], line: &mut [u8], input: &mut [u8], result: &mut [u8], out: &mut [u8]) {
+    let mut held = 0usize;
+    let mut turns = u64::MAX;
+    let mut n = read_some(&mut *chunk);
+    while n > 0 {
+        if turns == 0 {
+            return;
+        }
+        turns -= 1;
+        let done = feed(
+            part(&*chunk, 0, n),
+            &mut *line,
+            held,
+            &mut *input,
+            &mut *result,
+            &mut *out,
+        );
+        held = done.held;
+        flush(&*out, done.end);
+        n = read_some(&mut *chunk);
+    }
+    let end = last_line(&*line, held, input, result, &mut *out);
+    flush(&*out, end);
+}
+
+// As much of the input as there is at once: no byte at its end.
+fn read_some(chunk: &mut [u8]) -> usize {
+    let got = libc::read(0, &mut *chunk);
+    io::count(got, &*chunk)
+}

@@ -1,0 +1,46 @@
+// NAME ROOM HEX: a record of a type, written to a result buffer of ROOM bytes.
+use crate::answers::Answer;
+use crate::answers::Fault;
+use crate::answers::delivered;
+use crate::arguments::decimal;
+use crate::arguments::hex;
+use crate::words::Found;
+use crate::words::count;
+use crate::words::find;
+use crate::words::front;
+use crate::words::nth;
+use crate::words::part;
+use text::Decoded;
+use text::Number;
+use writer::scalar_record;
+use writer::shape_record;
+
+// In the order of `call`'s arms.
+pub fn number(name: &[u8]) -> Found {
+    find(b"write_shape write_scalar", name)
+}
+
+const MAX_ROOM: u64 = 65536;
+
+pub fn answered(k: usize, line: &[u8], input: &mut [u8], result: &mut [u8]) -> Answer {
+    if count(line) != 3 {
+        return Answer::Bad(Fault::Words);
+    }
+    let parsed = decimal(nth(line, 1), MAX_ROOM);
+    let Number::Value(room) = parsed else {
+        return Answer::Bad(Fault::Number);
+    };
+    let decoded = hex(nth(line, 2), &mut *input, 0);
+    let Decoded::To(end) = decoded else {
+        return Answer::Bad(Fault::Hex);
+    };
+    call(k, part(&*input, 0, end), front(result, room as usize))
+}
+
+fn call(k: usize, a: &[u8], result: &mut [u8]) -> Answer {
+    match k {
+        0 => delivered(shape_record(a, result)),
+        1 => delivered(scalar_record(a, result)),
+        _ => Answer::Bad(Fault::Request),
+    }
+}

@@ -1,0 +1,23 @@
+// The requests by the arguments that they take. A request's number is its place among those that take the same.
+use crate::answers::Answer;
+use crate::answers::Fault;
+use crate::one_type;
+use crate::records;
+use crate::words::Found;
+use crate::words::nth;
+
+const MAX_LINE: usize = 131072;
+
+pub fn answered(line: &[u8], input: &mut [u8], result: &mut [u8]) -> Answer {
+    if MAX_LINE < line.len() {
+        return Answer::Bad(Fault::Long);
+    }
+    let name = nth(line, 0);
+    if let Found::At(k) = one_type::number(name) {
+        return one_type::answered(k, line, input, result);
+    }
+    if let Found::At(k) = records::number(name) {
+        return records::answered(k, line, input, result);
+    }
+    Answer::Bad(Fault::Request)
+}

@@ -1,0 +1,87 @@
+// The words of a text. Only a space parts words.
+use check::same;
+ghost use Prim.Native.Nat.{_≤_};
+ghost use lib.ListN.{length};
+
+// The place of a word among those of a list.
+pub enum Found {
+    At(usize),
+    Nowhere,
+}
+
+// How many words a text has, or 0 where one of them is empty.
+pub fn count(text: &[u8]) -> usize {
+    let mut n = 0usize;
+    let mut at = 0usize;
+    while at <= text.len() {
+        let end = find_space(text, at);
+        if end == at {
+            return 0;
+        }
+        n += 1;
+        at = end + 1;
+    }
+    n
+}
+
+// The k-th word, from 0.
+pub fn nth(text: &[u8], k: usize) -> &[u8] {
+    let mut left = k;
+    let mut at = 0usize;
+    while at <= text.len() {
+        let end = find_space(text, at);
+        if left == 0 {
+            return part(text, at, end);
+        }
+        left -= 1;
+        at = end + 1;
+    }
+    part(text, 0, 0)
+}
+
+pub fn find(list: &[u8], word: &[u8]) -> Found {
+    let mut k = 0usize;
+    let mut at = 0usize;
+    while at <= list.len() {
+        let end = find_space(list, at);
+        if same(part(list, at, end), word) {
+            return Found::At(k);
+        }
+        k += 1;
+        at = end + 1;
+    }
+    Found::Nowhere
+}
+
+// The bytes from a place up to another, where both are places of s.
+pub fn part(s: &[u8], from: usize, to: usize) -> &[u8] {
+    if from <= to {
+        if to <= s.len() {
+            return &s[from..to];
+        }
+    }
+    &s[..0]
+}
+
+// The first n bytes, where there are so many.
+pub fn front(s: &mut [u8], n: usize) -> &mut [u8] {
+    if n <= s.len() {
+        return &mut s[..n];
+    }
+    s
+}
+
+// Where the word that starts at a place ends.
+fn find_space(text: &[u8], from: usize) -> usize
+    requires { ⌜ from ≤ length (now text) ⌝ }
+    ensures { λ r. ⌜ (from ≤ r) × (r ≤ length (now (text .entry))) ⌝ }
+{
+    let mut i = from;
+    while i < text.len() {
+        if text[i] == 32 {
+            return i;
+        }
+        i += 1;
+    }
+    i
+}

@@ -127,6 +127,14 @@ module _ (o p : List Dim) where
 
 -- ---- closing sizes of a pervading
 
+pub pervade-first : {c : Option (List Dim)} (d : Option (List Dim)) → c ≡ none → pervadeClosing c d ≡ d
+unfolding pervadeClosing
+pervade-first d e = rw e
+
+pub pervade-second : {c d : Option (List Dim)} {l : List Dim} → c ≡ some l → d ≡ none → pervadeClosing c d ≡ some l
+unfolding pervadeClosing
+pervade-second e f = rw (e, f)
+
 module _ {c d : Option (List Dim)} {l m : List Dim} (e : c ≡ some l) (f : d ≡ some m) where
   pub pervade-empty : length l ≡ 0 → pervadeClosing c d ≡ some m
   unfolding pervadeClosing

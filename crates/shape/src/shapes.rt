@@ -14,6 +14,8 @@ use record::DynShape;
 use record::no_dims;
 use writer::size_count;
 ghost use mathlib.Core.Path.{_≡_};
+ghost use mathlib.Core.Bool.{cond};
+ghost use mathlib.Core.Option.{none, some};
 ghost use Prim.Native.Nat.{_≤_};
 ghost use Rattle.model.specs.Types.{shape};
 ghost use Rattle.format.specs.Records.{dimOf};
@@ -79,21 +81,10 @@ pub fn into_row(shape: DynShape) -> DynShape
 {
     let dims = shape.dims;
     let suffix = shape.suffix;
-    let closed = shape.closed;
     if 0 < size_count(dims) {
-        let dims = rest_dims(dims);
-        return DynShape {
-            dims,
-            suffix,
-            closed,
-        };
+        return of_parts(rest_dims(dims), suffix, shape.closed);
     }
-    let suffix = rest_dims(suffix);
-    DynShape {
-        dims,
-        suffix,
-        closed,
-    }
+    of_parts(dims, rest_dims(suffix), shape.closed)
 }
 
 // Closing sizes are not looked at.
@@ -121,26 +112,12 @@ fn merge_closing(dims: Dims, a: DynShape, b: DynShape) -> DynShape
     let a_suffix = a.suffix;
     let b_suffix = b.suffix;
     if a.closed {
-        return DynShape {
-            dims,
-            suffix: b_suffix,
-            closed: b.closed,
-        };
+        return of_parts(dims, b_suffix, b.closed);
     }
     if b.closed {
-        let closed = size_count(a_suffix) == 0;
-        return DynShape {
-            dims,
-            suffix: a_suffix,
-            closed,
-        };
+        return of_parts(dims, a_suffix, size_count(a_suffix) == 0);
     }
-    let suffix = merge_dims(a_suffix, b_suffix);
-    DynShape {
-        dims,
-        suffix,
-        closed: false,
-    }
+    of_parts(dims, merge_dims(a_suffix, b_suffix), false)
 }
 
 // A closing list exists only if both have one.
@@ -154,17 +131,9 @@ pub fn join(a: DynShape, b: DynShape) -> DynShape
     let dims = join_dims(a_dims, b_dims);
     let suffix = join_ends(a_suffix, b_suffix);
     if a.closed {
-        return DynShape {
-            dims,
-            suffix,
-            closed: true,
-        };
+        return of_parts(dims, suffix, true);
     }
-    DynShape {
-        dims,
-        suffix,
-        closed: b.closed,
-    }
+    of_parts(dims, suffix, b.closed)
 }
 
 pub fn pervade_dyn_shapes(a: DynShape, b: DynShape, a_fill: bool, b_fill: bool) -> ShapePervaded
@@ -186,36 +155,26 @@ fn pervade_closing(dims: Dims, a: DynShape, b: DynShape) -> DynShape
     let a_suffix = a.suffix;
     let b_suffix = b.suffix;
     if a.closed {
-        return DynShape {
-            dims,
-            suffix: b_suffix,
-            closed: b.closed,
-        };
+        return of_parts(dims, b_suffix, b.closed);
     }
     if b.closed {
-        return DynShape {
-            dims,
-            suffix: a_suffix,
-            closed: false,
-        };
+        return of_parts(dims, a_suffix, false);
     }
     if size_count(a_suffix) == 0 {
-        return DynShape {
-            dims,
-            suffix: b_suffix,
-            closed: false,
-        };
+        return of_parts(dims, b_suffix, false);
     }
     if size_count(b_suffix) == 0 {
-        return DynShape {
-            dims,
-            suffix: a_suffix,
-            closed: false,
-        };
+        return of_parts(dims, a_suffix, false);
     }
+    of_parts(dims, no_dims(), false)
+}
+
+fn of_parts(dims: Dims, suffix: Dims, closed: bool) -> DynShape
+    ensures { λ r. ⌜ shapeFor r ≡ shape (dimsOf dims) (cond closed none (some (dimsOf suffix))) ⌝ }
+{
     DynShape {
         dims,
-        suffix: no_dims(),
-        closed: false,
+        suffix,
+        closed,
     }
 }

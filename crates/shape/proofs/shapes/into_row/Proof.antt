@@ -15,16 +15,29 @@ size-count-requires c κs = search needs
 rest-dims-requires : tie.Need-rest-dims-requires
 rest-dims-requires c κs = search needs
 
+of-parts-requires : tie.Need-of-parts-requires
+of-parts-requires c κs = search needs
+
 returns : tie.Need-returns
-returns c = ap (λ d. shape d (closingFor (c .before .before .before .before .before .args .shape))) (c .rest-dims .ensures) ∙ sym (row-opening (dimsOf (c .before .before .before .before .before .args .shape .dims)) (closingFor (c .before .before .before .before .before .args .shape)) (omega (arith, c .before .before .size-count .ensures .0)))
+returns c = c .of-parts .ensures ∙ (ap (λ d. shape d (closingFor (c .before .before .before .before .before .before .args .shape))) (c .before .rest-dims .ensures) ∙ sym (row-opening (dimsOf (c .before .before .before .before .before .before .args .shape .dims)) (closingFor (c .before .before .before .before .before .before .args .shape)) (omega (arith, c .before .before .before .size-count .ensures .0))))
 
 rest-dims-requires-2 : tie.Need-rest-dims-requires-2
 rest-dims-requires-2 c κs = search needs
 
+of-parts-requires-2 : tie.Need-of-parts-requires-2
+of-parts-requires-2 c κs = search needs
+
 returns-2 : tie.Need-returns-2
-returns-2 c = ap (λ d. shape (dimsOf (c .before .before .before .before .before .args .shape .dims)) (cond (c .before .before .before .before .before .args .shape .closed) none (some d))) (c .rest-dims2 .ensures) ∙ sym (row-closing (dimsOf (c .before .before .before .before .before .args .shape .dims)) (c .before .before .before .before .before .args .shape .closed) (dimsOf (c .before .before .before .before .before .args .shape .suffix)) (omega (arith, c .before .before .size-count .ensures .0)))
+returns-2 c = c .of-parts2 .ensures ∙ (ap (λ d. shape (dimsOf (c .before .before .before .before .before .before .args .shape .dims)) (cond (c .before .before .before .before .before .before .args .shape .closed) none (some d))) (c .before .rest-dims2 .ensures) ∙ sym (row-closing (dimsOf (c .before .before .before .before .before .before .args .shape .dims)) (c .before .before .before .before .before .before .args .shape .closed) (dimsOf (c .before .before .before .before .before .before .args .shape .suffix)) (omega (arith, c .before .before .before .size-count .ensures .0))))
 
 pub into-row-spec : {M : Type 1} → statement M
 into-row-spec =
     tie.close
-    (tie.spec size-count-requires rest-dims-requires returns rest-dims-requires-2 returns-2)
+    (tie.spec
+    size-count-requires
+    rest-dims-requires
+    of-parts-requires
+    returns
+    rest-dims-requires-2
+    of-parts-requires-2
+    returns-2)

@@ -1,0 +1,37 @@
+use mathlib.Core.Path.{sym, ap, _∙_}
+use Rattle.rules.specs.Sizes.{cmpDefined}
+use Rattle.format.specs.Outcome.{accepted}
+use Rattle.shape_calls.specs.Answers.{judgedOf}
+use Rattle.shape_calls.proofs.CallLaws.{sizes-told, sizes-passed}
+use borrow.Author.Needs.{needs}
+use Rattle.shape_calls.proofs.numbers.dim_cmp_defined.Statement.{statement}
+use Rattle.shape_calls.proofs.numbers.dim_cmp_defined.Tie as tie
+
+judge-sizes-requires : tie.Need-judge-sizes-requires
+judge-sizes-requires c κs = search needs
+
+enum-known-number : tie.Need-enum-known-number
+enum-known-number c = search needs
+
+returns : tie.Need-returns
+returns c = sym (sizes-told (c .before .before .before .before .args .a) (c .before .before .before .before .args .b) cmpDefined (sym (c .before .before .before .judge-sizes .ensures) ∙ ap judgedOf (c .before .number .given .1)))
+
+enum-told : tie.Need-enum-told
+enum-told c = search needs
+
+cmp-defined-requires : tie.Need-cmp-defined-requires
+cmp-defined-requires c κs = search needs
+
+returns-2 : tie.Need-returns-2
+returns-2 c = ap accepted (c .cmp-defined .ensures) ∙ sym (sizes-passed (c .before .before .before .before .args .a) (c .before .before .before .before .args .b) cmpDefined (sym (c .before .before .before .judge-sizes .ensures) ∙ ap judgedOf (c .before .enum-told .given .1)))
+
+pub dim-cmp-defined-spec : {M : Type 1} → statement M
+dim-cmp-defined-spec =
+    tie.close
+    (tie.spec
+    judge-sizes-requires
+    enum-known-number
+    returns
+    enum-told
+    cmp-defined-requires
+    returns-2)

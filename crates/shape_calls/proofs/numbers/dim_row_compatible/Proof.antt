@@ -1,0 +1,41 @@
+use mathlib.Core.Path.{sym, ap, _∙_}
+use Rattle.rules.specs.Sizes.{rowCompatible}
+use Rattle.format.specs.Outcome.{accepted}
+use Rattle.shape_calls.specs.Answers.{judgedOf}
+use Rattle.shape_calls.proofs.CallLaws.{sizes-told, sizes-passed}
+use borrow.Author.Needs.{needs}
+use Rattle.shape_calls.proofs.numbers.dim_row_compatible.Statement.{statement}
+use Rattle.shape_calls.proofs.numbers.dim_row_compatible.Tie as tie
+
+judge-sizes-requires : tie.Need-judge-sizes-requires
+judge-sizes-requires c κs = search needs
+
+enum-known-number : tie.Need-enum-known-number
+enum-known-number c = search needs
+
+returns : tie.Need-returns
+returns c = sym (sizes-told (c .before .before .before .before .args .a) (c .before .before .before .before .args .b) rowCompatible (sym (c .before .before .before .judge-sizes .ensures) ∙ ap judgedOf (c .before .number .given .1)))
+
+enum-told : tie.Need-enum-told
+enum-told c = search needs
+
+row-compatible-requires : tie.Need-row-compatible-requires
+row-compatible-requires c κs = search needs
+
+tell-requires : tie.Need-tell-requires
+tell-requires c κs = search needs
+
+returns-2 : tie.Need-returns-2
+returns-2 c = c .tell .ensures ∙ (ap accepted (c .before .row-compatible .ensures) ∙ sym (sizes-passed (c .before .before .before .before .before .args .a) (c .before .before .before .before .before .args .b) rowCompatible (sym (c .before .before .before .before .judge-sizes .ensures) ∙ ap judgedOf (c .before .before .enum-told .given .1))))
+
+pub dim-row-compatible-spec : {M : Type 1} → statement M
+dim-row-compatible-spec =
+    tie.close
+    (tie.spec
+    judge-sizes-requires
+    enum-known-number
+    returns
+    enum-told
+    row-compatible-requires
+    tell-requires
+    returns-2)

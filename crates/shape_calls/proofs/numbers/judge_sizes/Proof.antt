@@ -1,0 +1,24 @@
+use mathlib.Core.Path.{sym}
+use Rattle.shape_calls.proofs.CallLaws.{first-oversized, second-oversized, both-sizes}
+use borrow.Author.Needs.{needs}
+use Rattle.shape_calls.proofs.numbers.judge_sizes.Statement.{statement}
+use Rattle.shape_calls.proofs.numbers.judge_sizes.Tie as tie
+
+is-size-requires : tie.Need-is-size-requires
+is-size-requires c κs = search needs
+
+returns : tie.Need-returns
+returns c = sym (first-oversized (c .before .before .args .a) (c .before .before .args .b) (c .before .is-size .ensures) (c .if1 .taken))
+
+is-size-requires-2 : tie.Need-is-size-requires-2
+is-size-requires-2 c κs = search needs
+
+returns-2 : tie.Need-returns-2
+returns-2 c = sym (second-oversized (c .before .before .before .before .args .a) (c .before .before .before .before .args .b) (c .before .before .before .is-size .ensures) (c .before .is-size2 .ensures) (c .before .before .if1 .left) (c .if2 .taken))
+
+returns-3 : tie.Need-returns-3
+returns-3 c = sym (both-sizes (c .before .before .before .before .args .a) (c .before .before .before .before .args .b) (c .before .before .before .is-size .ensures) (c .before .is-size2 .ensures) (c .before .before .if1 .left) (c .if2 .left))
+
+pub judge-sizes-spec : {M : Type 1} → statement M
+judge-sizes-spec =
+    tie.close (tie.spec is-size-requires returns is-size-requires-2 returns-2 returns-3)

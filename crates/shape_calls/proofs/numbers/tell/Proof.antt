@@ -1,0 +1,11 @@
+use Rattle.shape_calls.proofs.numbers.tell.Statement.{statement}
+use Rattle.shape_calls.proofs.numbers.tell.Tie as tie
+
+returns : tie.Need-returns
+returns c = rw (c .if1 .taken)
+
+returns-2 : tie.Need-returns-2
+returns-2 c = rw (c .if1 .left)
+
+pub tell-spec : {M : Type 1} → statement M
+tell-spec = tie.close (tie.spec returns returns-2)

@@ -1,0 +1,126 @@
+// Shapes of types handed in as bytes.
+use crate::Counted;
+use crate::Tested;
+use crate::numbers::tell;
+use lent::Written;
+use limits::refusal::UNPERVADED;
+use record::Lone;
+use record::lone_shape;
+use record::read_both;
+use record::read_lone;
+use shape::Verdict;
+use shape::compatible_with;
+use shape::into_row;
+use shape::is_any;
+use shape::is_scalar;
+use shape::join;
+use shape::merge_from;
+use shape::pervade_dyn_shapes;
+use shape::rank;
+use shape::row_count;
+use writer::write_shape;
+ghost use mathlib.Core.Path.{_≡_};
+ghost use Rattle.format.specs.Outcome.{deliver};
+ghost use Rattle.lent.specs.Written.{delivered};
+ghost use Rattle.shape_calls.specs.Answers.{testedOf, sizeOf, numberOf};
+ghost use Rattle.shape_calls.specs.Calls.{mergeCall, joinCall, rowCall, pervadeCall, compatibleShapesCall, isAnyCall, isScalarCall, rowCountCall, rankCall};
+
+// The first merges from the second.
+pub fn merge(a: &[u8], b: &[u8], result: &mut [u8]) -> Written
+    ensures { λ r. ⌜ delivered r (now (result .exit)) ≡ deliver (mergeCall (now (a .entry)) (now (b .entry))) (now (result .entry)) ⌝ }
+{
+    let answer = read_both(a, b);
+    if let Lone::Refused { number, place } = answer {
+        return Written::Refused { number, place };
+    }
+    write_shape(merge_from(lone_shape(a), lone_shape(b)), &mut *result)
+}
+
+pub fn join_shapes(a: &[u8], b: &[u8], result: &mut [u8]) -> Written
+    ensures { λ r. ⌜ delivered r (now (result .exit)) ≡ deliver (joinCall (now (a .entry)) (now (b .entry))) (now (result .entry)) ⌝ }
+{
+    let answer = read_both(a, b);
+    if let Lone::Refused { number, place } = answer {
+        return Written::Refused { number, place };
+    }
+    write_shape(join(lone_shape(a), lone_shape(b)), &mut *result)
+}
+
+pub fn row_shape(a: &[u8], result: &mut [u8]) -> Written
+    ensures { λ r. ⌜ delivered r (now (result .exit)) ≡ deliver (rowCall (now (a .entry))) (now (result .entry)) ⌝ }
+{
+    let answer = read_lone(a);
+    if let Lone::Refused { number, place } = answer {
+        return Written::Refused { number, place };
+    }
+    write_shape(into_row(lone_shape(a)), &mut *result)
+}
+
+pub fn pervade(a: &[u8], b: &[u8], fill_a: bool, fill_b: bool, result: &mut [u8]) -> Written
+    ensures { λ r. ⌜ delivered r (now (result .exit)) ≡ deliver (pervadeCall «fill_a» «fill_b» (now (a .entry)) (now (b .entry))) (now (result .entry)) ⌝ }
+{
+    let answer = read_both(a, b);
+    if let Lone::Refused { number, place } = answer {
+        return Written::Refused { number, place };
+    }
+    let pervaded = pervade_dyn_shapes(lone_shape(a), lone_shape(b), fill_a, fill_b);
+    let verdict = pervaded.answer;
+    if let Verdict::Clash(_) = verdict {
+        return Written::Refused {
+            number: UNPERVADED,
+            place: 0,
+        };
+    }
+    let shape = pervaded.shape;
+    write_shape(shape, &mut *result)
+}
+
+pub fn compatible_shapes(a: &[u8], b: &[u8]) -> Tested
+    ensures { λ r. ⌜ testedOf r ≡ compatibleShapesCall (now (a .entry)) (now (b .entry)) ⌝ }
+{
+    let answer = read_both(a, b);
+    if let Lone::Refused { number, place } = answer {
+        return Tested::Refused { number, place };
+    }
+    tell(compatible_with(lone_shape(a), lone_shape(b)))
+}
+
+pub fn shape_is_any(a: &[u8]) -> Tested
+    ensures { λ r. ⌜ testedOf r ≡ isAnyCall (now (a .entry)) ⌝ }
+{
+    let answer = read_lone(a);
+    if let Lone::Refused { number, place } = answer {
+        return Tested::Refused { number, place };
+    }
+    tell(is_any(lone_shape(a)))
+}
+
+pub fn shape_is_scalar(a: &[u8]) -> Tested
+    ensures { λ r. ⌜ testedOf r ≡ isScalarCall (now (a .entry)) ⌝ }
+{
+    let answer = read_lone(a);
+    if let Lone::Refused { number, place } = answer {
+        return Tested::Refused { number, place };
+    }
+    tell(is_scalar(lone_shape(a)))
+}
+
+pub fn count_rows(a: &[u8]) -> Counted
+    ensures { λ r. ⌜ sizeOf r ≡ rowCountCall (now (a .entry)) ⌝ }
+{
+    let answer = read_lone(a);
+    if let Lone::Refused { number, place } = answer {
+        return Counted::Refused { number, place };
+    }
+    Counted::Count(row_count(lone_shape(a)))
+}
+
+pub fn shape_rank(a: &[u8]) -> Counted
+    ensures { λ r. ⌜ numberOf r ≡ rankCall (now (a .entry)) ⌝ }
+{
+    let answer = read_lone(a);
+    if let Lone::Refused { number, place } = answer {
+        return Counted::Refused { number, place };
+    }
+    Counted::Count(rank(lone_shape(a)) as u64)
+}

@@ -1,3 +1,4 @@
 pub mod Digits
 pub mod Place
 pub mod Answers
+pub mod RoundTrips

@@ -2,6 +2,11 @@
 use crate::words::nth;
 use crate::words::part;
 use lent::Written;
+use limits::UNKNOWN;
+use shape::Order;
+use shape_calls::Compared;
+use shape_calls::Counted;
+use shape_calls::Tested;
 use text::Placed;
 use text::put_bytes;
 use text::put_decimal;
@@ -9,10 +14,13 @@ use text::put_hex;
 ghost use mathlib.Core.Path.{_≡_};
 ghost use Prim.Native.Nat.{min};
 
-// What a line comes to. Bytes are the first of the result.
+// What a line comes to. Bytes are the first of the result; a size is all ones for unknown.
 pub enum Answer {
     Bytes(usize),
     Number(u64),
+    Size(u64),
+    Less,
+    Nothing,
     Refused { number: u8, place: usize },
     Bad(Fault),
 }
@@ -34,6 +42,43 @@ pub fn delivered(written: Written) -> Answer {
     }
 }
 
+pub fn tested(answer: Tested) -> Answer {
+    match answer {
+        Tested::Yes => Answer::Number(1),
+        Tested::No => Answer::Number(0),
+        Tested::Refused { number, place } => Answer::Refused { number, place },
+    }
+}
+
+pub fn sized(answer: Counted) -> Answer {
+    match answer {
+        Counted::Count(n) => Answer::Size(n),
+        Counted::Refused { number, place } => Answer::Refused { number, place },
+    }
+}
+
+pub fn counted(answer: Counted) -> Answer {
+    match answer {
+        Counted::Count(n) => Answer::Number(n),
+        Counted::Refused { number, place } => Answer::Refused { number, place },
+    }
+}
+
+pub fn ordered(answer: Compared) -> Answer {
+    match answer {
+        Compared::Ordered(order) => sign(order),
+        Compared::Refused { number, place } => Answer::Refused { number, place },
+    }
+}
+
+fn sign(order: Order) -> Answer {
+    match order {
+        Order::Less => Answer::Less,
+        Order::Same => Answer::Number(0),
+        Order::More => Answer::Number(1),
+    }
+}
+
 // One line, after the answers that stand in `out` up to `end`. Answers where it ends. Without its bytes a line has less
 // than 64.
 pub fn say(answer: Answer, result: &[u8], out: &mut [u8], end: usize) -> usize {
@@ -41,6 +86,9 @@ pub fn say(answer: Answer, result: &[u8], out: &mut [u8], end: usize) -> usize {
     match answer {
         Answer::Bytes(n) => say_bytes(part(result, 0, n), out, at),
         Answer::Number(n) => say_number(n, out, at),
+        Answer::Size(n) => say_size(n, out, at),
+        Answer::Less => put(b"ok -1\n", out, at),
+        Answer::Nothing => put(b"ok none\n", out, at),
         Answer::Refused { number, place } => say_refused(number, place, out, at),
         Answer::Bad(fault) => say_bad(fault, out, at),
     }
@@ -62,6 +110,13 @@ fn say_bytes(bytes: &[u8], out: &mut [u8], at: usize) -> usize {
     }
     let room = room_for(1, &*out, end);
     put(b"\n", out, room)
+}
+
+fn say_size(n: u64, out: &mut [u8], at: usize) -> usize {
+    if n == UNKNOWN {
+        return put(b"ok ?\n", out, at);
+    }
+    say_number(n, out, at)
 }
 
 fn say_number(n: u64, out: &mut [u8], at: usize) -> usize {

@@ -1,5 +1,6 @@
 // The arguments of a request, each a word.
 use check::same;
+use limits::UNKNOWN;
 use text::Decoded;
 use text::Number;
 use text::decode_hex;
@@ -22,4 +23,12 @@ pub fn decimal(word: &[u8], most: u64) -> Number {
         }
     }
     Number::Other
+}
+
+// A size: a decimal number, or ? for unknown.
+pub fn size(word: &[u8]) -> Number {
+    if same(word, b"?") {
+        return Number::Value(UNKNOWN);
+    }
+    parse_decimal(word)
 }

@@ -4,8 +4,11 @@ mod answers;
 mod arguments;
 mod lines;
 mod one_type;
+mod pervading;
 mod records;
 mod requests;
+mod sizes;
+mod two_types;
 mod words;
 
 use answers::flush;

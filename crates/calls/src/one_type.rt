@@ -1,7 +1,10 @@
 // NAME HEX: requests on one type.
 use crate::answers::Answer;
 use crate::answers::Fault;
+use crate::answers::counted;
 use crate::answers::delivered;
+use crate::answers::sized;
+use crate::answers::tested;
 use crate::arguments::hex;
 use crate::words::Found;
 use crate::words::count;
@@ -11,11 +14,16 @@ use crate::words::part;
 use lent::hand_over;
 use record::Lone;
 use record::read_lone;
+use shape_calls::count_rows;
+use shape_calls::row_shape;
+use shape_calls::shape_is_any;
+use shape_calls::shape_is_scalar;
+use shape_calls::shape_rank;
 use text::Decoded;
 
 // In the order of `call`'s arms.
 pub fn number(name: &[u8]) -> Found {
-    find(b"read", name)
+    find(b"read row_shape shape_is_any shape_is_scalar row_count rank", name)
 }
 
 pub fn answered(k: usize, line: &[u8], input: &mut [u8], result: &mut [u8]) -> Answer {
@@ -32,6 +40,11 @@ pub fn answered(k: usize, line: &[u8], input: &mut [u8], result: &mut [u8]) -> A
 fn call(k: usize, a: &[u8], result: &mut [u8]) -> Answer {
     match k {
         0 => read(a, result),
+        1 => delivered(row_shape(a, result)),
+        2 => tested(shape_is_any(a)),
+        3 => tested(shape_is_scalar(a)),
+        4 => sized(count_rows(a)),
+        5 => counted(shape_rank(a)),
         _ => Answer::Bad(Fault::Request),
     }
 }

@@ -2,7 +2,10 @@
 use crate::answers::Answer;
 use crate::answers::Fault;
 use crate::one_type;
+use crate::pervading;
 use crate::records;
+use crate::sizes;
+use crate::two_types;
 use crate::words::Found;
 use crate::words::nth;
 
@@ -15,6 +18,15 @@ pub fn answered(line: &[u8], input: &mut [u8], result: &mut [u8]) -> Answer {
     let name = nth(line, 0);
     if let Found::At(k) = one_type::number(name) {
         return one_type::answered(k, line, input, result);
+    }
+    if let Found::At(k) = two_types::number(name) {
+        return two_types::answered(k, line, input, result);
+    }
+    if let Found::At(_) = pervading::number(name) {
+        return pervading::answered(line, input, result);
+    }
+    if let Found::At(k) = sizes::number(name) {
+        return sizes::answered(k, line);
     }
     if let Found::At(k) = records::number(name) {
         return records::answered(k, line, input, result);

@@ -1,0 +1,53 @@
+// NAME SIZE SIZE: requests on two sizes.
+use crate::answers::Answer;
+use crate::answers::Fault;
+use crate::answers::ordered;
+use crate::answers::sized;
+use crate::answers::tested;
+use crate::arguments::size;
+use crate::words::Found;
+use crate::words::count;
+use crate::words::find;
+use crate::words::nth;
+use shape_calls::dim_cmp;
+use shape_calls::dim_cmp_defined;
+use shape_calls::dim_compatible;
+use shape_calls::dim_join;
+use shape_calls::dim_max;
+use shape_calls::dim_row_compatible;
+use text::Number;
+
+// In the order of `call`'s arms.
+pub fn number(name: &[u8]) -> Found {
+    find(
+        b"dim_cmp dim_cmp_defined dim_max dim_join dim_compatible dim_row_compatible",
+        name,
+    )
+}
+
+pub fn answered(k: usize, line: &[u8]) -> Answer {
+    if count(line) != 3 {
+        return Answer::Bad(Fault::Words);
+    }
+    let first = size(nth(line, 1));
+    let Number::Value(a) = first else {
+        return Answer::Bad(Fault::Number);
+    };
+    let second = size(nth(line, 2));
+    let Number::Value(b) = second else {
+        return Answer::Bad(Fault::Number);
+    };
+    call(k, a, b)
+}
+
+fn call(k: usize, a: u64, b: u64) -> Answer {
+    match k {
+        0 => ordered(dim_cmp(a, b)),
+        1 => ordered(dim_cmp_defined(a, b)),
+        2 => sized(dim_max(a, b)),
+        3 => sized(dim_join(a, b)),
+        4 => tested(dim_compatible(a, b)),
+        5 => tested(dim_row_compatible(a, b)),
+        _ => Answer::Bad(Fault::Request),
+    }
+}

@@ -1,0 +1,49 @@
+// NAME HEX HEX: requests on two types.
+use crate::answers::Answer;
+use crate::answers::Fault;
+use crate::answers::delivered;
+use crate::answers::tested;
+use crate::arguments::hex;
+use crate::words::Found;
+use crate::words::count;
+use crate::words::find;
+use crate::words::nth;
+use crate::words::part;
+use shape_calls::compatible_shapes;
+use shape_calls::join_shapes;
+use shape_calls::merge;
+use text::Decoded;
+
+// In the order of `call`'s arms.
+pub fn number(name: &[u8]) -> Found {
+    find(b"merge join_shapes compatible_shapes", name)
+}
+
+pub fn answered(k: usize, line: &[u8], input: &mut [u8], result: &mut [u8]) -> Answer {
+    if count(line) != 3 {
+        return Answer::Bad(Fault::Words);
+    }
+    let first = hex(nth(line, 1), &mut *input, 0);
+    let Decoded::To(middle) = first else {
+        return Answer::Bad(Fault::Hex);
+    };
+    let second = hex(nth(line, 2), &mut *input, middle);
+    let Decoded::To(end) = second else {
+        return Answer::Bad(Fault::Hex);
+    };
+    call(
+        k,
+        part(&*input, 0, middle),
+        part(&*input, middle, end),
+        result,
+    )
+}
+
+fn call(k: usize, a: &[u8], b: &[u8], result: &mut [u8]) -> Answer {
+    match k {
+        0 => delivered(merge(a, b, result)),
+        1 => delivered(join_shapes(a, b, result)),
+        2 => tested(compatible_shapes(a, b)),
+        _ => Answer::Bad(Fault::Request),
+    }
+}

@@ -8,7 +8,7 @@ use mathlib.Core.Option.{Option, none, some}
 use lib.ListN.{length, getD, drop, length-append, length-drop}
 use borrow.Author.Tests.{ne-eqb}
 use Rattle.model.specs.Limits.{maxTypes, maxDepth}
-use Rattle.model.specs.Types.{Shape, Scalar, plain, boxAny, boxAll, boxDef, Fields, noFields, field, Ty, ty, fieldCount, inside, among, below, deepest}
+use Rattle.model.specs.Types.{Shape, Kind, Scalar, plain, boxAny, boxAll, boxDef, Fields, noFields, field, Ty, ty, fieldCount, inside, among, below, deepest}
 use Rattle.model.specs.Within.{Each, NameWithin, FieldsWithin, Within}
 use Rattle.format.specs.Reader.{Read, got, stopped, mapRead}
 use Rattle.format.specs.ReaderLaws.{Bytes}
@@ -23,8 +23,8 @@ use Rattle.rules.specs.Types.{stretch, stretchIn, beforeFields, fieldPlace}
 use Rattle.rules.specs.FieldsLaws.{EachField}
 use Rattle.rules.specs.Views.{formOf, afterForm, kind-within, kind-byte, form-within, form-byte, after-form, is-plain, is-box-any, is-box-all, is-box-def, is-box-def-else}
 use Rattle.ty.specs.Parts.{heldBy, past, afterType, afterTypes}
-use Rattle.ty.specs.declared.Held.{Held}
-use Rattle.ty.specs.declared.Held.the-variants.{Plain, BoxAny, BoxAll, BoxDef}
+use Rattle.ty.specs.declared.parts.Held.{Held}
+use Rattle.ty.specs.declared.parts.Held.the-variants.{Plain, BoxAny, BoxAll, BoxDef}
 
 -- ---- the places after types
 
@@ -195,12 +195,12 @@ unfolding inside below
 def-within o n f w = all-within f (w .records .1 .2) (omega (arith, w .few)) (omega (arith, w .shallow))
 
 -- a Def, and where its fields stand
-record Def (s : List ℕ) (start count : ℕ) (o : Shape) (n : Option (List ℕ)) (f : Fields) : Type 0 where
-  is : lone s ≡ accepted (ty o (boxDef n f))
-  place : length (beforeFields o n f) ≡ start
-  counted : fieldCount f ≡ count
-  within : EachField Within f
-  stands : Stands s start (writeFields f)
+pub record Def (s : List ℕ) (start count : ℕ) (o : Shape) (n : Option (List ℕ)) (f : Fields) : Type 0 where
+  pub is : lone s ≡ accepted (ty o (boxDef n f))
+  pub place : length (beforeFields o n f) ≡ start
+  pub counted : fieldCount f ≡ count
+  pub within : EachField Within f
+  pub stands : Stands s start (writeFields f)
 
 module _ (s : List ℕ) (small : Bytes s) where
   open-def : (o : Shape) (n : Option (List ℕ)) (f : Fields) → lone s ≡ accepted (ty o (boxDef n f)) → Def s (length (beforeFields o n f)) (fieldCount f) o n f
@@ -211,20 +211,31 @@ module _ (s : List ℕ) (small : Bytes s) where
       let before : length (writeShape o) + 7 + length (listOf n) + 1 ≡ length (beforeFields o n f) = simp length-append (omega arith) in
       record { is = e; place = refl; counted = refl; within = def-within o n f (h .within); stands = rw before at (g .stands) }
 
-module _ (s : List ℕ) (small : Bytes s) (start count : ℕ) (held : mapped heldBy (lone s) ≡ accepted (BoxDef start count)) where
-  fields : {C : Type 0} → ((o : Shape) (n : Option (List ℕ)) (f : Fields) → Def s start count o n f → C) → C
-  unfolding heldBy
-  fields {C} c = go (lone s) refl held
-    where
-      def : (o : Shape) (n : Option (List ℕ)) (f : Fields) → lone s ≡ accepted (ty o (boxDef n f)) → length (beforeFields o n f) ≡ start → fieldCount f ≡ count → Def s start count o n f
-      def o n f e place counted = rw (← place, ← counted) (open-def s small o n f e)
+-- ---- which type it is, by what its scalar holds
 
-      go : (r : Outcome Ty) → lone s ≡ r → mapped heldBy r ≡ accepted (BoxDef start count) → C
-      go (accepted (ty o (plain k))) e h = let z : _≡_ {A = ℕ} 0 1 = cc in absurd (omega arith)
-      go (accepted (ty o boxAny)) e h = let z : _≡_ {A = ℕ} 0 1 = cc in absurd (omega arith)
-      go (accepted (ty o (boxAll t k))) e h = let z : _≡_ {A = ℕ} 0 1 = cc in absurd (omega arith)
-      go (accepted (ty o (boxDef n f))) e h = c o n f (def o n f e (cc) (cc))
-      go (refused k p) e h = let z : _≡_ {A = ℕ} 0 1 = cc in absurd (omega arith)
+pub data View (s : List ℕ) : Held → Type 0 where
+  view-plain : (o : Shape) (k : Kind) → lone s ≡ accepted (ty o (plain k)) → View s Plain
+  view-any : (o : Shape) → lone s ≡ accepted (ty o boxAny) → View s BoxAny
+  view-all : {start : ℕ} (o t : Shape) (k : Scalar) → lone s ≡ accepted (ty o (boxAll t k)) → length (writeShape o) + 6 ≡ start → View s (BoxAll start)
+  view-def : {start count : ℕ} (o : Shape) (n : Option (List ℕ)) (f : Fields) → lone s ≡ accepted (ty o (boxDef n f)) → length (beforeFields o n f) ≡ start → fieldCount f ≡ count → View s (BoxDef start count)
+
+pub view : (s : List ℕ) {h : Held} → mapped heldBy (lone s) ≡ accepted h → View s h
+unfolding heldBy
+view s {h} held = go (lone s) refl held
+  where
+    go : (r : Outcome Ty) → lone s ≡ r → mapped heldBy r ≡ accepted h → View s h
+    go (accepted (ty o (plain k))) e same = let x : Plain ≡ h = cc in rw (← x) (view-plain o k e)
+    go (accepted (ty o boxAny)) e same = let x : BoxAny ≡ h = cc in rw (← x) (view-any o e)
+    go (accepted (ty o (boxAll t k))) e same = let x : BoxAll (length (writeShape o) + 6) ≡ h = cc in rw (← x) (view-all o t k e refl)
+    go (accepted (ty o (boxDef n f))) e same = let x : BoxDef (length (beforeFields o n f)) (fieldCount f) ≡ h = cc in rw (← x) (view-def o n f e refl refl)
+    go (refused k p) e same = let z : _≡_ {A = ℕ} 0 1 = cc in absurd (omega arith)
+
+module _ (s : List ℕ) (small : Bytes s) (start count : ℕ) (held : mapped heldBy (lone s) ≡ accepted (BoxDef start count)) where
+  pub fields : {C : Type 0} → ((o : Shape) (n : Option (List ℕ)) (f : Fields) → Def s start count o n f → C) → C
+  fields {C} c = go (view s held)
+    where
+      go : View s (BoxDef start count) → C
+      go (view-def o n f e place counted) = c o n f (rw (← place, ← counted) (open-def s small o n f e))
 
   pub find-none : (n : ℕ) → count ≤ n → mapped (fieldPlace n) (lone s) ≡ accepted none
   unfolding fieldPlace
@@ -246,12 +257,11 @@ NoDef (BoxDef start count) = ⊥
 
 -- what is no Def has no fields
 pub field-none : (s : List ℕ) (n : ℕ) (h : Held) → mapped heldBy (lone s) ≡ accepted h → NoDef h → mapped (fieldPlace n) (lone s) ≡ accepted none
-unfolding heldBy fieldPlace
-field-none s n h held fieldless = go (lone s) held
+unfolding fieldPlace
+field-none s n h held = go h (view s held)
   where
-    go : (r : Outcome Ty) → mapped heldBy r ≡ accepted h → mapped (fieldPlace n) r ≡ accepted none
-    go (accepted (ty o (plain k))) e = refl
-    go (accepted (ty o boxAny)) e = refl
-    go (accepted (ty o (boxAll t k))) e = refl
-    go (accepted (ty o (boxDef m f))) e = let same : h ≡ BoxDef (length (beforeFields o m f)) (fieldCount f) = cc in absurd (rw same at fieldless)
-    go (refused k p) e = let z : _≡_ {A = ℕ} 0 1 = cc in absurd (omega arith)
+    go : (h : Held) → View s h → NoDef h → mapped (fieldPlace n) (lone s) ≡ accepted none
+    go Plain (view-plain o k e) d = rw e
+    go BoxAny (view-any o e) d = rw e
+    go (BoxAll start) (view-all o t k e place) d = rw e
+    go (BoxDef start count) v d = absurd d

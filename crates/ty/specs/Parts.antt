@@ -6,11 +6,11 @@ use lib.ListN.{length}
 use Rattle.model.specs.Types.{plain, boxAny, boxAll, boxDef, Ty, ty, fieldCount}
 use Rattle.format.specs.Reader.{Read, got, stopped}
 use Rattle.format.specs.Records.{writeShape, readType}
-use Rattle.rules.specs.Types.{Stretch, stretch, beforeFields}
-use Rattle.ty.specs.declared.Held.{Held}
-use Rattle.ty.specs.declared.Held.the-variants.{Plain, BoxAny, BoxAll, BoxDef}
-use Rattle.ty.specs.declared.Part.{Part}
-use Rattle.ty.specs.declared.Part.the-variants.{At, Nothing}
+use Rattle.rules.specs.Types.{anyTy, firstField, Stretch, stretch, beforeFields}
+use Rattle.ty.specs.declared.parts.Held.{Held}
+use Rattle.ty.specs.declared.parts.Held.the-variants.{Plain, BoxAny, BoxAll, BoxDef}
+use Rattle.ty.specs.declared.parts.Part.{Part}
+use Rattle.ty.specs.declared.parts.Part.the-variants.{At, Nothing}
 
 -- What a type's scalar is, and where what it holds begins: after a box's six bytes, a Def's fields after its name and their count.
 unfoldable pub heldBy : Ty → Held
@@ -35,3 +35,10 @@ afterTypes s (suc n) at = afterTypes s n (afterType s at)
 abbrev pub partOf : Part → Option Stretch
 partOf (At start length) = some (stretch start length)
 partOf Nothing = none
+
+-- What stands in a box: what an All holds, a Def's first field, [..] of Any where nothing is inside. What is no box stays.
+unfoldable pub contentOf : Ty → Ty
+contentOf (ty s (plain k)) = ty s (plain k)
+contentOf (ty s boxAny) = anyTy
+contentOf (ty s (boxAll t k)) = ty t k
+contentOf (ty s (boxDef n f)) = firstField f

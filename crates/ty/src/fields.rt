@@ -1,7 +1,7 @@
 // Field n of a Def.
 use crate::Found;
-use crate::Held;
-use crate::Part;
+use crate::parts::Held;
+use crate::parts::Part;
 use crate::parts::find_field;
 use crate::parts::look_inside;
 use record::Lone;

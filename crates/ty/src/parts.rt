@@ -1,6 +1,4 @@
 // Where the parts of a lone type stand: what its scalar holds, and the fields of a Def.
-use crate::Held;
-use crate::Part;
 use limits::ABSENT;
 use limits::BOX;
 use limits::BOX_ALL;
@@ -16,6 +14,20 @@ ghost use Rattle.format.specs.Outcome.{accepted, mapped, lone};
 ghost use Rattle.record.specs.Answers.{nothing};
 ghost use Rattle.rules.specs.Types.{fieldPlace};
 ghost use Rattle.ty.specs.Parts.{heldBy, afterType, afterTypes, partOf};
+
+// What a type's scalar is, and where what it holds begins: the content of an All box, the fields of a Def and their count.
+pub enum Held {
+    Plain,
+    BoxAny,
+    BoxAll { start: usize },
+    BoxDef { start: usize, count: u64 },
+}
+
+// A stretch of a type's bytes, or none.
+pub enum Part {
+    At { start: usize, length: usize },
+    Nothing,
+}
 
 // What the scalar holds.
 pub fn look_inside(s: &[u8]) -> Held

@@ -11,12 +11,14 @@ use text::Placed;
 use text::put_bytes;
 use text::put_decimal;
 use text::put_hex;
+use ty::Boxes;
 ghost use mathlib.Core.Path.{_≡_};
 ghost use Prim.Native.Nat.{min};
 
-// What a line comes to. Bytes are the first of the result; a size is all ones for unknown.
+// What a line comes to. Bytes, and those of a stretch, are the first of the result; a size is all ones for unknown.
 pub enum Answer {
     Bytes(usize),
+    Stretch { start: usize, length: usize },
     Number(u64),
     Size(u64),
     Less,
@@ -39,6 +41,14 @@ pub fn delivered(written: Written) -> Answer {
     match written {
         Written::Wrote(n) => Answer::Bytes(n),
         Written::Refused { number, place } => Answer::Refused { number, place },
+    }
+}
+
+pub fn listed(answer: Boxes) -> Answer {
+    match answer {
+        Boxes::Wrote(n) => Answer::Bytes(n),
+        Boxes::Nothing => Answer::Nothing,
+        Boxes::Refused { number, place } => Answer::Refused { number, place },
     }
 }
 
@@ -85,6 +95,7 @@ pub fn say(answer: Answer, result: &[u8], out: &mut [u8], end: usize) -> usize {
     let at = room_for(64, &*out, end);
     match answer {
         Answer::Bytes(n) => say_bytes(part(result, 0, n), out, at),
+        Answer::Stretch { start, length } => say_stretch(start, part(result, 0, length), out, at),
         Answer::Number(n) => say_number(n, out, at),
         Answer::Size(n) => say_size(n, out, at),
         Answer::Less => put(b"ok -1\n", out, at),
@@ -100,7 +111,22 @@ pub fn flush(out: &[u8], end: usize) {
 }
 
 fn say_bytes(bytes: &[u8], out: &mut [u8], at: usize) -> usize {
-    let mut end = put(b"ok ", &mut *out, at);
+    let start = put(b"ok ", &mut *out, at);
+    say_hex(bytes, out, start)
+}
+
+fn say_stretch(start: usize, bytes: &[u8], out: &mut [u8], at: usize) -> usize {
+    let first = put(b"ok ", &mut *out, at);
+    let space = after(put_decimal(start as u64, &mut *out, first));
+    let second = put(b" ", &mut *out, space);
+    let third = after(put_decimal(bytes.len() as u64, &mut *out, second));
+    let end = put(b" ", &mut *out, third);
+    say_hex(bytes, out, end)
+}
+
+// Bytes in hexadecimal, and the line's end.
+fn say_hex(bytes: &[u8], out: &mut [u8], start: usize) -> usize {
+    let mut end = start;
     let mut from = 0usize;
     while from < bytes.len() {
         let to = least(bytes.len(), from + 4096);

@@ -3,6 +3,7 @@
 mod answers;
 mod arguments;
 mod lines;
+mod numbered;
 mod one_type;
 mod pervading;
 mod records;

@@ -3,6 +3,7 @@ use crate::answers::Answer;
 use crate::answers::Fault;
 use crate::answers::counted;
 use crate::answers::delivered;
+use crate::answers::listed;
 use crate::answers::sized;
 use crate::answers::tested;
 use crate::arguments::hex;
@@ -20,10 +21,18 @@ use shape_calls::shape_is_any;
 use shape_calls::shape_is_scalar;
 use shape_calls::shape_rank;
 use text::Decoded;
+use ty::as_boxes;
+use ty::into_first_row;
+use ty::into_last_row;
+use ty::into_row;
+use ty::unboxed;
 
 // In the order of `call`'s arms.
 pub fn number(name: &[u8]) -> Found {
-    find(b"read row_shape shape_is_any shape_is_scalar row_count rank", name)
+    find(
+        b"read row_shape shape_is_any shape_is_scalar row_count rank row first_row last_row unboxed as_boxes",
+        name,
+    )
 }
 
 pub fn answered(k: usize, line: &[u8], input: &mut [u8], result: &mut [u8]) -> Answer {
@@ -45,6 +54,11 @@ fn call(k: usize, a: &[u8], result: &mut [u8]) -> Answer {
         3 => tested(shape_is_scalar(a)),
         4 => sized(count_rows(a)),
         5 => counted(shape_rank(a)),
+        6 => delivered(into_row(a, result)),
+        7 => delivered(into_first_row(a, result)),
+        8 => delivered(into_last_row(a, result)),
+        9 => delivered(unboxed(a, result)),
+        10 => listed(as_boxes(a, result)),
         _ => Answer::Bad(Fault::Request),
     }
 }

@@ -2,6 +2,7 @@
 use crate::answers::Answer;
 use crate::answers::Fault;
 use crate::one_type;
+use crate::numbered;
 use crate::pervading;
 use crate::records;
 use crate::sizes;
@@ -24,6 +25,9 @@ pub fn answered(line: &[u8], input: &mut [u8], result: &mut [u8]) -> Answer {
     }
     if let Found::At(_) = pervading::number(name) {
         return pervading::answered(line, input, result);
+    }
+    if let Found::At(k) = numbered::number(name) {
+        return numbered::answered(k, line, input, result);
     }
     if let Found::At(k) = sizes::number(name) {
         return sizes::answered(k, line);

@@ -2,10 +2,10 @@ use Prim.Native.Nat.{_≤_, _-_}
 use mathlib.Core.Path.{_≡_}
 use lib.ListN.{length}
 use borrow.Author.Needs.{needs}
-use Rattle.calls.proofs.answers.say_bytes.Statement.{statement}
-use Rattle.calls.proofs.answers.say_bytes.Tie as tie
-use Rattle.calls.proofs.answers.say_bytes.Reads as reads
-use Rattle.calls.proofs.answers.say_bytes.Lts as lts
+use Rattle.calls.proofs.answers.say_hex.Statement.{statement}
+use Rattle.calls.proofs.answers.say_hex.Tie as tie
+use Rattle.calls.proofs.answers.say_hex.Reads as reads
+use Rattle.calls.proofs.answers.say_hex.Lts as lts
 use Rattle.calls.proofs.answers.after.Reads as after-reads
 use Rattle.calls.proofs.answers.least.Reads as least-reads
 use Rattle.calls.proofs.answers.put.Reads as put-reads
@@ -14,16 +14,10 @@ use Rattle.calls.proofs.words.part.Reads as part-reads
 use Rattle.text.proofs.put_hex.Reads as put-hex-reads
 
 abbrev Inv-loop : tie.InvT-loop
-Inv-loop bytes out₀ at end₀ from₀ t10 out end from = (from ≤ length bytes) × (length out ≡ length out₀)
+Inv-loop bytes out₀ start end₀ from₀ t9 out end from = (from ≤ length bytes) × (length out ≡ length out₀)
 
 abbrev μ-loop : tie.MeasureT-loop
-μ-loop bytes out₀ at end₀ from₀ t10 out end from = length bytes - from
-
-slice-aggregate-put : tie.Need-slice-aggregate-put Inv-loop μ-loop
-slice-aggregate-put c = search needs
-
-put-requires : tie.Need-put-requires Inv-loop μ-loop
-put-requires c κs = search needs
+μ-loop bytes out₀ start end₀ from₀ t9 out end from = length bytes - from
 
 loop-holds : tie.Need-loop-holds Inv-loop μ-loop
 loop-holds c = search needs
@@ -55,11 +49,11 @@ loop-again c = search needs
 room-for-requires-2 : tie.Need-room-for-requires-2 Inv-loop μ-loop
 room-for-requires-2 c κs = search needs
 
-slice-aggregate-put-2 : tie.Need-slice-aggregate-put-2 Inv-loop μ-loop
-slice-aggregate-put-2 c = search needs
+slice-aggregate-put : tie.Need-slice-aggregate-put Inv-loop μ-loop
+slice-aggregate-put c = search needs
 
-put-requires-2 : tie.Need-put-requires-2 Inv-loop μ-loop
-put-requires-2 c κs = search needs
+put-requires : tie.Need-put-requires Inv-loop μ-loop
+put-requires c κs = search needs
 
 same-length : tie.Need-same-length Inv-loop μ-loop
 same-length c = search needs
@@ -67,14 +61,12 @@ same-length c = search needs
 returns : tie.Need-returns Inv-loop μ-loop
 returns c = search needs
 
-pub say-bytes-spec : {M : Type 1} → statement M
-say-bytes-spec =
+pub say-hex-spec : {M : Type 1} → statement M
+say-hex-spec =
     tie.close
     (tie.spec
     Inv-loop
     μ-loop
-    slice-aggregate-put
-    put-requires
     loop-holds
     add-least
     least-requires
@@ -85,7 +77,7 @@ say-bytes-spec =
     loop-less
     loop-again
     room-for-requires-2
-    slice-aggregate-put-2
-    put-requires-2
+    slice-aggregate-put
+    put-requires
     same-length
     returns)

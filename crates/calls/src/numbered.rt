@@ -1,0 +1,63 @@
+// NAME N HEX: requests with a number on one type.
+use crate::answers::Answer;
+use crate::answers::Fault;
+use crate::answers::delivered;
+use crate::arguments::hex;
+use crate::words::Found;
+use crate::words::count;
+use crate::words::find;
+use crate::words::nth;
+use crate::words::part;
+use lent::hand_over;
+use text::Decoded;
+use text::Number;
+use text::parse_decimal;
+use ty::into_nth_row;
+
+// In the order of `call`'s arms.
+pub fn number(name: &[u8]) -> Found {
+    find(b"nth_row field", name)
+}
+
+pub fn answered(k: usize, line: &[u8], input: &mut [u8], result: &mut [u8]) -> Answer {
+    if count(line) != 3 {
+        return Answer::Bad(Fault::Words);
+    }
+    let parsed = parse_decimal(nth(line, 1));
+    let Number::Value(n) = parsed else {
+        return Answer::Bad(Fault::Number);
+    };
+    let decoded = hex(nth(line, 2), &mut *input, 0);
+    let Decoded::To(end) = decoded else {
+        return Answer::Bad(Fault::Hex);
+    };
+    call(k, n, part(&*input, 0, end), result)
+}
+
+fn call(k: usize, n: u64, a: &[u8], result: &mut [u8]) -> Answer {
+    match k {
+        0 => delivered(into_nth_row(a, n, result)),
+        1 => field(n, a, result),
+        _ => Answer::Bad(Fault::Request),
+    }
+}
+
+// A field is answered by its place and its bytes.
+fn field(n: u64, a: &[u8], result: &mut [u8]) -> Answer {
+    match ty::field(a, n) {
+        ty::Found::At { start, length } => {
+            hand_over(part(a, start, after(start, length)), result);
+            Answer::Stretch { start, length }
+        }
+        ty::Found::Nothing => Answer::Nothing,
+        ty::Found::Refused { number, place } => Answer::Refused { number, place },
+    }
+}
+
+// The place after a stretch, which no bytes reach where the sum does not fit.
+fn after(start: usize, length: usize) -> usize {
+    if length <= usize::MAX - start {
+        return start + length;
+    }
+    start
+}

@@ -1,21 +1,18 @@
-// Shapes of types handed in as bytes.
+// Shapes of types handed in as bytes: the calls of shape.rs.
 use crate::Counted;
 use crate::Tested;
 use crate::numbers::tell;
 use lent::Written;
-use limits::refusal::UNPERVADED;
 use record::Lone;
 use record::lone_shape;
 use record::read_both;
 use record::read_lone;
-use shape::Verdict;
 use shape::compatible_with;
 use shape::into_row;
 use shape::is_any;
 use shape::is_scalar;
 use shape::join;
 use shape::merge_from;
-use shape::pervade_dyn_shapes;
 use shape::rank;
 use shape::row_count;
 use writer::write_shape;
@@ -23,7 +20,7 @@ ghost use mathlib.Core.Path.{_≡_};
 ghost use Rattle.format.specs.Outcome.{deliver};
 ghost use Rattle.lent.specs.Written.{delivered};
 ghost use Rattle.shape_calls.specs.Answers.{testedOf, sizeOf, numberOf};
-ghost use Rattle.shape_calls.specs.Calls.{mergeCall, joinCall, rowCall, pervadeCall, compatibleShapesCall, isAnyCall, isScalarCall, rowCountCall, rankCall};
+ghost use Rattle.shape_calls.specs.Calls.{mergeCall, joinCall, rowCall, compatibleShapesCall, isAnyCall, isScalarCall, rowCountCall, rankCall};
 
 // The first merges from the second.
 pub fn merge(a: &[u8], b: &[u8], result: &mut [u8]) -> Written
@@ -54,25 +51,6 @@ pub fn row_shape(a: &[u8], result: &mut [u8]) -> Written
         return Written::Refused { number, place };
     }
     write_shape(into_row(lone_shape(a)), &mut *result)
-}
-
-pub fn pervade(a: &[u8], b: &[u8], fill_a: bool, fill_b: bool, result: &mut [u8]) -> Written
-    ensures { λ r. ⌜ delivered r (now (result .exit)) ≡ deliver (pervadeCall «fill_a» «fill_b» (now (a .entry)) (now (b .entry))) (now (result .entry)) ⌝ }
-{
-    let answer = read_both(a, b);
-    if let Lone::Refused { number, place } = answer {
-        return Written::Refused { number, place };
-    }
-    let pervaded = pervade_dyn_shapes(lone_shape(a), lone_shape(b), fill_a, fill_b);
-    let verdict = pervaded.answer;
-    if let Verdict::Clash(_) = verdict {
-        return Written::Refused {
-            number: UNPERVADED,
-            place: 0,
-        };
-    }
-    let shape = pervaded.shape;
-    write_shape(shape, &mut *result)
 }
 
 pub fn compatible_shapes(a: &[u8], b: &[u8]) -> Tested

@@ -2,12 +2,12 @@
 // which nothing else is looked at. Of two inputs the first is read whole before the other.
 mod bytes;
 mod numbers;
+mod pervading;
 
 pub use bytes::compatible_shapes;
 pub use bytes::count_rows;
 pub use bytes::join_shapes;
 pub use bytes::merge;
-pub use bytes::pervade;
 pub use bytes::row_shape;
 pub use bytes::shape_is_any;
 pub use bytes::shape_is_scalar;
@@ -18,6 +18,7 @@ pub use numbers::dim_compatible;
 pub use numbers::dim_join;
 pub use numbers::dim_max;
 pub use numbers::dim_row_compatible;
+pub use pervading::pervade;
 use shape::Order;
 
 // A test, or the refusal of what was to be tested.

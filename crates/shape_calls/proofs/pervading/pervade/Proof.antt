@@ -7,8 +7,8 @@ use Rattle.format.specs.Outcome.{lone, deliver}
 use Rattle.shape_calls.specs.Calls.{pervaded}
 use Rattle.shape_calls.proofs.CallLaws.{both-passed, shapes-told, shapes-are}
 use borrow.Author.Needs.{needs}
-use Rattle.shape_calls.proofs.bytes.pervade.Statement.{statement}
-use Rattle.shape_calls.proofs.bytes.pervade.Tie as tie
+use Rattle.shape_calls.proofs.pervading.pervade.Statement.{statement}
+use Rattle.shape_calls.proofs.pervading.pervade.Tie as tie
 
 read-both-requires : tie.Need-read-both-requires
 read-both-requires c κs = search needs

@@ -1,0 +1,33 @@
+// The pervading of two shapes, of types handed in as bytes.
+use lent::Written;
+use limits::refusal::UNPERVADED;
+use record::Lone;
+use record::lone_shape;
+use record::read_both;
+use shape::Verdict;
+use shape::pervade_dyn_shapes;
+use writer::write_shape;
+ghost use mathlib.Core.Path.{_≡_};
+ghost use Rattle.format.specs.Outcome.{deliver};
+ghost use Rattle.lent.specs.Written.{delivered};
+ghost use Rattle.shape_calls.specs.Calls.{pervadeCall};
+
+// A fill is of the shape that stands in its place. A mismatch is refused at place 0.
+pub fn pervade(a: &[u8], b: &[u8], fill_a: bool, fill_b: bool, result: &mut [u8]) -> Written
+    ensures { λ r. ⌜ delivered r (now (result .exit)) ≡ deliver (pervadeCall «fill_a» «fill_b» (now (a .entry)) (now (b .entry))) (now (result .entry)) ⌝ }
+{
+    let answer = read_both(a, b);
+    if let Lone::Refused { number, place } = answer {
+        return Written::Refused { number, place };
+    }
+    let pervaded = pervade_dyn_shapes(lone_shape(a), lone_shape(b), fill_a, fill_b);
+    let verdict = pervaded.answer;
+    if let Verdict::Clash(_) = verdict {
+        return Written::Refused {
+            number: UNPERVADED,
+            place: 0,
+        };
+    }
+    let shape = pervaded.shape;
+    write_shape(shape, &mut *result)
+}

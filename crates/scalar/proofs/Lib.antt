@@ -1,3 +1,5 @@
 mod KindLaws
 mod PlaceLaws
+mod OrderLaws
+mod CompareLaws
 mod CallLaws

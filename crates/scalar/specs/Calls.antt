@@ -4,6 +4,9 @@ use mathlib.Core.Bool.{Bool, true, false}
 use mathlib.Core.List.{List}
 use Rattle.model.specs.Types.{Scalar, Ty, scalarOf}
 use Rattle.format.specs.Outcome.{Outcome, accepted, refused, both, lone}
+use Rattle.rules.specs.Sizes.{Order, less, same, more}
+use Rattle.scalar.specs.declared.Compared.{Compared}
+use Rattle.scalar.specs.declared.Compared.the-variants.{Less, Same, More}
 use Rattle.scalar.specs.declared.Tested.{Tested}
 use Rattle.scalar.specs.declared.Tested.the-variants.{Yes, No, Refused}
 
@@ -18,3 +21,9 @@ abbrev pub testedOf : Tested → Outcome Bool
 testedOf Yes = accepted true
 testedOf No = accepted false
 testedOf (Refused k p) = refused k p
+
+-- an order, with the place after the first
+abbrev pub answer : Order → ℕ → Compared
+answer less n = Less
+answer same n = Same n
+answer more n = More

@@ -1,9 +1,12 @@
 // Scalars (scalar.rs) and the order of types: rules on kinds by their codes, and on records in lent bytes, whose box contents
 // are walked with a falling depth; and the public calls on whole types.
+mod compare;
 mod kinds;
+mod order;
 mod places;
 mod tests;
 
+pub use compare::compare_types;
 pub use kinds::compatible_codes;
 pub use kinds::superset_codes;
 pub use places::form_at;
@@ -17,4 +20,11 @@ pub enum Tested {
     Yes,
     No,
     Refused { number: u8, place: usize },
+}
+
+// How two records compare; where they are the same, the place after the first.
+pub enum Compared {
+    Less,
+    Same(usize),
+    More,
 }

@@ -1,12 +1,16 @@
 // What stands at the places within a record.
+use limits::ABSENT;
 use record::DynShape;
 use record::read_shape;
 ghost use mathlib.Core.Path.{_≡_};
+ghost use mathlib.Core.List.{List};
+ghost use mathlib.Core.Option.{Option};
 ghost use Prim.Native.Nat.{ℕ, _+_, _≤_, _<_};
 ghost use lib.ListN.{length, getD};
 ghost use Rattle.model.specs.Types.{Ty, shapeOf};
+ghost use Rattle.format.specs.Records.{listOf};
 ghost use Rattle.record.specs.Answers.{shapeFor};
-ghost use Rattle.scalar.specs.At.{TypeAt};
+ghost use Rattle.scalar.specs.At.{TypeAt, NameAt, HasName};
 
 // The code of the kind of a scalar's record.
 pub fn kind_at(s: &[u8], at: usize) -> u64
@@ -28,6 +32,26 @@ fn wide(x: u8) -> u64
     ensures { λ r. ⌜ (r ≡ x) × (r < 256) ⌝ }
 {
     x as u64
+}
+
+// A count that stands in one byte.
+pub fn count_at(s: &[u8], at: usize) -> u64
+    requires { ⌜ at < length (now s) ⌝ }
+    ensures { λ r. ⌜ (r ≡ getD (now (s .entry)) at 0) × (r < 256) ⌝ }
+{
+    wide(s[at])
+}
+
+// The place after a name, which stands behind its length.
+pub fn name_end(s: &[u8], at: usize) -> usize
+    requires { ⌜ HasName (now s) at ⌝ }
+    ensures { λ r. ⌜ ((n : Option (List ℕ)) → NameAt (now (s .entry)) at n → r ≡ at + 1 + length (listOf n)) ⌝ }
+{
+    let n = count_at(s, at);
+    if n == ABSENT {
+        return at + 1;
+    }
+    at + 1 + n as usize
 }
 
 // The shape of a type.

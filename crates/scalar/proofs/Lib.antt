@@ -1,5 +1,3 @@
 mod KindLaws
-mod PlaceLaws
-mod OrderLaws
-mod CompareLaws
 mod CallLaws
+mod BoxLaws

@@ -1,19 +1,17 @@
-// Scalars (scalar.rs) and the order of types: rules on kinds by their codes, and on records in lent bytes, whose box contents
-// are walked with a falling depth; and the public calls on whole types.
-mod compare;
+// Scalars (scalar.rs): rules on kinds by their codes, and on records in lent bytes, whose box contents are walked with a falling
+// depth; and the public calls on whole types.
+mod boxes;
 mod kinds;
-mod order;
-mod places;
 mod tests;
+mod union;
 
-pub use compare::compare_types;
+pub use boxes::compatible_boxes;
 pub use kinds::compatible_codes;
 pub use kinds::superset_codes;
-pub use places::form_at;
-pub use places::kind_at;
-pub use places::shape_at;
 pub use tests::compatible_scalars;
+pub use tests::compatible_with_boxes;
 pub use tests::superset;
+pub use union::unite;
 
 // What a test answers.
 pub enum Tested {
@@ -22,9 +20,10 @@ pub enum Tested {
     Refused { number: u8, place: usize },
 }
 
-// How two records compare; where they are the same, the place after the first.
-pub enum Compared {
-    Less,
-    Same(usize),
-    More,
+// Which scalar a union is.
+pub enum United {
+    First,
+    Second,
+    BoxAny,
+    Any,
 }

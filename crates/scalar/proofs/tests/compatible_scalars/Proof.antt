@@ -4,7 +4,8 @@ use Rattle.model.specs.Types.{scalarOf}
 use Rattle.format.specs.Outcome.{accepted, lone}
 use Rattle.rules.specs.Scalars.{compatibleScalars}
 use Rattle.record.specs.Answers.{loneOf}
-use Rattle.scalar.proofs.CallLaws.{both-refused, first-good, second-good, kind-there, compatible-is}
+use Rattle.walk.specs.WholeLaws.{both-refused, first-good, second-good, kind-there}
+use Rattle.scalar.proofs.CallLaws.{compatible-is}
 use borrow.Author.Needs.{needs}
 use Rattle.scalar.proofs.tests.compatible_scalars.Statement.{statement}
 use Rattle.scalar.proofs.tests.compatible_scalars.Tie as tie
@@ -13,8 +14,8 @@ use Rattle.scalar.proofs.tests.compatible_scalars.Lts as lts
 use Rattle.record.proofs.lone_scalar.Reads as lone-scalar-reads
 use Rattle.record.proofs.read_both.Reads as read-both-reads
 use Rattle.scalar.proofs.kinds.compatible_codes.Reads as compatible-codes-reads
-use Rattle.scalar.proofs.places.kind_at.Reads as kind-at-reads
 use Rattle.scalar.proofs.tests.tell.Reads as tell-reads
+use Rattle.walk.proofs.kind_at.Reads as kind-at-reads
 
 read-both-requires : tie.Need-read-both-requires
 read-both-requires c κs = search needs

@@ -1,0 +1,58 @@
+// `union` of two scalars in their bytes. It is one of the two as it stands, or a box Any, or Any.
+use crate::United;
+use crate::boxes::compatible_contents;
+use crate::kinds::superset_codes;
+use order::Compared;
+use order::compare_types;
+use walk::is_all;
+use walk::kind_at;
+ghost use mathlib.Core.Path.{_≡_};
+ghost use mathlib.Core.Bool.{_&&_, cond};
+ghost use Prim.Native.Nat.{ℕ};
+ghost use Rattle.model.specs.Types.{Scalar, Ty, boxAny, boxOf, shapeOf, scalarOf};
+ghost use Rattle.rules.specs.Order.{codeOf};
+ghost use Rattle.rules.specs.Shapes.{compatibleShapes};
+ghost use Rattle.rules.specs.Scalars.{compatibleWithBoxes, wider, laterTy, union};
+ghost use Rattle.walk.specs.At.{ScalarAt, TypeAt, HasScalar, HasType};
+ghost use Rattle.scalar.specs.Calls.{unitedOf};
+
+pub fn unite(a: &[u8], i: usize, b: &[u8], j: usize, depth: u64) -> United
+    requires { ⌜ HasScalar (now a) i depth × HasScalar (now b) j depth ⌝ }
+    ensures { λ r. ⌜ ((k l : Scalar) → ScalarAt (now (a .entry)) i depth k → ScalarAt (now (b .entry)) j depth l → unitedOf r k l ≡ union k l) ⌝ }
+{
+    if is_all(a, i) {
+        if is_all(b, j) {
+            return unite_contents(a, i + 6, b, j + 6, depth);
+        }
+    }
+    widen(kind_at(a, i), kind_at(b, j))
+}
+
+// Two All boxes by their contents: the later one, if they are compatible.
+fn unite_contents(a: &[u8], i: usize, b: &[u8], j: usize, depth: u64) -> United
+    requires { ⌜ HasType (now a) i depth × HasType (now b) j depth ⌝ }
+    ensures { λ r. ⌜ ((t u : Ty) → TypeAt (now (a .entry)) i depth t → TypeAt (now (b .entry)) j depth u → unitedOf r (boxOf t) (boxOf u) ≡ cond (compatibleWithBoxes (scalarOf t) (scalarOf u) && compatibleShapes (shapeOf t) (shapeOf u)) (boxOf (laterTy t u)) boxAny) ⌝ }
+{
+    if compatible_contents(a, i, b, j, depth) {
+        match compare_types(a, i, b, j, depth) {
+            Compared::Less => United::Second,
+            Compared::Same(_) => United::Second,
+            Compared::More => United::First,
+        }
+    } else {
+        United::BoxAny
+    }
+}
+
+// The first kind that is over the other, the first of them first, else Any.
+fn widen(x: u64, y: u64) -> United
+    ensures { λ r. ⌜ ((k l : Scalar) → x ≡ codeOf k → y ≡ codeOf l → unitedOf r k l ≡ wider k l) ⌝ }
+{
+    if superset_codes(x, y) {
+        return United::First;
+    }
+    if superset_codes(y, x) {
+        return United::Second;
+    }
+    United::Any
+}

@@ -1,0 +1,16 @@
+use Rattle.walk.specs.AtLaws.{shape-is}
+use borrow.Author.Needs.{needs}
+use Rattle.walk.proofs.shape_at.Statement.{statement}
+use Rattle.walk.proofs.shape_at.Tie as tie
+use Rattle.walk.proofs.shape_at.Reads as reads
+use Rattle.walk.proofs.shape_at.Lts as lts
+use Rattle.record.proofs.read_shape.Reads as read-shape-reads
+
+read-shape-requires : tie.Need-read-shape-requires
+read-shape-requires c κs = search needs
+
+returns : tie.Need-returns
+returns c = shape-is _ _ (c .before .read-shape .result .answer) (c .before .read-shape .result .shape) (c .before .read-shape .ensures)
+
+pub shape-at-spec : {M : Type 1} → statement M
+shape-at-spec = tie.close (tie.spec read-shape-requires returns)

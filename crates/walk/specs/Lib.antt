@@ -1,0 +1,4 @@
+pub mod At
+pub mod AtLaws
+pub mod Whole
+pub mod WholeLaws

@@ -1,0 +1,5 @@
+mod WriteLaws
+mod NumberLaws
+mod HandedLaws
+mod PartLaws
+mod KindLaws

@@ -1,0 +1,39 @@
+// Values handed in (val.rs): a number, a list of numbers or a type. The list and the type's bytes are lent beside the value,
+// and what is lent for another case is not looked at.
+mod parts;
+mod sizes;
+mod write;
+
+pub use parts::nums_scalar;
+pub use parts::scalar;
+pub use parts::spec;
+pub use parts::ty;
+use record::Dims;
+pub use sizes::as_dim;
+pub use sizes::as_dims;
+
+// A number; the list lent beside it; the type whose bytes are lent beside it.
+pub enum Value {
+    Num(f64),
+    List,
+    Of,
+}
+
+// A size, all ones for an unknown one; nothing for what is no number; or a refusal.
+pub enum MaybeDim {
+    Size(u64),
+    Nothing,
+    Refused { number: u8, place: usize },
+}
+
+// Sizes, which stand beside it; nothing for what is no list; or a refusal.
+pub enum MaybeDims {
+    Sizes,
+    Nothing,
+    Refused { number: u8, place: usize },
+}
+
+pub struct DimsAnswer {
+    pub answer: MaybeDims,
+    pub dims: Dims,
+}

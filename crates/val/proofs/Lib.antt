@@ -3,3 +3,4 @@ mod NumberLaws
 mod HandedLaws
 mod PartLaws
 mod KindLaws
+mod RowLaws

@@ -22,7 +22,7 @@ use Rattle.val.specs.declared.Value as declared
 use Rattle.val.specs.declared.Value.the-variants.{Num, Of}
 use Rattle.val.specs.Answers.{valueOf, closedRecord}
 use Rattle.val.specs.Values.{Value, number, numbers, typed, numbersTy, valueTy, anySized, anyOfSize, valueSpec}
-use Rattle.val.proofs.WriteLaws.{write-closed}
+use Rattle.val.proofs.WriteLaws.{write-closed, write-num}
 use Rattle.val.proofs.NumberLaws.{alone-sized, alone-refused, listed-counted, listed-refused, length-sized, length-oversized}
 use Rattle.val.proofs.HandedLaws.{for-number, for-type}
 
@@ -38,9 +38,7 @@ written-any ds = refl
 
 pub ty-number : (list : List Float) (bytes : List ℕ) (d : Dims) {v : declared.Value} {x : Float} → v ≡ Num x → d .count ≡ 0 → mapped writeTy (bound valueTy (valueOf v list bytes)) ≡ accepted (closedRecord (dimsOf d) 3)
 unfolding valueTy
-ty-number list bytes d e h =
-    ap (mapped writeTy) (for-number valueTy list bytes e)
-    ∙ ap accepted (write-closed [] num ∙ written-num [] ∙ ap (λ n. closedRecord (map dimOf (take n (d .sizes))) 3) (sym h))
+ty-number list bytes d e h = ap (mapped writeTy) (for-number valueTy list bytes e) ∙ ap accepted (write-num d h)
 
 pub type-itself : (f : Value → Outcome Ty) (list : List Float) (bytes : List ℕ) {v : declared.Value} → v ≡ Of → ((t : Ty) → f (typed t) ≡ accepted t) → mapped writeTy (bound f (valueOf v list bytes)) ≡ mapped writeTy (lone bytes)
 type-itself f list bytes e own = ap (mapped writeTy) (for-type f list bytes (λ t. t) e own) ∙ go (lone bytes)

@@ -2,20 +2,22 @@
 use Prim.Native.Nat.{ℕ, _+_, _≤_}
 use native.Mathlib.Omega.{arith}
 use native.Mathlib.Numerals.{unary-clauses}
-use mathlib.Core.List.{List}
+use mathlib.Core.List.{List, [], map}
 use mathlib.Core.Option.{none}
-use mathlib.Core.Path.{_≡_, refl, _∙_, ap}
-use lib.ListN.{length, set, length-append}
+use mathlib.Core.Path.{_≡_, refl, sym, _∙_, ap}
+use lib.ListN.{length, set, take, length-append}
 use lib.Seq.{sets, sets-eq}
-use Rattle.model.specs.Types.{Dim, shape, Kind, plain, ty}
+use Rattle.model.specs.Types.{Dim, shape, Kind, num, plain, ty}
 use Rattle.format.specs.ReaderLaws.{Bytes}
-use Rattle.format.specs.Records.{code, writeShape, writeScalar, writeTy}
+use Rattle.format.specs.Records.{code, dimOf, writeShape, writeScalar, writeTy}
 use Rattle.format.specs.ReadWrite.{lone-write}
 use Rattle.format.specs.Outcome.{accepted, mapped, lone}
 use Rattle.lent.specs.Over.{over, over-over}
-use Rattle.record.specs.Answers.{nothing}
+use Rattle.record.specs.Answers.{nothing, dimsOf}
+use Rattle.record.specs.declared.Dims.{Dims}
 use Rattle.record.proofs.LoneLaws.{passed-accepted}
 use Rattle.val.specs.Answers.{kindRecord, closedRecord}
+use Rattle.val.specs.Values.{numTy}
 
 pub three-stores : (out : List ℕ) (at kind : ℕ) → at + 3 ≤ length out → set (set (set out at 0x53) (at + 1) 0x43) (at + 2) kind ≡ over out at (kindRecord kind)
 three-stores out at kind fits =
@@ -36,6 +38,11 @@ module _ (ds : List Dim) (kind : ℕ) where
 pub write-closed : (ds : List Dim) (k : Kind) → writeTy (ty (shape ds none) (plain k)) ≡ closedRecord ds (code k)
 unfolding writeTy writeScalar
 write-closed ds k = refl
+
+-- [] Num
+pub write-num : (d : Dims) → d .count ≡ 0 → writeTy numTy ≡ closedRecord (dimsOf d) 3
+unfolding code
+write-num d h = write-closed [] num ∙ ap (λ n. closedRecord (map dimOf (take n (d .sizes))) 3) (sym h)
 
 pub write-plain : (k : Kind) → writeScalar (plain k) ≡ kindRecord (code k)
 unfolding writeScalar

@@ -6,7 +6,7 @@ use mathlib.Core.Option.{Option, none, some}
 use lib.Ieee.{Float}
 use Rattle.model.specs.Types.{Dim, shape}
 use Rattle.format.specs.Records.{scalarMark, markBytes, dimOf, writeShape}
-use Rattle.format.specs.Outcome.{Outcome, accepted, refused, mapped, lone}
+use Rattle.format.specs.Outcome.{Outcome, accepted, refused, mapped, lone, delivery}
 use Rattle.record.specs.Answers.{dimsOf}
 use Rattle.val.specs.declared.Value as declared
 use Rattle.val.specs.declared.Value.the-variants.{Num, List as Listed, Of}
@@ -15,7 +15,9 @@ use Rattle.val.specs.declared.MaybeDim.the-variants.{Size, Nothing, Refu
 use Rattle.val.specs.declared.MaybeDims.{MaybeDims}
 use Rattle.val.specs.declared.MaybeDims.the-variants.{Sizes, Nothing as NothingListed, Refused as RefusedDims}
 use Rattle.val.specs.declared.DimsAnswer.{DimsAnswer}
-use Rattle.val.specs.Values.{Value, number, numbers, typed}
+use Rattle.val.specs.declared.Row as declaredRow
+use Rattle.val.specs.declared.Row.the-variants.{Number, Wrote, Refused as RefusedRow}
+use Rattle.val.specs.Values.{Value, number, numbers, typed, RowDelivery, handed, written}
 
 -- A value by its case, with the list and the bytes that are lent beside it. A type's bytes are read first, and bytes that are no type
 -- get their refusal.
@@ -37,6 +39,12 @@ maybeDims (RefusedDims k p) ds = refused k p
 
 abbrev pub dimsAnswered : DimsAnswer → Outcome (Option (List Dim))
 dimsAnswered r = maybeDims (r .answer) (dimsOf (r .dims))
+
+-- what a row's answer and the result buffer say together
+abbrev pub rowDelivered : declaredRow.Row → List ℕ → RowDelivery
+rowDelivered (Number x) buffer = handed x buffer
+rowDelivered (Wrote n) buffer = written (delivery (accepted n) buffer)
+rowDelivered (RefusedRow k p) buffer = written (delivery (refused k p) buffer)
 
 -- ---- what helpers lay down
 

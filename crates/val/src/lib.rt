@@ -1,6 +1,7 @@
 // Values handed in (val.rs): a number, a list of numbers or a type. The list and the type's bytes are lent beside the value,
 // and what is lent for another case is not looked at.
 mod parts;
+mod rows;
 mod sizes;
 mod write;
 
@@ -36,4 +37,11 @@ pub enum MaybeDims {
 pub struct DimsAnswer {
     pub answer: MaybeDims,
     pub dims: Dims,
+}
+
+// A row: a number, or how many bytes of a type were written to the result; or a refusal.
+pub enum Row {
+    Number(f64),
+    Wrote(usize),
+    Refused { number: u8, place: usize },
 }

@@ -1,0 +1,155 @@
+-- Lists of sizes by value, index by index: what stands at one, and a list that is built in front of the rest.
+use Prim.Native.Nat.{ℕ, zero, suc, _+_, _-_, _≤_, _<_, max, min}
+use native.Mathlib.Omega.{arith}
+use native.Mathlib.Numerals.{add-one, one-add}
+use mathlib.Core.Bool.{Bool, true, false, not, _&&_}
+use mathlib.Core.List.{List, [], _∷_, _++_, map}
+use mathlib.Core.Option.{Option, none, some, Option·map}
+use mathlib.Core.Path.{_≡_, refl, sym, _∙_, ap}
+use lib.ListN.{length, take, drop, getD, set, getElem?, length-drop}
+use lib.Seq.{take-suc, take-suc-set, take-length, getD-drop}
+use borrow.Author.Tests.{le-leb, lt-leb}
+use Rattle.model.specs.Types.{Dim, unknown}
+use Rattle.format.specs.Records.{dimOf}
+use Rattle.record.specs.Answers.{dimsOf}
+use Rattle.record.specs.declared.Dims.{Dims}
+use Rattle.rules.specs.Sizes.{larger, rowCompatible, joinDim}
+use Rattle.rules.specs.Pervade.{againstAbsent, together}
+use Rattle.rules.specs.PervadeSteps.{pervadeAt}
+use Rattle.rules.specs.Shapes.{compatibleDims, mergeDims, joinDims, joinEnds}
+use Rattle.rules.specs.ShapesLaws.{compatible-counts, merge-length, join-length, joinEnds-length}
+use Rattle.rules.specs.ShapesSteps.{compatible-step, mergeAt, merge-at, join-at, fromEnd, joinEnds-at}
+use Rattle.rules.specs.Lists.{getElem?-in}
+
+-- ---- what stands at an index
+
+at-index : (count : ℕ) (sizes : List ℕ) (i : ℕ) (z : Dim) → i < length (map dimOf (take count sizes)) → getD (map dimOf (take count sizes)) i z ≡ dimOf (getD sizes i 0)
+at-index zero sizes i z h = absurd (omega arith)
+at-index (suc count) [] i z h = absurd (omega arith)
+at-index (suc count) (n ∷ sizes) zero z h = refl
+at-index (suc count) (n ∷ sizes) (suc i) z h = at-index count sizes i z (omega arith)
+
+pub slot-there : (d : Dims) (i : ℕ) → i < length (dimsOf d) → getElem? (dimsOf d) i ≡ some (dimOf (getD (d .sizes) i 0))
+slot-there d i h = getElem?-in (dimsOf d) i unknown h ∙ ap some (at-index (d .count) (d .sizes) i unknown h)
+
+pub slot-size : (l : List Dim) (i : ℕ) (z : Dim) {d : Dim} → some d ≡ getElem? l i → d ≡ getD l i z
+slot-size [] i z e = cc
+slot-size (x ∷ l) zero z e = cc
+slot-size (x ∷ l) (suc i) z e = slot-size l i z e
+
+pub slot-none : (l : List Dim) (i : ℕ) (z : Dim) → none ≡ getElem? l i → z ≡ getD l i z
+slot-none [] i z e = refl
+slot-none (x ∷ l) zero z e = cc
+slot-none (x ∷ l) (suc i) z e = slot-none l i z e
+
+-- ---- what one index comes to, by what stands there on either side
+
+size-or-unknown : (l : List Dim) (i : ℕ) → getD l i unknown ≡ mergeAt none (getElem? l i)
+size-or-unknown [] i = refl
+size-or-unknown (x ∷ l) zero = refl
+size-or-unknown (x ∷ l) (suc i) = size-or-unknown l i
+
+pub merge-absent : {x : Option Dim} (p : List Dim) (i : ℕ) {r : Dim} → none ≡ x → r ≡ getD p i unknown → r ≡ mergeAt x (getElem? p i)
+merge-absent p i e w = w ∙ rw (← e) (size-or-unknown p i)
+
+pub merge-alone : {x y : Option Dim} {d : Dim} → some d ≡ x → none ≡ y → d ≡ mergeAt x y
+merge-alone e f = rw (← e, ← f)
+
+pub merge-both : {x y : Option Dim} {d e r : Dim} → some d ≡ x → some e ≡ y → r ≡ larger d e → r ≡ mergeAt x y
+merge-both h k w = rw (← h, ← k) w
+
+module _ (f g : Bool) {x y r : Option Dim} where
+  pub pervade-absent : {s : Option Dim} → none ≡ x → s ≡ y → r ≡ Option·map againstAbsent s → r ≡ pervadeAt f g x y
+  pervade-absent {s} e h w = rw (← e, ← h) (w ∙ go s)
+    where
+      go : (s : Option Dim) → Option·map againstAbsent s ≡ pervadeAt f g none s
+      go none = refl
+      go (some d) = refl
+
+  pub pervade-alone : {s : Option Dim} → s ≡ x → none ≡ y → r ≡ Option·map againstAbsent s → r ≡ pervadeAt f g x y
+  pervade-alone {s} h e w = rw (← e, ← h) (w ∙ go s)
+    where
+      go : (s : Option Dim) → Option·map againstAbsent s ≡ pervadeAt f g s none
+      go none = refl
+      go (some d) = refl
+
+  pub pervade-both : {d e : Dim} → some d ≡ x → some e ≡ y → r ≡ together f g d e → r ≡ pervadeAt f g x y
+  pervade-both h k w = rw (← h, ← k) w
+
+module _ (l : List Dim) (i : ℕ) where
+  pub end-past : length l < i → unknown ≡ fromEnd i l
+  end-past h = rw (lt-leb i (length l) h)
+
+  pub end-there : i ≤ length l → getD l (length l - i) unknown ≡ fromEnd i l
+  end-there h = rw (le-leb i (length l) h)
+
+-- ---- a list built index by index: the first i of it are there
+
+map-append : {A B : Type 0} (f : A → B) (l m : List A) → map f (l ++ m) ≡ map f l ++ map f m
+map-append f [] m = refl
+map-append f (x ∷ l) m = ap (λ r. f x ∷ r) (map-append f l m)
+
+-- the first i numbers and one more
+pub one-more : (sizes : List ℕ) (i v : ℕ) → i < length sizes → map dimOf (take (i + 1) (set sizes i v)) ≡ map dimOf (take i sizes) ++ (dimOf v ∷ [])
+one-more sizes i v h = rw (add-one, take-suc-set sizes i v h) (map-append dimOf (take i sizes) (v ∷ []))
+
+abbrev pub Built : List Dim → List ℕ → ℕ → Type 0
+Built l sizes i = map dimOf (take i sizes) ≡ take i l
+
+module _ (l : List Dim) (sizes : List ℕ) where
+  pub build-start : Built l sizes 0
+  build-start = refl
+
+  build-more : (i v : ℕ) → i < length l → i < length sizes → getD l i unknown ≡ dimOf v → Built l sizes i → Built l (set sizes i v) (i + 1)
+  build-more i v h room e b = one-more sizes i v room ∙ ap (λ r. r ++ (dimOf v ∷ [])) b ∙ rw (add-one, take-suc l i unknown h, e)
+
+  pub build-end : (i : ℕ) {n : ℕ} → i ≡ n → n ≡ length l → Built l sizes i → map dimOf (take n sizes) ≡ l
+  build-end i {n} e f b = ap (λ k. map dimOf (take k sizes)) (sym e) ∙ b ∙ ap (λ k. take k l) (e ∙ f) ∙ take-length l
+
+-- ---- one index of each rule
+
+module _ (o p : List Dim) (sizes : List ℕ) (i v : ℕ) (room : i < length sizes) where
+  pub merge-more : i < max (length o) (length p) → dimOf v ≡ mergeAt (getElem? o i) (getElem? p i) → Built (mergeDims o p) sizes i → Built (mergeDims o p) (set sizes i v) (i + 1)
+  merge-more h w b = build-more (mergeDims o p) sizes i v (omega (arith, merge-length o p)) room (merge-at i o p unknown h ∙ sym w) b
+
+  pub join-more : {x y : Dim} → i < min (length o) (length p) → x ≡ getD o i unknown → y ≡ getD p i unknown → dimOf v ≡ joinDim x y → Built (joinDims o p) sizes i → Built (joinDims o p) (set sizes i v) (i + 1)
+  join-more {x} {y} h e f w b = build-more (joinDims o p) sizes i v (omega (arith, join-length o p)) room (join-at i o p unknown (omega arith) (omega arith) ∙ sym (w ∙ ap (λ k. joinDim k y) e ∙ ap (joinDim (getD o i unknown)) f)) b
+
+  pub ends-more : {x y : Dim} → i < max (length o) (length p) → x ≡ fromEnd i o → y ≡ fromEnd i p → dimOf v ≡ joinDim x y → Built (joinEnds o p) sizes i → Built (joinEnds o p) (set sizes i v) (i + 1)
+  ends-more {x} {y} h e f w b = build-more (joinEnds o p) sizes i v (omega (arith, joinEnds-length o p)) room (joinEnds-at i o p h ∙ sym (w ∙ ap (λ k. joinDim k y) e ∙ ap (joinDim (fromEnd i o)) f)) b
+
+-- ---- all but the first
+
+pub rest-none : (l : List Dim) → length l ≡ 0 → l ≡ drop 1 l
+rest-none [] e = refl
+rest-none (d ∷ l) e = absurd (omega arith)
+
+pub rest-more : (l : List Dim) (sizes : List ℕ) (i v : ℕ) → i < length sizes → i + 1 < length l → dimOf v ≡ getD l (i + 1) unknown → Built (drop 1 l) sizes i → Built (drop 1 l) (set sizes i v) (i + 1)
+rest-more l sizes i v room h e = build-more (drop 1 l) sizes i v (omega (arith, length-drop 1 l)) room (getD-drop 1 l i unknown ∙ rw (one-add, ← (add-one i)) (sym e))
+
+-- ---- `compatible_with`: what is left at an index decides
+
+pub compatible-uneven : (o p : List Dim) → (length o ≡ length p → ⊥) → compatibleDims o p ≡ false
+compatible-uneven o p h = go (compatibleDims o p) refl
+  where
+    go : (t : Bool) → compatibleDims o p ≡ t → t ≡ false
+    go true e = absurd (h (compatible-counts o p e))
+    go false e = refl
+
+not-false : (t : Bool) → not t ≡ false → t ≡ true
+not-false true u = refl
+not-false false u = cc
+
+not-true : (t : Bool) → not t ≡ true → t ≡ false
+not-true true u = cc
+not-true false u = refl
+
+module _ (o p : List Dim) (i : ℕ) (m : i < length o) (n : i < length p) {x y : Dim} {t : Bool} (e : x ≡ getD o i unknown) (f : y ≡ getD p i unknown) (w : t ≡ rowCompatible x y) where
+  step : compatibleDims (drop i o) (drop i p) ≡ (t && compatibleDims (drop (i + 1) o) (drop (i + 1) p))
+  step = compatible-step i o p unknown m n ∙ rw (w, e, f, add-one)
+
+  pub compatible-more : not t ≡ false → compatibleDims (drop i o) (drop i p) ≡ compatibleDims (drop (i + 1) o) (drop (i + 1) p)
+  compatible-more u = rw (not-false t u) at step
+
+  pub compatible-stop : not t ≡ true → compatibleDims (drop i o) (drop i p) ≡ false
+  compatible-stop u = rw (not-true t u) at step

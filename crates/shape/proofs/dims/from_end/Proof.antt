@@ -1,0 +1,25 @@
+use mathlib.Core.Path.{ap, _∙_}
+use native.Mathlib.Omega.{arith}
+use lib.ListN.{getD}
+use Prim.Native.Nat.{_-_}
+use Rattle.model.specs.Types.{unknown}
+use Rattle.shape.proofs.DimsLaws.{end-past, end-there}
+use Rattle.record.specs.Answers.{dimsOf}
+use borrow.Author.Needs.{needs}
+use Rattle.shape.proofs.dims.from_end.Statement.{statement}
+use Rattle.shape.proofs.dims.from_end.Tie as tie
+
+size-count-requires : tie.Need-size-count-requires
+size-count-requires c κs = search needs
+
+returns : tie.Need-returns
+returns c = end-past (dimsOf (c .before .before .args .d)) (c .before .before .args .i) (omega (arith, c .before .size-count .ensures .0))
+
+size-at-requires : tie.Need-size-at-requires
+size-at-requires c κs = search needs
+
+returns-2 : tie.Need-returns-2
+returns-2 c = c .size-at .ensures ∙ (ap (λ n. getD (dimsOf (c .before .before .before .args .d)) (n - c .before .before .before .args .i) unknown) (c .before .before .size-count .ensures .0) ∙ end-there (dimsOf (c .before .before .before .args .d)) (c .before .before .before .args .i) (omega (arith, c .before .before .size-count .ensures .0)))
+
+pub from-end-spec : {M : Type 1} → statement M
+from-end-spec = tie.close (tie.spec size-count-requires returns size-at-requires returns-2)

@@ -37,3 +37,22 @@ module _ {A : Type 0} (f : Value → Outcome A) (list : List Float) (bytes : Lis
       go : (o : Outcome Ty) → bound f (mapped typed o) ≡ mapped g o
       go (accepted t) = own t
       go (refused k p) = refl
+
+-- ---- a call that answers every value
+
+module _ {A : Type 0} (f : Value → A) (list : List Float) (bytes : List ℕ) where
+  abbrev mappedAnswer : declared.Value → Outcome A
+  mappedAnswer v = mapped f (valueOf v list bytes)
+
+  pub maps-number : {v : declared.Value} {x : Float} → v ≡ Num x → mappedAnswer v ≡ accepted (f (number x))
+  maps-number e = ap mappedAnswer e
+
+  pub maps-list : {v : declared.Value} → v ≡ Listed → mappedAnswer v ≡ accepted (f (numbers list))
+  maps-list e = ap mappedAnswer e
+
+  pub maps-type : {v : declared.Value} (g : Ty → A) → v ≡ Of → ((t : Ty) → f (typed t) ≡ g t) → mappedAnswer v ≡ mapped g (lone bytes)
+  maps-type g e own = ap mappedAnswer e ∙ go (lone bytes)
+    where
+      go : (o : Outcome Ty) → mapped f (mapped typed o) ≡ mapped g o
+      go (accepted t) = ap accepted (own t)
+      go (refused k p) = refl

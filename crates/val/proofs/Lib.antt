@@ -4,3 +4,4 @@ mod HandedLaws
 mod PartLaws
 mod KindLaws
 mod RowLaws
+mod CountLaws

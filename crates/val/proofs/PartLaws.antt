@@ -1,11 +1,9 @@
 -- The type and the spec of a value, one law for each way out of a function.
-use Prim.Native.Nat.{ℕ, _≤_, _<_}
+use Prim.Native.Nat.{ℕ}
 use mathlib.Core.List.{List, [], _∷_, map}
 use mathlib.Core.Path.{_≡_, refl, sym, _∙_, ap}
 use lib.Ieee.{Float}
-use lib.ListN.{length, take}
-use Rattle.model.specs.Limits.{maxSize}
-use Rattle.model.specs.Refusals.{oversized}
+use lib.ListN.{take}
 use Rattle.model.specs.Types.{Dim, num, any, Ty}
 use Rattle.format.specs.Records.{code, dimOf, writeTy}
 use Rattle.format.specs.Outcome.{Outcome, accepted, refused, mapped, bound, lone}
@@ -18,12 +16,14 @@ use Rattle.number.specs.Size.{listedDim}
 use Rattle.number.specs.Sizes.{listedDims}
 use Rattle.record.specs.Answers.{dimsOf}
 use Rattle.record.specs.declared.Dims.{Dims}
+use Rattle.val.specs.declared.Counted.{Counted}
+use Rattle.val.specs.declared.Counted.the-variants.{Count as CountOf, Refused as Uncounted}
 use Rattle.val.specs.declared.Value as declared
 use Rattle.val.specs.declared.Value.the-variants.{Num, Of}
-use Rattle.val.specs.Answers.{valueOf, closedRecord}
-use Rattle.val.specs.Values.{Value, number, numbers, typed, numbersTy, valueTy, anySized, anyOfSize, valueSpec}
+use Rattle.val.specs.Answers.{valueOf, countedDim, closedRecord}
+use Rattle.val.specs.Values.{Value, number, numbers, typed, numbersTy, lengthDim, valueTy, anySized, anyOfSize, valueSpec}
 use Rattle.val.proofs.WriteLaws.{write-closed, write-num}
-use Rattle.val.proofs.NumberLaws.{alone-sized, alone-refused, listed-counted, listed-refused, length-sized, length-oversized}
+use Rattle.val.proofs.NumberLaws.{alone-sized, alone-refused, listed-counted, listed-refused}
 use Rattle.val.proofs.HandedLaws.{for-number, for-type}
 
 written-num : (ds : List Dim) → closedRecord ds (code num) ≡ closedRecord ds 3
@@ -47,14 +47,16 @@ type-itself f list bytes e own = ap (mapped writeTy) (for-type f list bytes (λ 
     go (accepted t) = refl
     go (refused k p) = refl
 
-module _ (xs : List Float) where
-  pub ty-oversized : maxSize < length xs → mapped writeTy (valueTy (numbers xs)) ≡ refused oversized 0
+module _ (xs : List Float) {r : Counted} (e : countedDim r ≡ lengthDim xs) where
+  pub ty-counted : {n : ℕ} {ds : List Dim} → r ≡ CountOf n → ds ≡ dimOf n ∷ [] → mapped writeTy (valueTy (numbers xs)) ≡ accepted (closedRecord ds 3)
   unfolding valueTy
-  ty-oversized h = ap (λ o. mapped writeTy (mapped numbersTy o)) (length-oversized xs h)
+  ty-counted h l =
+      ap (λ o. mapped writeTy (mapped numbersTy o)) (sym e ∙ ap countedDim h)
+      ∙ ap accepted (write-closed _ num ∙ written-num _ ∙ ap (λ d. closedRecord d 3) (sym l))
 
-  pub ty-sized : {ds : List Dim} → length xs ≤ maxSize → ds ≡ dimOf (length xs) ∷ [] → mapped writeTy (valueTy (numbers xs)) ≡ accepted (closedRecord ds 3)
+  pub ty-uncounted : {k p : ℕ} → r ≡ Uncounted k p → mapped writeTy (valueTy (numbers xs)) ≡ refused k p
   unfolding valueTy
-  ty-sized h e = ap (λ o. mapped writeTy (mapped numbersTy o)) (length-sized xs h) ∙ ap accepted (write-closed _ num ∙ written-num _ ∙ ap (λ l. closedRecord l 3) (sym e))
+  ty-uncounted h = ap (λ o. mapped writeTy (mapped numbersTy o)) (sym e ∙ ap countedDim h)
 
 -- ---- specs
 

@@ -2,12 +2,12 @@
 use Prim.Native.Nat.{ℕ, _-_}
 use native.Mathlib.Omega.{arith}
 use mathlib.Core.List.{List, [], _∷_}
-use mathlib.Core.Path.{_≡_, refl, sym, _∙_, ap}
+use mathlib.Core.Path.{_≡_, refl, _∙_, ap}
 use lib.Ieee.{Float, nan}
 use lib.ListN.{length, getD}
 use Rattle.model.specs.Types.{Ty}
 use Rattle.format.specs.Records.{writeTy}
-use Rattle.format.specs.Outcome.{Outcome, accepted, refused, deliver}
+use Rattle.format.specs.Outcome.{accepted, deliver}
 use Rattle.val.specs.Values.{numTy, Row, rowNumber, rowTyped, listRow, listFirst, listLast, handed, written, deliverRow}
 
 -- ---- what is delivered

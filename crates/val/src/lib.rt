@@ -1,10 +1,13 @@
 // Values handed in (val.rs): a number, a list of numbers or a type. The list and the type's bytes are lent beside the value,
 // and what is lent for another case is not looked at.
+mod counts;
 mod parts;
 mod rows;
 mod sizes;
 mod write;
 
+pub use counts::rank;
+pub use counts::row_count;
 pub use parts::nums_scalar;
 pub use parts::scalar;
 pub use parts::spec;
@@ -43,5 +46,11 @@ pub struct DimsAnswer {
 pub enum Row {
     Number(f64),
     Wrote(usize),
+    Refused { number: u8, place: usize },
+}
+
+// How many, all ones for an unknown number of rows; or a refusal.
+pub enum Counted {
+    Count(u64),
     Refused { number: u8, place: usize },
 }

@@ -1,14 +1,14 @@
 // The type, the spec and the scalar of a value.
+use crate::Counted;
 use crate::Value;
+use crate::counts::row_count_of_list;
 use crate::write::one_dim;
 use crate::write::write_closed;
 use crate::write::write_kind;
 use crate::write::write_same;
 use lent::Written;
 use limits::ANY;
-use limits::MAX_SIZE;
 use limits::NUM;
-use limits::refusal::OVERSIZED;
 use number::Answer;
 use number::Sized;
 use number::dims_of;
@@ -39,14 +39,10 @@ pub fn ty(v: Value, list: &[f64], bytes: &[u8], result: &mut [u8]) -> Written
 fn ty_of_list(list: &[f64], result: &mut [u8]) -> Written
     ensures { λ r. ⌜ delivered r (now (result .exit)) ≡ deliver (mapped writeTy (valueTy (numbers (now (list .entry))))) (now (result .entry)) ⌝ }
 {
-    let n = list.len() as u64;
-    if MAX_SIZE < n {
-        return Written::Refused {
-            number: OVERSIZED,
-            place: 0,
-        };
+    match row_count_of_list(list) {
+        Counted::Count(n) => write_closed(one_dim(n), NUM, &mut *result),
+        Counted::Refused { number, place } => Written::Refused { number, place },
     }
-    write_closed(one_dim(n), NUM, &mut *result)
 }
 
 // A number is the size that it stands for, a list its sizes, either of Any; a type is itself.

@@ -2,13 +2,17 @@
 use Prim.Native.Nat.{ℕ, _-_}
 use native.Mathlib.Omega.{arith}
 use mathlib.Core.List.{List, [], _∷_}
-use mathlib.Core.Path.{_≡_, refl, _∙_, ap}
+use mathlib.Core.Path.{_≡_, refl, sym, _∙_, ap}
 use lib.Ieee.{Float, nan}
 use lib.ListN.{length, getD}
 use Rattle.model.specs.Types.{Ty}
 use Rattle.format.specs.Records.{writeTy}
-use Rattle.format.specs.Outcome.{accepted, deliver}
-use Rattle.val.specs.Values.{numTy, Row, rowNumber, rowTyped, listRow, listFirst, listLast, handed, written, deliverRow}
+use Rattle.format.specs.Outcome.{Outcome, accepted, refused, mapped, lone, deliver}
+use Rattle.val.specs.declared.Value as declared
+use Rattle.val.specs.declared.Value.the-variants.{Num, List as Listed, Of}
+use Rattle.val.specs.Answers.{valueOf}
+use Rattle.val.specs.Values.{Value, number, numbers, typed, numTy, Row, rowNumber, rowTyped, listRow, listFirst, listLast, RowDelivery, handed, written, deliverRow}
+use Rattle.val.proofs.HandedLaws.{maps-number, maps-list, maps-type}
 
 -- ---- what is delivered
 
@@ -60,3 +64,24 @@ last-some [] h = absurd (h refl)
 last-some (x ∷ xs) h =
     let e : length xs ≡ length (x ∷ xs) - 1 = omega arith in
     last-at x xs ∙ ap (λ n. rowNumber (getD (x ∷ xs) n nan)) e
+
+-- ---- values
+
+-- a type's row, or the refusal of its bytes
+deliver-lone : (g : Ty → Ty) (o : Outcome Ty) (buffer : List ℕ) → written (deliver (mapped (λ t. writeTy (g t)) o) buffer) ≡ deliverRow (mapped (λ t. rowTyped (g t)) o) buffer
+unfolding deliverRow
+deliver-lone g (accepted t) buffer = refl
+deliver-lone g (refused k p) buffer = refl
+
+module _ (f : Value → Row) (list : List Float) (bytes : List ℕ) (buffer : List ℕ) where
+  abbrev answer : declared.Value → RowDelivery
+  answer v = deliverRow (mapped f (valueOf v list bytes)) buffer
+
+  pub rows-number : {v : declared.Value} {x : Float} → v ≡ Num x → f (number x) ≡ rowNumber x → handed x buffer ≡ answer v
+  rows-number e own = deliver-number buffer own ∙ ap (λ o. deliverRow o buffer) (sym (maps-number f list bytes e))
+
+  pub rows-list : {v : declared.Value} → v ≡ Listed → deliverRow (accepted (f (numbers list))) buffer ≡ answer v
+  rows-list e = ap (λ o. deliverRow o buffer) (sym (maps-list f list bytes e))
+
+  pub rows-type : (g : Ty → Ty) {v : declared.Value} → v ≡ Of → ((t : Ty) → f (typed t) ≡ rowTyped (g t)) → written (deliver (mapped (λ t. writeTy (g t)) (lone bytes)) buffer) ≡ answer v
+  rows-type g e own = deliver-lone g (lone bytes) buffer ∙ ap (λ o. deliverRow o buffer) (sym (maps-type f list bytes (λ t. rowTyped (g t)) e own))

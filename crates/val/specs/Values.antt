@@ -43,7 +43,7 @@ valueTy (typed t) = accepted t
 
 -- ---- `spec`
 
--- the size of a number alone or the first of a list: a refusal's place is index 0
+-- the size of a number by itself, whose index is 0
 abbrev pub dimAlone : SizeOutcome → Outcome Dim
 dimAlone (size n) = accepted (static n)
 dimAlone unknownSize = accepted unknown

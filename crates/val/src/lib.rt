@@ -37,6 +37,7 @@ pub enum MaybeDims {
     Refused { number: u8, place: usize },
 }
 
+// The sizes of an answer Sizes; beside another answer they mean nothing.
 pub struct DimsAnswer {
     pub answer: MaybeDims,
     pub dims: Dims,

@@ -1,0 +1,5 @@
+mod PartLaws
+mod ContentLaws
+mod CopyLaws
+mod ListingLaws
+mod RowLaws

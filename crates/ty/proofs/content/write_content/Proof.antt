@@ -1,0 +1,146 @@
+use mathlib.Core.Path.{sym, ap, _∙_}
+use native.Mathlib.Omega.{arith}
+use Rattle.format.specs.Outcome.{accepted, deliver}
+use Rattle.ty.specs.Parts.{partOf}
+use Rattle.ty.proofs.ContentLaws.{rest-is, stretch-is, all-there, content-all, field-there, content-plain, content-any, content-first, content-none}
+use borrow.Author.Needs.{needs}
+use Rattle.ty.proofs.content.write_content.Statement.{statement}
+use Rattle.ty.proofs.content.write_content.Tie as tie
+use Rattle.ty.proofs.content.write_content.Reads as reads
+use Rattle.ty.proofs.content.write_content.Lts as lts
+use Rattle.lent.proofs.hand_over.Reads as hand-over-reads
+use Rattle.ty.proofs.parts.find_field.Reads as find-field-reads
+use Rattle.ty.proofs.parts.look_inside.Reads as look-inside-reads
+
+look-inside-requires : tie.Need-look-inside-requires
+look-inside-requires c κs = search needs
+
+enum-told : tie.Need-enum-told
+enum-told c = search needs
+
+hand-over-requires : tie.Need-hand-over-requires
+hand-over-requires c κs = search needs
+
+enum-told-2 : tie.Need-enum-told-2
+enum-told-2 c = search needs
+
+slice-aggregate-hand-over : tie.Need-slice-aggregate-hand-over
+slice-aggregate-hand-over c = search needs
+
+hand-over-requires-2 : tie.Need-hand-over-requires-2
+hand-over-requires-2 c κs = search needs
+
+enum-known-held : tie.Need-enum-known-held
+enum-known-held c = search needs
+
+sub-hand-over : tie.Need-sub-hand-over
+sub-hand-over c = all-there (c .before .before .before .before .before .before .args .ty .now) (λ i. omega (arith, c .before .before .before .before .before .shared-slice-known .given i)) (c .before .before .before .look-inside .ensures ∙ ap accepted (c .before .held .given .1))
+
+part-hand-over-start : tie.Need-part-hand-over-start
+part-hand-over-start c = all-there (c .before .before .before .before .before .before .args .ty .now) (λ i. omega (arith, c .before .before .before .before .before .shared-slice-known .given i)) (c .before .before .before .look-inside .ensures ∙ ap accepted (c .before .held .given .1))
+
+part-hand-over-end : tie.Need-part-hand-over-end
+part-hand-over-end c = search needs
+
+hand-over-requires-3 : tie.Need-hand-over-requires-3
+hand-over-requires-3 c κs = search needs
+
+enum-known-held-2 : tie.Need-enum-known-held-2
+enum-known-held-2 c = search needs
+
+find-field-requires : tie.Need-find-field-requires
+find-field-requires c κs = (c .before .before .before .look-inside .ensures ∙ ap accepted (c .before .held2 .given .1))
+
+enum-known-part : tie.Need-enum-known-part
+enum-known-part c = search needs
+
+add-end : tie.Need-add-end
+add-end c = omega (arith, field-there (c .before .before .before .before .before .before .before .before .before .before .args .ty .now) (λ i. omega (arith, c .before .before .before .before .before .before .before .before .before .shared-slice-known .given i)) (c .before .before .before .before .before .before .before .look-inside .ensures ∙ ap accepted (c .before .before .before .before .before .held2 .given .1)) 0 (c .before .before .before .find-field .ensures ∙ ap (λ p. accepted (partOf p)) (c .before .part .given .1)))
+
+sub-hand-over-2 : tie.Need-sub-hand-over-2
+sub-hand-over-2 c = search needs
+
+part-hand-over-start-2 : tie.Need-part-hand-over-start-2
+part-hand-over-start-2 c = search needs
+
+part-hand-over-end-2 : tie.Need-part-hand-over-end-2
+part-hand-over-end-2 c = field-there (c .before .before .before .before .before .before .before .before .before .before .args .ty .now) (λ i. omega (arith, c .before .before .before .before .before .before .before .before .before .shared-slice-known .given i)) (c .before .before .before .before .before .before .before .look-inside .ensures ∙ ap accepted (c .before .before .before .before .before .held2 .given .1)) 0 (c .before .before .before .find-field .ensures ∙ ap (λ p. accepted (partOf p)) (c .before .part .given .1))
+
+hand-over-requires-4 : tie.Need-hand-over-requires-4
+hand-over-requires-4 c κs = search needs
+
+enum-told-3 : tie.Need-enum-told-3
+enum-told-3 c = search needs
+
+slice-aggregate-hand-over-2 : tie.Need-slice-aggregate-hand-over-2
+slice-aggregate-hand-over-2 c = search needs
+
+hand-over-requires-5 : tie.Need-hand-over-requires-5
+hand-over-requires-5 c κs = search needs
+
+same-length : tie.Need-same-length
+same-length c = search needs
+
+returns : tie.Need-returns
+returns c = c .before .before .hand-over .ensures ∙ ap (λ o. deliver o (c .before .before .before .before .before .before .before .before .before .args .result .now)) (sym (content-plain (c .before .before .before .before .before .before .before .before .before .args .ty .now) (λ i. omega (arith, c .before .before .before .before .before .before .before .before .shared-slice-known .given i)) (c .before .before .before .before .before .before .look-inside .ensures ∙ ap accepted (c .before .before .before .before .enum-told .given .1))))
+
+same-length-2 : tie.Need-same-length-2
+same-length-2 c = search needs
+
+returns-2 : tie.Need-returns-2
+returns-2 c = c .before .before .hand-over2 .ensures ∙ ap (λ o. deliver o (c .before .before .before .before .before .before .before .before .before .before .args .result .now)) (sym (content-any (c .before .before .before .before .before .before .before .before .before .before .args .ty .now) (λ i. omega (arith, c .before .before .before .before .before .before .before .before .before .shared-slice-known .given i)) (c .before .before .before .before .before .before .before .look-inside .ensures ∙ ap accepted (c .before .before .before .before .before .enum-told2 .given .1))))
+
+same-length-3 : tie.Need-same-length-3
+same-length-3 c = search needs
+
+returns-3 : tie.Need-returns-3
+returns-3 c = c .before .before .hand-over3 .ensures ∙ (ap (λ w. deliver (accepted w) (c .before .before .before .before .before .before .before .before .before .before .before .args .result .now)) (rest-is (c .before .before .before .before .before .before .before .before .before .before .before .args .ty .now) (c .before .before .before .before .before .before .held .given .0 .0)) ∙ ap (λ o. deliver o (c .before .before .before .before .before .before .before .before .before .before .before .args .result .now)) (sym (content-all (c .before .before .before .before .before .before .before .before .before .before .before .args .ty .now) (λ i. omega (arith, c .before .before .before .before .before .before .before .before .before .before .shared-slice-known .given i)) (c .before .before .before .before .before .before .before .before .look-inside .ensures ∙ ap accepted (c .before .before .before .before .before .before .held .given .1)))))
+
+same-length-4 : tie.Need-same-length-4
+same-length-4 c = search needs
+
+returns-4 : tie.Need-returns-4
+returns-4 c = c .before .before .hand-over4 .ensures ∙ (ap (λ w. deliver (accepted w) (c .before .before .before .before .before .before .before .before .before .before .before .before .before .before .before .args .result .now)) (stretch-is (c .before .before .before .before .before .before .before .before .before .before .before .before .before .before .before .args .ty .now) (c .before .before .before .before .before .before .part .given .0 .0) (c .before .before .before .before .before .before .part .given .0 .1 .0)) ∙ ap (λ o. deliver o (c .before .before .before .before .before .before .before .before .before .before .before .before .before .before .before .args .result .now)) (sym (content-first (c .before .before .before .before .before .before .before .before .before .before .before .before .before .before .before .args .ty .now) (λ i. omega (arith, c .before .before .before .before .before .before .before .before .before .before .before .before .before .before .shared-slice-known .given i)) (c .before .before .before .before .before .before .before .before .before .before .before .before .look-inside .ensures ∙ ap accepted (c .before .before .before .before .before .before .before .before .before .before .held2 .given .1)) (c .before .before .before .before .before .before .before .before .find-field .ensures ∙ ap (λ p. accepted (partOf p)) (c .before .before .before .before .before .before .part .given .1)))))
+
+same-length-5 : tie.Need-same-length-5
+same-length-5 c = search needs
+
+returns-5 : tie.Need-returns-5
+returns-5 c = c .before .before .hand-over5 .ensures ∙ ap (λ o. deliver o (c .before .before .before .before .before .before .before .before .before .before .before .before .before .before .args .result .now)) (sym (content-none (c .before .before .before .before .before .before .before .before .before .before .before .before .before .before .args .ty .now) (λ i. omega (arith, c .before .before .before .before .before .before .before .before .before .before .before .before .before .shared-slice-known .given i)) (c .before .before .before .before .before .before .before .before .before .before .before .look-inside .ensures ∙ ap accepted (c .before .before .before .before .before .before .before .before .before .held2 .given .1)) (c .before .before .before .before .before .before .before .find-field .ensures ∙ ap (λ p. accepted (partOf p)) (c .before .before .before .before .before .enum-told3 .given .1))))
+
+pub write-content-spec : {M : Type 1} → statement M
+write-content-spec =
+    tie.close
+    (tie.spec
+    look-inside-requires
+    enum-told
+    hand-over-requires
+    enum-told-2
+    slice-aggregate-hand-over
+    hand-over-requires-2
+    enum-known-held
+    sub-hand-over
+    part-hand-over-start
+    part-hand-over-end
+    hand-over-requires-3
+    enum-known-held-2
+    find-field-requires
+    enum-known-part
+    add-end
+    sub-hand-over-2
+    part-hand-over-start-2
+    part-hand-over-end-2
+    hand-over-requires-4
+    enum-told-3
+    slice-aggregate-hand-over-2
+    hand-over-requires-5
+    same-length
+    returns
+    same-length-2
+    returns-2
+    same-length-3
+    returns-3
+    same-length-4
+    returns-4
+    same-length-5
+    returns-5)

@@ -1,0 +1,58 @@
+use mathlib.Core.Path.{_≡_, refl, ap, _∙_}
+use native.Mathlib.Omega.{arith}
+use Prim.Native.Nat.{_+_, _-_, _≤_}
+use borrow.Author.Needs.{needs}
+use lib.ListN.{length}
+use Rattle.ty.specs.Copies.{repeated}
+use Rattle.ty.proofs.CopyLaws.{one-more, Laid, lay-none, lay-more, repeated-none, repeated-more}
+use Rattle.lent.specs.Over.{over}
+use Rattle.ty.proofs.copies.put_copies.Statement.{statement}
+use Rattle.ty.proofs.copies.put_copies.Tie as tie
+use Rattle.ty.proofs.copies.put_copies.Reads as reads
+use Rattle.ty.proofs.copies.put_copies.Lts as lts
+use Rattle.lent.proofs.lay.Reads as lay-reads
+
+abbrev Inv-loop : tie.InvT-loop
+Inv-loop t n out₀ start at₀ i₀ out at i = (i ≤ n) × (at ≡ start + length (repeated i t)) × (length out ≡ length out₀) × Laid out₀ start t out i
+
+abbrev μ-loop : tie.MeasureT-loop
+μ-loop t n out₀ start at₀ i₀ out at i = n - i
+
+loop-holds : tie.Need-loop-holds Inv-loop μ-loop
+loop-holds c = (search needs, repeated-none (c .before .before .args .t .now) (c .before .before .args .start), refl, lay-none (c .before .before .args .out .now) (c .before .before .args .start) (c .before .before .args .t .now))
+
+lay-requires : tie.Need-lay-requires Inv-loop μ-loop
+lay-requires c κs = omega (arith, one-more (c .before .before .before .before .before .args .t .now) (c .before .before .loop .i) (c .before .before .before .before .before .args .n) (c .before .loop-test .taken), c .before .before .before .before .before .pre)
+
+add-at : tie.Need-add-at Inv-loop μ-loop
+add-at c = omega (arith, one-more (c .before .before .before .before .before .before .before .before .args .t .now) (c .before .before .before .before .before .loop .i) (c .before .before .before .before .before .before .before .before .args .n) (c .before .before .before .before .loop-test .taken), c .before .before .before .before .before .before .before .before .pre)
+
+add-i : tie.Need-add-i Inv-loop μ-loop
+add-i c = search needs
+
+loop-less : tie.Need-loop-less Inv-loop μ-loop
+loop-less c = search needs
+
+loop-again : tie.Need-loop-again Inv-loop μ-loop
+loop-again c = (omega arith, repeated-more (c .before .before .before .before .before .before .before .before .args .t .now) (c .before .before .before .before .before .loop .i) (c .before .before .before .before .before .before .before .before .args .start) (c .before .before .before .before .before .loop .inv .1), c .before .before .lay .kept .1 .0 ∙ c .before .before .before .before .before .loop .inv .2, lay-more (c .before .before .before .before .before .before .before .before .args .out .now) (c .before .before .before .before .before .before .before .before .args .start) (c .before .before .before .before .before .before .before .before .args .t .now) (c .before .before .before .before .before .loop .i) (c .before .before .before .before .before .before .before .before .args .n) (c .before .before .before .before .loop-test .taken) (c .before .before .before .before .before .before .before .before .pre) (c .before .before .before .before .before .loop .inv .1) (c .before .before .before .before .before .loop .inv .3) (c .before .before .lay .ensures))
+
+same-length : tie.Need-same-length Inv-loop μ-loop
+same-length c = c .before .loop .inv .2
+
+returns : tie.Need-returns Inv-loop μ-loop
+returns c = c .before .loop .inv .3 ∙ ap (λ k. over (c .before .before .before .before .args .out .now) (c .before .before .before .before .args .start) (repeated k (c .before .before .before .before .args .t .now))) (omega arith)
+
+pub put-copies-spec : {M : Type 1} → statement M
+put-copies-spec =
+    tie.close
+    (tie.spec
+    Inv-loop
+    μ-loop
+    loop-holds
+    lay-requires
+    add-at
+    add-i
+    loop-less
+    loop-again
+    same-length
+    returns)

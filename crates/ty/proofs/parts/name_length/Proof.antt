@@ -1,0 +1,14 @@
+use borrow.Author.Tests.{eq-eqb, ne-eqb}
+use Rattle.ty.proofs.parts.name_length.Statement.{statement}
+use Rattle.ty.proofs.parts.name_length.Tie as tie
+use Rattle.ty.proofs.parts.name_length.Reads as reads
+use Rattle.ty.proofs.parts.name_length.Lts as lts
+
+returns : tie.Need-returns
+returns c = rw (eq-eqb _ _ (c .if1 .taken))
+
+returns-2 : tie.Need-returns-2
+returns-2 c = rw (ne-eqb _ _ (c .if1 .left))
+
+pub name-length-spec : {M : Type 1} → statement M
+name-length-spec = tie.close (tie.spec returns returns-2)

@@ -1,0 +1,90 @@
+use mathlib.Core.Path.{sym, ap, _∙_}
+use native.Mathlib.Omega.{arith}
+use mathlib.Core.List.{_++_}
+use Rattle.format.specs.Records.{boxStart, writeShape}
+use Rattle.format.specs.Outcome.{accepted, deliver}
+use Rattle.record.specs.Answers.{shapeFor}
+use Rattle.ty.specs.Parts.{partOf}
+use Rattle.ty.proofs.ContentLaws.{stretch-is, field-there}
+use Rattle.ty.proofs.RowLaws.{take-found, take-none}
+use borrow.Author.Needs.{needs}
+use Rattle.ty.proofs.rows.take_field.Statement.{statement}
+use Rattle.ty.proofs.rows.take_field.Tie as tie
+use Rattle.ty.proofs.rows.take_field.Reads as reads
+use Rattle.ty.proofs.rows.take_field.Lts as lts
+use Rattle.ty.proofs.parts.find_field.Reads as find-field-reads
+use Rattle.ty.proofs.rows.index_of.Reads as index-of-reads
+use Rattle.ty.proofs.rows.write_parts.Reads as write-parts-reads
+
+index-of-requires : tie.Need-index-of-requires
+index-of-requires c κs = search needs
+
+find-field-requires : tie.Need-find-field-requires
+find-field-requires c κs = search needs
+
+enum-known-part : tie.Need-enum-known-part
+enum-known-part c = search needs
+
+add-end : tie.Need-add-end
+add-end c = omega (arith, field-there (c .before .before .before .before .before .before .before .args .ty .now) (λ i. omega (arith, c .before .before .before .before .before .before .shared-slice-known .given i)) (c .before .before .before .before .before .before .before .pre) (c .before .before .before .before .index-of .result) (c .before .before .before .find-field .ensures ∙ ap (λ p. accepted (partOf p)) (c .before .part .given .1)))
+
+slice-aggregate-write-parts : tie.Need-slice-aggregate-write-parts
+slice-aggregate-write-parts c = search needs
+
+sub-write-parts : tie.Need-sub-write-parts
+sub-write-parts c = search needs
+
+part-write-parts-start : tie.Need-part-write-parts-start
+part-write-parts-start c = search needs
+
+part-write-parts-end : tie.Need-part-write-parts-end
+part-write-parts-end c = field-there (c .before .before .before .before .before .before .before .before .args .ty .now) (λ i. omega (arith, c .before .before .before .before .before .before .before .shared-slice-known .given i)) (c .before .before .before .before .before .before .before .before .pre) (c .before .before .before .before .before .index-of .result) (c .before .before .before .before .find-field .ensures ∙ ap (λ p. accepted (partOf p)) (c .before .before .part .given .1))
+
+write-parts-requires : tie.Need-write-parts-requires
+write-parts-requires c κs = search needs
+
+enum-told : tie.Need-enum-told
+enum-told c = search needs
+
+slice-aggregate-write-parts-2 : tie.Need-slice-aggregate-write-parts-2
+slice-aggregate-write-parts-2 c = search needs
+
+slice-aggregate-write-parts-3 : tie.Need-slice-aggregate-write-parts-3
+slice-aggregate-write-parts-3 c = search needs
+
+write-parts-requires-2 : tie.Need-write-parts-requires-2
+write-parts-requires-2 c κs = search needs
+
+same-length : tie.Need-same-length
+same-length c = search needs
+
+returns : tie.Need-returns
+returns c = c .before .before .write-parts .ensures ∙ (ap (λ w. deliver (accepted (writeShape (shapeFor (c .before .before .before .before .before .before .before .before .before .before .before .before .before .args .row)) ++ (boxStart 1 ++ w))) (c .before .before .before .before .before .before .before .before .before .before .before .before .before .args .result .now)) (stretch-is (c .before .before .before .before .before .before .before .before .before .before .before .before .before .args .ty .now) (c .before .before .before .before .before .before .before .part .given .0 .0) (c .before .before .before .before .before .before .before .part .given .0 .1 .0)) ∙ ap (λ o. deliver o (c .before .before .before .before .before .before .before .before .before .before .before .before .before .args .result .now)) (sym (take-found (c .before .before .before .before .before .before .before .before .before .before .before .before .before .args .ty .now) (λ i. omega (arith, c .before .before .before .before .before .before .before .before .before .before .before .before .shared-slice-known .given i)) (c .before .before .before .before .before .before .before .before .before .before .before .before .before .pre) (shapeFor (c .before .before .before .before .before .before .before .before .before .before .before .before .before .args .row)) (c .before .before .before .before .before .before .before .before .before .before .before .before .before .args .which) (c .before .before .before .before .before .before .before .before .before .before .index-of .ensures) (c .before .before .before .before .before .before .before .before .before .find-field .ensures ∙ ap (λ p. accepted (partOf p)) (c .before .before .before .before .before .before .before .part .given .1)))))
+
+same-length-2 : tie.Need-same-length-2
+same-length-2 c = search needs
+
+returns-2 : tie.Need-returns-2
+returns-2 c = c .before .before .write-parts2 .ensures ∙ ap (λ o. deliver o (c .before .before .before .before .before .before .before .before .before .before .before .before .args .result .now)) (sym (take-none (c .before .before .before .before .before .before .before .before .before .before .before .before .args .ty .now) (λ i. omega (arith, c .before .before .before .before .before .before .before .before .before .before .before .shared-slice-known .given i)) (c .before .before .before .before .before .before .before .before .before .before .before .before .pre) (shapeFor (c .before .before .before .before .before .before .before .before .before .before .before .before .args .row)) (c .before .before .before .before .before .before .before .before .before .before .before .before .args .which) (c .before .before .before .before .before .before .before .before .before .index-of .ensures) (c .before .before .before .before .before .before .before .before .find-field .ensures ∙ ap (λ p. accepted (partOf p)) (c .before .before .before .before .before .before .enum-told .given .1))))
+
+pub take-field-spec : {M : Type 1} → statement M
+take-field-spec =
+    tie.close
+    (tie.spec
+    index-of-requires
+    find-field-requires
+    enum-known-part
+    add-end
+    slice-aggregate-write-parts
+    sub-write-parts
+    part-write-parts-start
+    part-write-parts-end
+    write-parts-requires
+    enum-told
+    slice-aggregate-write-parts-2
+    slice-aggregate-write-parts-3
+    write-parts-requires-2
+    same-length
+    returns
+    same-length-2
+    returns-2)

@@ -1,0 +1,55 @@
+use mathlib.Core.Path.{refl, sym}
+use native.Mathlib.Omega.{arith}
+use Rattle.format.specs.Records.{writeShape}
+use Rattle.record.specs.Answers.{shapeFor}
+use Rattle.lent.specs.Delivers.{deliver-short, deliver-wrote}
+use Rattle.ty.proofs.RowLaws.{parts-length, lay-parts}
+use borrow.Author.Needs.{needs}
+use Rattle.ty.proofs.rows.write_parts.Statement.{statement}
+use Rattle.ty.proofs.rows.write_parts.Tie as tie
+use Rattle.ty.proofs.rows.write_parts.Reads as reads
+use Rattle.ty.proofs.rows.write_parts.Lts as lts
+use Rattle.lent.proofs.lay.Reads as lay-reads
+use Rattle.writer.proofs.put_shape.Reads as put-shape-reads
+use Rattle.writer.proofs.shape_length.Reads as shape-length-reads
+
+shape-length-requires : tie.Need-shape-length-requires
+shape-length-requires c κs = search needs
+
+add-last : tie.Need-add-last
+add-last c = search needs
+
+add-size : tie.Need-add-size
+add-size c = search needs
+
+returns : tie.Need-returns
+returns c = sym (deliver-short _ refl (omega (arith, c .if1 .taken, parts-length (writeShape (shapeFor (c .before .before .before .before .before .args .shape))) (c .before .before .before .before .before .args .head .now) (c .before .before .before .before .before .args .tail .now) (c .before .shape-length .ensures .0) refl refl)))
+
+put-shape-requires : tie.Need-put-shape-requires
+put-shape-requires c κs = search needs
+
+lay-requires : tie.Need-lay-requires
+lay-requires c κs = search needs
+
+lay-requires-2 : tie.Need-lay-requires-2
+lay-requires-2 c κs = search needs
+
+same-length : tie.Need-same-length
+same-length c = search needs
+
+returns-2 : tie.Need-returns-2
+returns-2 c = deliver-wrote _ refl (omega (arith, c .before .before .before .before .before .before .before .before .before .before .before .before .if1 .left, parts-length (writeShape (shapeFor (c .before .before .before .before .before .before .before .before .before .before .before .before .before .before .before .before .before .args .shape))) (c .before .before .before .before .before .before .before .before .before .before .before .before .before .before .before .before .before .args .head .now) (c .before .before .before .before .before .before .before .before .before .before .before .before .before .before .before .before .before .args .tail .now) (c .before .before .before .before .before .before .before .before .before .before .before .before .before .shape-length .ensures .0) refl refl)) (parts-length (writeShape (shapeFor (c .before .before .before .before .before .before .before .before .before .before .before .before .before .before .before .before .before .args .shape))) (c .before .before .before .before .before .before .before .before .before .before .before .before .before .before .before .before .before .args .head .now) (c .before .before .before .before .before .before .before .before .before .before .before .before .before .before .before .before .before .args .tail .now) (c .before .before .before .before .before .before .before .before .before .before .before .before .before .shape-length .ensures .0) refl refl) (lay-parts (writeShape (shapeFor (c .before .before .before .before .before .before .before .before .before .before .before .before .before .before .before .before .before .args .shape))) (c .before .before .before .before .before .before .before .before .before .before .before .before .before .before .before .before .before .args .head .now) (c .before .before .before .before .before .before .before .before .before .before .before .before .before .before .before .before .before .args .tail .now) (c .before .before .before .before .before .before .before .before .before .before .before .before .before .shape-length .ensures .0) refl refl (c .before .before .before .before .before .before .before .before .before .before .before .before .before .before .before .before .before .args .result .now) (c .before .before .before .before .before .before .before .before .before .before .before .before .if1 .left) (c .before .before .before .before .before .before .before .before .before .before .put-shape .ensures .1) (c .before .before .before .before .before .before .lay .ensures) (c .before .before .lay2 .ensures))
+
+pub write-parts-spec : {M : Type 1} → statement M
+write-parts-spec =
+    tie.close
+    (tie.spec
+    shape-length-requires
+    add-last
+    add-size
+    returns
+    put-shape-requires
+    lay-requires
+    lay-requires-2
+    same-length
+    returns-2)

@@ -1,0 +1,50 @@
+// A box as a list of types.
+use crate::ANY_TYPE;
+use crate::Boxes;
+use crate::copies::write_copies;
+use crate::parts::Held;
+use crate::parts::look_inside;
+use lent::Written;
+use lent::hand_over;
+use record::Lone;
+use record::lone_scalar;
+use record::lone_shape;
+use record::read_lone;
+use shape::row_count;
+ghost use mathlib.Core.Path.{_≡_};
+ghost use mathlib.Core.Option.{some};
+ghost use Rattle.format.specs.Outcome.{mapped, bound, lone};
+ghost use Rattle.lent.specs.Written.{writtenOf};
+ghost use Rattle.rules.specs.Types.{asBoxes};
+ghost use Rattle.ty.specs.Calls.{boxesOf, given, deliverBoxes};
+
+// A Def's name and fields; of another box as many copies of its content as there are rows; nothing for what is no box.
+pub fn as_boxes(ty: &[u8], result: &mut [u8]) -> Boxes
+    ensures { λ r. ⌜ given (boxesOf r) (now (result .exit)) ≡ deliverBoxes (bound asBoxes (lone (now (ty .entry)))) (now (result .entry)) ⌝ }
+{
+    let answer = read_lone(ty);
+    if let Lone::Refused { number, place } = answer {
+        return Boxes::Refused { number, place };
+    }
+    let rows = row_count(lone_shape(ty));
+    let held = look_inside(ty);
+    match held {
+        Held::Plain => Boxes::Nothing,
+        Held::BoxAny => offer(write_copies(&ANY_TYPE, rows, &mut *result)),
+        Held::BoxAll { start } => offer(write_copies(&ty[start..], rows, &mut *result)),
+        Held::BoxDef { start: _, count: _ } => {
+            let name = lone_scalar(ty) + 6;
+            offer(hand_over(&ty[name..], &mut *result))
+        }
+    }
+}
+
+// What was written, as an answer that could have been none.
+fn offer(written: Written) -> Boxes
+    ensures { λ r. ⌜ boxesOf r ≡ mapped some (writtenOf written) ⌝ }
+{
+    match written {
+        Written::Wrote(n) => Boxes::Wrote(n),
+        Written::Refused { number, place } => Boxes::Refused { number, place },
+    }
+}

@@ -1,0 +1,158 @@
+// The rows of a type.
+use crate::ANY_TYPE;
+use crate::BOX_START;
+use crate::parts::Held;
+use crate::parts::Part;
+use crate::parts::find_field;
+use crate::parts::look_inside;
+use lent::Written;
+use lent::lay;
+use limits::refusal::TOO_SHORT;
+use record::DynShape;
+use record::Lone;
+use record::lone_scalar;
+use record::lone_shape;
+use record::read_lone;
+use shape::into_row as shape_row;
+use shape::rank;
+use writer::put_shape;
+use writer::shape_length;
+ghost use mathlib.Core.Path.{_≡_};
+ghost use mathlib.Core.List.{_++_};
+ghost use Prim.Native.Nat.{_≤_};
+ghost use lib.ListN.{length};
+ghost use Rattle.format.specs.Records.{writeShape, writeTy};
+ghost use Rattle.format.specs.Outcome.{accepted, deliver, mapped, lone};
+ghost use Rattle.lent.specs.Written.{delivered};
+ghost use Rattle.record.specs.Answers.{shapeFor, nothing};
+ghost use Rattle.rules.specs.Types.{rowBy, intoRow, intoFirstRow, intoLastRow, intoNthRow};
+ghost use Rattle.ty.specs.Parts.{heldBy};
+ghost use Rattle.ty.specs.Rows.{chosen, indexOf, kept, taken};
+
+pub fn into_row(ty: &[u8], result: &mut [u8]) -> Written
+    ensures { λ r. ⌜ delivered r (now (result .exit)) ≡ deliver (mapped (λ t. writeTy (intoRow t)) (lone (now (ty .entry)))) (now (result .entry)) ⌝ }
+{
+    row_by(ty, Which::First, &mut *result)
+}
+
+pub fn into_first_row(ty: &[u8], result: &mut [u8]) -> Written
+    ensures { λ r. ⌜ delivered r (now (result .exit)) ≡ deliver (mapped (λ t. writeTy (intoFirstRow t)) (lone (now (ty .entry)))) (now (result .entry)) ⌝ }
+{
+    row_by(ty, Which::First, &mut *result)
+}
+
+pub fn into_last_row(ty: &[u8], result: &mut [u8]) -> Written
+    ensures { λ r. ⌜ delivered r (now (result .exit)) ≡ deliver (mapped (λ t. writeTy (intoLastRow t)) (lone (now (ty .entry)))) (now (result .entry)) ⌝ }
+{
+    row_by(ty, Which::Last, &mut *result)
+}
+
+// Row n, counted from 0.
+pub fn into_nth_row(ty: &[u8], n: u64, result: &mut [u8]) -> Written
+    ensures { λ r. ⌜ delivered r (now (result .exit)) ≡ deliver (mapped (λ t. writeTy (intoNthRow n t)) (lone (now (ty .entry)))) (now (result .entry)) ⌝ }
+{
+    row_by(ty, Which::Nth(n), &mut *result)
+}
+
+// Which field of a Def its row is made of.
+pub enum Which {
+    First,
+    Last,
+    Nth(u64),
+}
+
+// The row's shape, and at rank 1 a Def's field in a box; every other scalar stays.
+fn row_by(ty: &[u8], which: Which, result: &mut [u8]) -> Written
+    ensures { λ r. ⌜ delivered r (now (result .exit)) ≡ deliver (mapped (λ t. writeTy (rowBy (chosen which) t)) (lone (now (ty .entry)))) (now (result .entry)) ⌝ }
+{
+    let answer = read_lone(ty);
+    if let Lone::Refused { number, place } = answer {
+        return Written::Refused { number, place };
+    }
+    let shape = lone_shape(ty);
+    let row = shape_row(shape);
+    let ranked = rank(shape);
+    if ranked != 1 {
+        return keep_scalar(ty, row, &mut *result);
+    }
+    let held = look_inside(ty);
+    match held {
+        Held::Plain => keep_scalar(ty, row, &mut *result),
+        Held::BoxAny => keep_scalar(ty, row, &mut *result),
+        Held::BoxAll { start: _ } => keep_scalar(ty, row, &mut *result),
+        Held::BoxDef { start, count } => take_field(ty, row, start, count, which, &mut *result),
+    }
+}
+
+// The type's own scalar under the row's shape.
+fn keep_scalar(ty: &[u8], row: DynShape, result: &mut [u8]) -> Written
+    requires { ⌜ mapped nothing (lone (now ty)) ≡ accepted 0 ⌝ }
+    ensures { λ r. ⌜ delivered r (now (result .exit)) ≡ deliver (mapped (kept (shapeFor row)) (lone (now (ty .entry)))) (now (result .entry)) ⌝ }
+{
+    let start = lone_scalar(ty);
+    write_parts(row, b"", &ty[start..], &mut *result)
+}
+
+// A Def's field in a box under the row's shape, [..] of Any where it has none.
+fn take_field(
+    ty: &[u8],
+    row: DynShape,
+    start: usize,
+    count: u64,
+    which: Which,
+    result: &mut [u8],
+) -> Written
+    requires { ⌜ mapped heldBy (lone (now ty)) ≡ accepted (Held.BoxDef start count) ⌝ }
+    ensures { λ r. ⌜ delivered r (now (result .exit)) ≡ deliver (mapped (taken (shapeFor row) which) (lone (now (ty .entry)))) (now (result .entry)) ⌝ }
+{
+    let n = index_of(which, count);
+    let part = find_field(ty, start, count, n);
+    match part {
+        Part::At { start: at, length } => {
+            let end = at + length;
+            write_parts(row, &BOX_START, &ty[at..end], &mut *result)
+        }
+        Part::Nothing => write_parts(row, &BOX_START, &ANY_TYPE, &mut *result),
+    }
+}
+
+// The index of the field among so many: the first again where n is too large.
+fn index_of(which: Which, count: u64) -> u64
+    ensures { λ r. ⌜ r ≡ indexOf which count ⌝ }
+{
+    match which {
+        Which::First => 0,
+        Which::Last => {
+            if count == 0 {
+                return 0;
+            }
+            count - 1
+        }
+        Which::Nth(n) => {
+            if n < count {
+                return n;
+            }
+            0
+        }
+    }
+}
+
+// A shape's record, then the start of a scalar's, if any, and the rest of it.
+fn write_parts(shape: DynShape, head: &[u8], tail: &[u8], result: &mut [u8]) -> Written
+    requires { ⌜ length (now head) ≤ 6 ⌝ }
+    ensures { λ r. ⌜ delivered r (now (result .exit)) ≡ deliver (accepted (writeShape (shapeFor shape) ++ (now (head .entry) ++ now (tail .entry)))) (now (result .entry)) ⌝ }
+{
+    let middle = shape_length(shape);
+    let last = middle + head.len();
+    let size = last + tail.len();
+    if result.len() < size {
+        return Written::Refused {
+            number: TOO_SHORT,
+            place: 0,
+        };
+    }
+    put_shape(&mut *result, 0, shape);
+    lay(head, &mut *result, middle);
+    lay(tail, &mut *result, last);
+    Written::Wrote(size)
+}

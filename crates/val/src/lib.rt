@@ -13,6 +13,9 @@ pub use parts::scalar;
 pub use parts::spec;
 pub use parts::ty;
 use record::Dims;
+pub use rows::into_first_row;
+pub use rows::into_last_row;
+pub use rows::into_row;
 pub use sizes::as_dim;
 pub use sizes::as_dims;
 

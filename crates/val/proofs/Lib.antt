@@ -1,0 +1,7 @@
+mod WriteLaws
+mod NumberLaws
+mod HandedLaws
+mod PartLaws
+mod KindLaws
+mod RowLaws
+mod CountLaws

@@ -1,0 +1,53 @@
+-- What the writing functions lay down, and what they deliver.
+use Prim.Native.Nat.{ℕ, _+_, _≤_}
+use native.Mathlib.Omega.{arith}
+use native.Mathlib.Numerals.{unary-clauses}
+use mathlib.Core.List.{List, [], map}
+use mathlib.Core.Option.{none}
+use mathlib.Core.Path.{_≡_, refl, sym, _∙_, ap}
+use lib.ListN.{length, set, take, length-append}
+use lib.Seq.{sets, sets-eq}
+use Rattle.model.specs.Types.{Dim, shape, Kind, num, plain, ty}
+use Rattle.format.specs.ReaderLaws.{Bytes}
+use Rattle.format.specs.Records.{code, dimOf, writeShape, writeScalar, writeTy}
+use Rattle.format.specs.ReadWrite.{lone-write}
+use Rattle.format.specs.Outcome.{accepted, mapped, lone}
+use Rattle.lent.specs.Over.{over, over-over}
+use Rattle.record.specs.Answers.{nothing, dimsOf}
+use Rattle.record.specs.declared.Dims.{Dims}
+use Rattle.record.proofs.LoneLaws.{passed-accepted}
+use Rattle.val.specs.Answers.{kindRecord, closedRecord}
+use Rattle.val.specs.Values.{numTy}
+
+pub three-stores : (out : List ℕ) (at kind : ℕ) → at + 3 ≤ length out → set (set (set out at 0x53) (at + 1) 0x43) (at + 2) kind ≡ over out at (kindRecord kind)
+three-stores out at kind fits =
+    let stores : set (set (set out at 0x53) (at + 1) 0x43) (at + 2) kind ≡ sets out at (kindRecord kind) = simp unary-clauses in
+    stores ∙ sets-eq (kindRecord kind) out at fits
+
+module _ (ds : List Dim) (kind : ℕ) where
+  pub length-closed : length (closedRecord ds kind) ≡ length (writeShape (shape ds none)) + 3
+  length-closed = length-append (writeShape (shape ds none)) (kindRecord kind)
+
+  pub lay-closed : (out : List ℕ) {n : ℕ} {one two : List ℕ} → n ≡ length (writeShape (shape ds none)) → n + 3 ≤ length out → one ≡ over out 0 (writeShape (shape ds none)) → two ≡ over one n (kindRecord kind) → two ≡ over out 0 (closedRecord ds kind)
+  lay-closed out {n} {one} {two} place fits laid then =
+      let w : List ℕ = writeShape (shape ds none) in
+      let k : n ≡ 0 + length w = omega arith in
+      then ∙ ap (λ x. over x n (kindRecord kind)) laid ∙ ap (λ j. over (over out 0 w) j (kindRecord kind)) k ∙ over-over out 0 w (omega arith) (kindRecord kind)
+
+-- a closed type of a plain kind, by its kind's code
+pub write-closed : (ds : List Dim) (k : Kind) → writeTy (ty (shape ds none) (plain k)) ≡ closedRecord ds (code k)
+unfolding writeTy writeScalar
+write-closed ds k = refl
+
+-- [] Num
+pub write-num : (d : Dims) → d .count ≡ 0 → writeTy numTy ≡ closedRecord (dimsOf d) 3
+unfolding code
+write-num d h = write-closed [] num ∙ ap (λ n. closedRecord (map dimOf (take n (d .sizes))) 3) (sym h)
+
+pub write-plain : (k : Kind) → writeScalar (plain k) ≡ kindRecord (code k)
+unfolding writeScalar
+write-plain k = refl
+
+-- a type that is written again is its bytes
+pub write-same : (s : List ℕ) → Bytes s → mapped nothing (lone s) ≡ accepted 0 → mapped writeTy (lone s) ≡ accepted s
+write-same s small accepts = passed-accepted (lone s) accepts λ t e. rw e (ap accepted (lone-write s small t e .0))

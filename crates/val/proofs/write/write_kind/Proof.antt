@@ -1,0 +1,20 @@
+use mathlib.Core.Path.{refl, sym}
+use Rattle.lent.specs.Delivers.{deliver-short, deliver-wrote}
+use borrow.Author.Needs.{needs}
+use Rattle.val.proofs.write.write_kind.Statement.{statement}
+use Rattle.val.proofs.write.write_kind.Tie as tie
+
+returns : tie.Need-returns
+returns c = sym (deliver-short _ refl (c .if1 .taken))
+
+put-kind-requires : tie.Need-put-kind-requires
+put-kind-requires c κs = search needs
+
+same-length : tie.Need-same-length
+same-length c = search needs
+
+returns-2 : tie.Need-returns-2
+returns-2 c = deliver-wrote _ refl (c .before .before .before .before .if1 .left) refl (c .before .before .put-kind .ensures)
+
+pub write-kind-spec : {M : Type 1} → statement M
+write-kind-spec = tie.close (tie.spec returns put-kind-requires same-length returns-2)

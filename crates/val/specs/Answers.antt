@@ -1,0 +1,67 @@
+-- What is handed in, and what the answers of this crate say, in the terms of the definitions: for each case of each, the paper's number
+-- and values.
+use Prim.Native.Nat.{ℕ}
+use mathlib.Core.List.{List, _∷_, [], _++_}
+use mathlib.Core.Option.{Option, none, some}
+use lib.Ieee.{Float}
+use Rattle.model.specs.Types.{Dim, shape}
+use Rattle.format.specs.Records.{scalarMark, markBytes, dimOf, writeShape}
+use Rattle.format.specs.Outcome.{Outcome, accepted, refused, mapped, lone, delivery}
+use Rattle.record.specs.Answers.{dimsOf}
+use Rattle.val.specs.declared.Value as declared
+use Rattle.val.specs.declared.Value.the-variants.{Num, List as Listed, Of}
+use Rattle.val.specs.declared.Counted.{Counted}
+use Rattle.val.specs.declared.Counted.the-variants.{Count, Refused}
+use Rattle.val.specs.declared.MaybeDim.{MaybeDim}
+use Rattle.val.specs.declared.MaybeDim.the-variants.{Size, Nothing, Refused as RefusedDim}
+use Rattle.val.specs.declared.MaybeDims.{MaybeDims}
+use Rattle.val.specs.declared.MaybeDims.the-variants.{Sizes, Nothing as NothingListed, Refused as RefusedDims}
+use Rattle.val.specs.declared.DimsAnswer.{DimsAnswer}
+use Rattle.val.specs.declared.Row as declaredRow
+use Rattle.val.specs.declared.Row.the-variants.{Number, Wrote, Refused as RefusedRow}
+use Rattle.val.specs.Values.{Value, number, numbers, typed, RowDelivery, handed, written}
+
+-- A value by its case, with the list and the bytes that are lent beside it. A type's bytes are read first, and bytes that are no type
+-- get their refusal.
+abbrev pub valueOf : declared.Value → List Float → List ℕ → Outcome Value
+valueOf (Num x) list bytes = accepted (number x)
+valueOf Listed list bytes = accepted (numbers list)
+valueOf Of list bytes = mapped typed (lone bytes)
+
+-- a number of rows, of which all ones is ?
+abbrev pub countedDim : Counted → Outcome Dim
+countedDim (Count n) = accepted (dimOf n)
+countedDim (Refused k p) = refused k p
+
+abbrev pub countedNumber : Counted → Outcome ℕ
+countedNumber (Count n) = accepted n
+countedNumber (Refused k p) = refused k p
+
+-- all ones is ?
+abbrev pub maybeDim : MaybeDim → Outcome (Option Dim)
+maybeDim (Size n) = accepted (some (dimOf n))
+maybeDim Nothing = accepted none
+maybeDim (RefusedDim k p) = refused k p
+
+abbrev pub maybeDims : MaybeDims → List Dim → Outcome (Option (List Dim))
+maybeDims Sizes ds = accepted (some ds)
+maybeDims NothingListed ds = accepted none
+maybeDims (RefusedDims k p) ds = refused k p
+
+abbrev pub dimsAnswered : DimsAnswer → Outcome (Option (List Dim))
+dimsAnswered r = maybeDims (r .answer) (dimsOf (r .dims))
+
+-- what a row's answer and the result buffer say together
+abbrev pub rowDelivered : declaredRow.Row → List ℕ → RowDelivery
+rowDelivered (Number x) buffer = handed x buffer
+rowDelivered (Wrote n) buffer = written (delivery (accepted n) buffer)
+rowDelivered (RefusedRow k p) buffer = written (delivery (refused k p) buffer)
+
+-- ---- what helpers lay down
+
+-- a scalar's record by its kind's code, and a type's of these sizes, closed
+abbrev pub kindRecord : ℕ → List ℕ
+kindRecord kind = markBytes scalarMark ++ (kind ∷ [])
+
+abbrev pub closedRecord : List Dim → ℕ → List ℕ
+closedRecord ds kind = writeShape (shape ds none) ++ kindRecord kind

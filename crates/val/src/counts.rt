@@ -1,0 +1,65 @@
+// How many rows a value has, and its rank.
+use crate::Counted;
+use crate::Value;
+use limits::MAX_SIZE;
+use limits::refusal::OVERSIZED;
+use record::Lone;
+use record::lone_shape;
+use record::read_lone;
+ghost use mathlib.Core.Path.{_≡_};
+ghost use Rattle.model.specs.Types.{shapeOf};
+ghost use Rattle.format.specs.Outcome.{mapped, bound, lone};
+ghost use Rattle.rules.specs.Shapes.{rowCount, rank};
+ghost use Rattle.val.specs.Answers.{valueOf, countedDim, countedNumber};
+ghost use Rattle.val.specs.Values.{lengthDim, valueRowCount, valueRank};
+
+pub fn row_count(v: Value, list: &[f64], bytes: &[u8]) -> Counted
+    ensures { λ r. ⌜ countedDim r ≡ bound valueRowCount (valueOf v (now (list .entry)) (now (bytes .entry))) ⌝ }
+{
+    match v {
+        Value::Num(_) => Counted::Count(1),
+        Value::List => row_count_of_list(list),
+        Value::Of => row_count_of_type(bytes),
+    }
+}
+
+pub fn row_count_of_list(list: &[f64]) -> Counted
+    ensures { λ r. ⌜ countedDim r ≡ lengthDim (now (list .entry)) ⌝ }
+{
+    let n = list.len() as u64;
+    if MAX_SIZE < n {
+        return Counted::Refused {
+            number: OVERSIZED,
+            place: 0,
+        };
+    }
+    Counted::Count(n)
+}
+
+fn row_count_of_type(ty: &[u8]) -> Counted
+    ensures { λ r. ⌜ countedDim r ≡ mapped (λ t. rowCount (shapeOf t)) (lone (now (ty .entry))) ⌝ }
+{
+    if let Lone::Refused { number, place } = read_lone(ty) {
+        return Counted::Refused { number, place };
+    }
+    Counted::Count(shape::row_count(lone_shape(ty)))
+}
+
+pub fn rank(v: Value, list: &[f64], bytes: &[u8]) -> Counted
+    ensures { λ r. ⌜ countedNumber r ≡ mapped valueRank (valueOf v (now (list .entry)) (now (bytes .entry))) ⌝ }
+{
+    match v {
+        Value::Num(_) => Counted::Count(0),
+        Value::List => Counted::Count(1),
+        Value::Of => rank_of_type(bytes),
+    }
+}
+
+fn rank_of_type(ty: &[u8]) -> Counted
+    ensures { λ r. ⌜ countedNumber r ≡ mapped (λ t. rank (shapeOf t)) (lone (now (ty .entry))) ⌝ }
+{
+    if let Lone::Refused { number, place } = read_lone(ty) {
+        return Counted::Refused { number, place };
+    }
+    Counted::Count(shape::rank(lone_shape(ty)) as u64)
+}

@@ -1,0 +1,84 @@
+// The rows of a value, which are values again. A number is handed back as it came in. The contracts say so of its value, of which
+// a NaN has one; its bits are copied with it.
+use crate::Row;
+use crate::Value;
+use crate::write::write_closed;
+use lent::Written;
+use limits::NUM;
+use record::no_dims;
+ghost use mathlib.Core.List.{List};
+ghost use mathlib.Core.Path.{_≡_};
+ghost use Prim.Native.Nat.{ℕ};
+ghost use Rattle.format.specs.Outcome.{accepted, mapped};
+ghost use Rattle.lent.specs.Written.{delivered};
+ghost use Rattle.val.specs.Answers.{valueOf, rowDelivered};
+ghost use Rattle.val.specs.Values.{listRow, listFirst, listLast, valueRow, valueFirstRow, valueLastRow, written, deliverRow};
+
+pub fn into_row(v: Value, list: &[f64], bytes: &[u8], result: &mut [u8]) -> Row
+    ensures { λ r. ⌜ rowDelivered r (now (result .exit)) ≡ deliverRow (mapped valueRow (valueOf v (now (list .entry)) (now (bytes .entry)))) (now (result .entry)) ⌝ }
+{
+    match v {
+        Value::Num(x) => Row::Number(x),
+        Value::List => row_of_list(list, &mut *result),
+        Value::Of => as_row(ty::into_row(bytes, &mut *result)),
+    }
+}
+
+pub fn into_first_row(v: Value, list: &[f64], bytes: &[u8], result: &mut [u8]) -> Row
+    ensures { λ r. ⌜ rowDelivered r (now (result .exit)) ≡ deliverRow (mapped valueFirstRow (valueOf v (now (list .entry)) (now (bytes .entry)))) (now (result .entry)) ⌝ }
+{
+    match v {
+        Value::Num(x) => Row::Number(x),
+        Value::List => first_of_list(list, &mut *result),
+        Value::Of => as_row(ty::into_first_row(bytes, &mut *result)),
+    }
+}
+
+pub fn into_last_row(v: Value, list: &[f64], bytes: &[u8], result: &mut [u8]) -> Row
+    ensures { λ r. ⌜ rowDelivered r (now (result .exit)) ≡ deliverRow (mapped valueLastRow (valueOf v (now (list .entry)) (now (bytes .entry)))) (now (result .entry)) ⌝ }
+{
+    match v {
+        Value::Num(x) => Row::Number(x),
+        Value::List => last_of_list(list, &mut *result),
+        Value::Of => as_row(ty::into_last_row(bytes, &mut *result)),
+    }
+}
+
+// A list of one number is that number, any other list [] Num.
+fn row_of_list(list: &[f64], result: &mut [u8]) -> Row
+    ensures { λ r. ⌜ rowDelivered r (now (result .exit)) ≡ deliverRow (accepted (listRow (now (list .entry)))) (now (result .entry)) ⌝ }
+{
+    if list.len() == 1 {
+        return Row::Number(list[0]);
+    }
+    as_row(write_closed(no_dims(), NUM, &mut *result))
+}
+
+fn first_of_list(list: &[f64], result: &mut [u8]) -> Row
+    ensures { λ r. ⌜ rowDelivered r (now (result .exit)) ≡ deliverRow (accepted (listFirst (now (list .entry)))) (now (result .entry)) ⌝ }
+{
+    if list.len() == 0 {
+        return row_of_list(list, &mut *result);
+    }
+    Row::Number(list[0])
+}
+
+fn last_of_list(list: &[f64], result: &mut [u8]) -> Row
+    ensures { λ r. ⌜ rowDelivered r (now (result .exit)) ≡ deliverRow (accepted (listLast (now (list .entry)))) (now (result .entry)) ⌝ }
+{
+    if list.len() == 0 {
+        return row_of_list(list, &mut *result);
+    }
+    let last = list.len() - 1;
+    Row::Number(list[last])
+}
+
+// The row of a type, as it was written.
+fn as_row(w: Written) -> Row
+    ensures { λ r. ⌜ ((buffer : List ℕ) → rowDelivered r buffer ≡ written (delivered w buffer)) ⌝ }
+{
+    match w {
+        Written::Wrote(n) => Row::Wrote(n),
+        Written::Refused { number, place } => Row::Refused { number, place },
+    }
+}

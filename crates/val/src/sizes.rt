@@ -1,0 +1,79 @@
+// A number as a size, and a list of numbers as sizes.
+use crate::DimsAnswer;
+use crate::MaybeDim;
+use crate::MaybeDims;
+use crate::Value;
+use number::Answer;
+use number::Sized;
+use number::dims_of;
+use record::Dims;
+use record::Lone;
+use record::no_dims;
+use record::read_lone;
+ghost use mathlib.Core.Path.{_≡_};
+ghost use Rattle.format.specs.Outcome.{bound};
+ghost use Rattle.val.specs.Answers.{valueOf, maybeDim, dimsAnswered};
+ghost use Rattle.val.specs.Values.{number, numbers, valueAsDim, valueAsDims};
+
+// The size that a number stands for: either infinity is unknown.
+pub fn as_dim(v: Value, list: &[f64], bytes: &[u8]) -> MaybeDim
+    ensures { λ r. ⌜ maybeDim r ≡ bound valueAsDim (valueOf v (now (list .entry)) (now (bytes .entry))) ⌝ }
+{
+    match v {
+        Value::Num(x) => dim_of_number(x),
+        Value::List => MaybeDim::Nothing,
+        Value::Of => match read_lone(bytes) {
+            Lone::Accepted => MaybeDim::Nothing,
+            Lone::Refused { number, place } => MaybeDim::Refused { number, place },
+        },
+    }
+}
+
+fn dim_of_number(x: f64) -> MaybeDim
+    ensures { λ r. ⌜ maybeDim r ≡ valueAsDim (number x) ⌝ }
+{
+    match number::as_dim(x) {
+        Sized::Size(n) => MaybeDim::Size(n),
+        Sized::Refused(number) => MaybeDim::Refused { number, place: 0 },
+    }
+}
+
+// The sizes that a list stands for: minus infinity is refused.
+pub fn as_dims(v: Value, list: &[f64], bytes: &[u8]) -> DimsAnswer
+    ensures { λ r. ⌜ dimsAnswered r ≡ bound valueAsDims (valueOf v (now (list .entry)) (now (bytes .entry))) ⌝ }
+{
+    match v {
+        Value::Num(_) => without_dims(MaybeDims::Nothing),
+        Value::List => dims_of_list(list),
+        Value::Of => match read_lone(bytes) {
+            Lone::Accepted => without_dims(MaybeDims::Nothing),
+            Lone::Refused { number, place } => without_dims(MaybeDims::Refused { number, place }),
+        },
+    }
+}
+
+fn dims_of_list(list: &[f64]) -> DimsAnswer
+    ensures { λ r. ⌜ dimsAnswered r ≡ valueAsDims (numbers (now (list .entry))) ⌝ }
+{
+    let read = dims_of(list);
+    let answer = read.answer;
+    match answer {
+        Answer::Count(count) => {
+            let sizes = read.list;
+            DimsAnswer {
+                answer: MaybeDims::Sizes,
+                dims: Dims { sizes, count },
+            }
+        }
+        Answer::Refused { number, place } => without_dims(MaybeDims::Refused { number, place }),
+    }
+}
+
+fn without_dims(answer: MaybeDims) -> DimsAnswer
+    ensures { λ r. ⌜ r .answer ≡ answer ⌝ }
+{
+    DimsAnswer {
+        answer,
+        dims: no_dims(),
+    }
+}

@@ -1,0 +1,86 @@
+// What the answers of this crate are written by: closed types of a plain kind, and a type's own bytes.
+use lent::Written;
+use lent::hand_over;
+use limits::MAX_SIZES;
+use limits::refusal::TOO_SHORT;
+use record::Dims;
+use record::DynShape;
+use record::Lone;
+use record::no_dims;
+use record::read_lone;
+use writer::put_shape;
+use writer::shape_length;
+ghost use mathlib.Core.Path.{_≡_};
+ghost use mathlib.Core.List.{[], _∷_};
+ghost use Prim.Native.Nat.{_+_, _≤_};
+ghost use lib.ListN.{length};
+ghost use Rattle.format.specs.Records.{dimOf, writeTy};
+ghost use Rattle.format.specs.Outcome.{accepted, deliver, mapped, lone};
+ghost use Rattle.lent.specs.Over.{over};
+ghost use Rattle.lent.specs.Written.{delivered};
+ghost use Rattle.record.specs.Answers.{dimsOf};
+ghost use Rattle.val.specs.Answers.{kindRecord, closedRecord};
+
+// A closed type of these sizes, whose scalar is plain and has the kind's code.
+pub fn write_closed(dims: Dims, kind: u8, result: &mut [u8]) -> Written
+    ensures { λ r. ⌜ delivered r (now (result .exit)) ≡ deliver (accepted (closedRecord (dimsOf dims) kind)) (now (result .entry)) ⌝ }
+{
+    let shape = DynShape {
+        dims,
+        suffix: no_dims(),
+        closed: true,
+    };
+    let n = shape_length(shape);
+    if result.len() < n + 3 {
+        return Written::Refused {
+            number: TOO_SHORT,
+            place: 0,
+        };
+    }
+    put_shape(&mut *result, 0, shape);
+    put_kind(&mut *result, n, kind);
+    Written::Wrote(n + 3)
+}
+
+// A plain scalar, of the kind's code.
+pub fn write_kind(kind: u8, result: &mut [u8]) -> Written
+    ensures { λ r. ⌜ delivered r (now (result .exit)) ≡ deliver (accepted (kindRecord kind)) (now (result .entry)) ⌝ }
+{
+    if result.len() < 3 {
+        return Written::Refused {
+            number: TOO_SHORT,
+            place: 0,
+        };
+    }
+    put_kind(&mut *result, 0, kind);
+    Written::Wrote(3)
+}
+
+fn put_kind(out: &mut [u8], at: usize, kind: u8)
+    requires { ⌜ at + 3 ≤ length (now out) ⌝ }
+    ensures { λ _. ⌜ now (out .exit) ≡ over (now (out .entry)) at (kindRecord kind) ⌝ }
+{
+    out[at] = 0x53;
+    out[at + 1] = 0x43;
+    out[at + 2] = kind;
+}
+
+// A type as it was handed in.
+pub fn write_same(ty: &[u8], result: &mut [u8]) -> Written
+    ensures { λ r. ⌜ delivered r (now (result .exit)) ≡ deliver (mapped writeTy (lone (now (ty .entry)))) (now (result .entry)) ⌝ }
+{
+    let answer = read_lone(ty);
+    if let Lone::Refused { number, place } = answer {
+        return Written::Refused { number, place };
+    }
+    hand_over(ty, &mut *result)
+}
+
+// The list of one size.
+pub fn one_dim(size: u64) -> Dims
+    ensures { λ r. ⌜ dimsOf r ≡ dimOf size ∷ [] ⌝ }
+{
+    let mut sizes = [0u64; MAX_SIZES];
+    sizes[0] = size;
+    Dims { sizes, count: 1 }
+}

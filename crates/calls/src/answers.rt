@@ -3,6 +3,7 @@ use crate::words::nth;
 use crate::words::part;
 use lent::Written;
 use limits::UNKNOWN;
+use order::Comparison;
 use shape::Order;
 use shape_calls::Compared;
 use shape_calls::Counted;
@@ -57,6 +58,23 @@ pub fn tested(answer: Tested) -> Answer {
         Tested::Yes => Answer::Number(1),
         Tested::No => Answer::Number(0),
         Tested::Refused { number, place } => Answer::Refused { number, place },
+    }
+}
+
+pub fn told(answer: scalar::Tested) -> Answer {
+    match answer {
+        scalar::Tested::Yes => Answer::Number(1),
+        scalar::Tested::No => Answer::Number(0),
+        scalar::Tested::Refused { number, place } => Answer::Refused { number, place },
+    }
+}
+
+pub fn compared(answer: Comparison) -> Answer {
+    match answer {
+        Comparison::Less => Answer::Less,
+        Comparison::Same => Answer::Number(0),
+        Comparison::More => Answer::Number(1),
+        Comparison::Refused { number, place } => Answer::Refused { number, place },
     }
 }
 

@@ -1,14 +1,20 @@
 // NAME HEX HEX: requests on two types.
 use crate::answers::Answer;
 use crate::answers::Fault;
+use crate::answers::compared;
 use crate::answers::delivered;
 use crate::answers::tested;
+use crate::answers::told;
 use crate::arguments::hex;
 use crate::words::Found;
 use crate::words::count;
 use crate::words::find;
 use crate::words::nth;
 use crate::words::part;
+use order::compare;
+use scalar::compatible_scalars;
+use scalar::compatible_with_boxes;
+use scalar::superset;
 use shape_calls::compatible_shapes;
 use shape_calls::join_shapes;
 use shape_calls::merge;
@@ -16,7 +22,10 @@ use text::Decoded;
 
 // In the order of `call`'s arms.
 pub fn number(name: &[u8]) -> Found {
-    find(b"merge join_shapes compatible_shapes", name)
+    find(
+        b"merge join_shapes compatible_shapes superset compatible_scalars compatible_with_boxes compare",
+        name,
+    )
 }
 
 pub fn answered(k: usize, line: &[u8], input: &mut [u8], result: &mut [u8]) -> Answer {
@@ -44,6 +53,10 @@ fn call(k: usize, a: &[u8], b: &[u8], result: &mut [u8]) -> Answer {
         0 => delivered(merge(a, b, result)),
         1 => delivered(join_shapes(a, b, result)),
         2 => tested(compatible_shapes(a, b)),
+        3 => told(superset(a, b)),
+        4 => told(compatible_scalars(a, b)),
+        5 => told(compatible_with_boxes(a, b)),
+        6 => compared(compare(a, b)),
         _ => Answer::Bad(Fault::Request),
     }
 }

@@ -17,12 +17,15 @@ use lines::feed;
 use lines::last_line;
 use words::part;
 
-// A line has at most 131,072 bytes, so its hexadecimal arguments stand for at most 65,536 in all. No answer has more
-// than 163,840.
+// Bytes of a line, its line feed not counted.
+const MAX_LINE: usize = 131072;
+
+// A line is held with one byte more, by which it is too long. The bytes that its arguments stand for take two digits
+// each. A result has room for the longest answer, the list of a type's boxes.
 fn main() {
     let mut chunk = [0u8; 65536];
-    let mut line = [0u8; 131073];
-    let mut input = [0u8; 65536];
+    let mut line = [0u8; MAX_LINE + 1];
+    let mut input = [0u8; MAX_LINE / 2];
     let mut result = [0u8; 163840];
     let mut out = [0u8; 65536];
     serve(&mut chunk, &mut line, &mut input, &mut result, &mut out);

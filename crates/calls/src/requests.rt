@@ -1,4 +1,5 @@
 // The requests by the arguments that they take. A request's number is its place among those that take the same.
+use crate::MAX_LINE;
 use crate::answers::Answer;
 use crate::answers::Fault;
 use crate::one_type;
@@ -9,8 +10,6 @@ use crate::sizes;
 use crate::two_types;
 use crate::words::Found;
 use crate::words::nth;
-
-const MAX_LINE: usize = 131072;
 
 pub fn answered(line: &[u8], input: &mut [u8], result: &mut [u8]) -> Answer {
     if MAX_LINE < line.len() {

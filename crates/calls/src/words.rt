@@ -26,17 +26,40 @@ pub fn count(text: &[u8]) -> usize {
 
 // The k-th word, from 0.
 pub fn nth(text: &[u8], k: usize) -> &[u8] {
+    let at = start(text, k);
+    if at <= text.len() {
+        return part(text, at, find_space(text, at));
+    }
+    part(text, 0, 0)
+}
+
+// Where the k-th word starts. Past the text's end, where it has fewer.
+pub fn start(text: &[u8], k: usize) -> usize {
     let mut left = k;
     let mut at = 0usize;
     while at <= text.len() {
-        let end = find_space(text, at);
         if left == 0 {
-            return part(text, at, end);
+            return at;
         }
+        at = find_space(text, at) + 1;
         left -= 1;
-        at = end + 1;
     }
-    part(text, 0, 0)
+    at
+}
+
+// Where the word that starts at a place ends.
+pub fn find_space(text: &[u8], from: usize) -> usize
+    requires { ⌜ from ≤ length (now text) ⌝ }
+    ensures { λ r. ⌜ (from ≤ r) × (r ≤ length (now (text .entry))) ⌝ }
+{
+    let mut i = from;
+    while i < text.len() {
+        if text[i] == 32 {
+            return i;
+        }
+        i += 1;
+    }
+    i
 }
 
 pub fn find(list: &[u8], word: &[u8]) -> Found {
@@ -69,19 +92,4 @@ pub fn front(s: &mut [u8], n: usize) -> &mut [u8] {
         return &mut s[..n];
     }
     s
-}
-
-// Where the word that starts at a place ends.
-fn find_space(text: &[u8], from: usize) -> usize
-    requires { ⌜ from ≤ length (now text) ⌝ }
-    ensures { λ r. ⌜ (from ≤ r) × (r ≤ length (now (text .entry))) ⌝ }
-{
-    let mut i = from;
-    while i < text.len() {
-        if text[i] == 32 {
-            return i;
-        }
-        i += 1;
-    }
-    i
 }

@@ -2,8 +2,8 @@
 use crate::MAX_LINE;
 use crate::answers::Answer;
 use crate::answers::Fault;
-use crate::one_type;
 use crate::numbered;
+use crate::one_type;
 use crate::pervading;
 use crate::records;
 use crate::sizes;

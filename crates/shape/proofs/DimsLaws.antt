@@ -4,7 +4,7 @@ use native.Mathlib.Omega.{arith}
 use native.Mathlib.Numerals.{add-one, one-add}
 use mathlib.Core.Bool.{Bool, true, false, not, _&&_}
 use mathlib.Core.List.{List, [], _∷_, _++_, map}
-use mathlib.Core.Option.{Option, none, some, Option·map}
+use mathlib.Core.Option.{Option, none, some}
 use mathlib.Core.Path.{_≡_, refl, sym, _∙_, ap}
 use lib.ListN.{length, take, drop, getD, set, getElem?, length-drop}
 use lib.Seq.{take-suc, take-suc-set, take-length, getD-drop}
@@ -14,8 +14,6 @@ use Rattle.format.specs.Records.{dimOf}
 use Rattle.record.specs.Answers.{dimsOf}
 use Rattle.record.specs.declared.Dims.{Dims}
 use Rattle.rules.specs.Sizes.{larger, rowCompatible, joinDim}
-use Rattle.rules.specs.Pervade.{againstAbsent, together}
-use Rattle.rules.specs.PervadeSteps.{pervadeAt}
 use Rattle.rules.specs.Shapes.{compatibleDims, mergeDims, joinDims, joinEnds}
 use Rattle.rules.specs.ShapesLaws.{compatible-counts, merge-length, join-length, joinEnds-length}
 use Rattle.rules.specs.ShapesSteps.{compatible-step, mergeAt, merge-at, join-at, fromEnd, joinEnds-at}
@@ -57,24 +55,6 @@ merge-alone e f = rw (← e, ← f)
 
 pub merge-both : {x y : Option Dim} {d e r : Dim} → some d ≡ x → some e ≡ y → r ≡ larger d e → r ≡ mergeAt x y
 merge-both h k w = rw (← h, ← k) w
-
-module _ (f g : Bool) {x y r : Option Dim} where
-  pub pervade-absent : {s : Option Dim} → none ≡ x → s ≡ y → r ≡ Option·map againstAbsent s → r ≡ pervadeAt f g x y
-  pervade-absent {s} e h w = rw (← e, ← h) (w ∙ go s)
-    where
-      go : (s : Option Dim) → Option·map againstAbsent s ≡ pervadeAt f g none s
-      go none = refl
-      go (some d) = refl
-
-  pub pervade-alone : {s : Option Dim} → s ≡ x → none ≡ y → r ≡ Option·map againstAbsent s → r ≡ pervadeAt f g x y
-  pervade-alone {s} h e w = rw (← e, ← h) (w ∙ go s)
-    where
-      go : (s : Option Dim) → Option·map againstAbsent s ≡ pervadeAt f g s none
-      go none = refl
-      go (some d) = refl
-
-  pub pervade-both : {d e : Dim} → some d ≡ x → some e ≡ y → r ≡ together f g d e → r ≡ pervadeAt f g x y
-  pervade-both h k w = rw (← h, ← k) w
 
 module _ (l : List Dim) (i : ℕ) where
   pub end-past : length l < i → unknown ≡ fromEnd i l

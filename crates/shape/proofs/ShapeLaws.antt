@@ -8,15 +8,10 @@ use mathlib.Core.Path.{_≡_, refl, sym}
 use lib.Dec.{eqb}
 use lib.ListN.{length, drop, getElem?}
 use borrow.Author.Tests.{ne-eqb}
-use Rattle.model.specs.Types.{Dim, static, unknown, Shape, shape}
+use Rattle.model.specs.Types.{Dim, static, unknown, shape}
 use Rattle.record.specs.Answers.{dimsOf, closingFor}
-use Rattle.record.specs.declared.Dims.{Dims}
 use Rattle.record.specs.declared.DynShape.{DynShape}
 use Rattle.rules.specs.Shapes.{isScalar, isAny, rowCount, rank, rowShape, mergeDims, mergeClosing, joinDims, joinEnds, joinClosing, joinShapes}
-use Rattle.rules.specs.Pervade.{pervadeDims, pervadeClosing, pervade}
-use Rattle.shape.specs.Answers.{sizesBeside, shapeBeside}
-use Rattle.shape.specs.declared.Verdict.{Verdict}
-use Rattle.shape.specs.declared.Verdict.the-variants.{Pervaded as Pervades, Clash}
 
 module _ (s : DynShape) where
   pub closed-is : s .closed ≡ true → closingFor s ≡ none
@@ -124,47 +119,3 @@ module _ (o p : List Dim) where
   unfolding joinShapes joinClosing
   join-open true m w e v = rw (e, w)
   join-open false m w e v = rw (e, w, v)
-
--- ---- closing sizes of a pervading
-
-pub pervade-first : {c : Option (List Dim)} (d : Option (List Dim)) → c ≡ none → pervadeClosing c d ≡ d
-unfolding pervadeClosing
-pervade-first d e = rw e
-
-pub pervade-second : {c d : Option (List Dim)} {l : List Dim} → c ≡ some l → d ≡ none → pervadeClosing c d ≡ some l
-unfolding pervadeClosing
-pervade-second e f = rw (e, f)
-
-module _ {c d : Option (List Dim)} {l m : List Dim} (e : c ≡ some l) (f : d ≡ some m) where
-  pub pervade-empty : length l ≡ 0 → pervadeClosing c d ≡ some m
-  unfolding pervadeClosing
-  pervade-empty h = rw (e, f) (go l h)
-    where
-      go : (l : List Dim) → length l ≡ 0 → pervadeClosing (some l) (some m) ≡ some m
-      go [] h = refl
-      go (x ∷ l) h = absurd (omega arith)
-
-  pub pervade-named : (length l ≡ 0 → ⊥) → length m ≡ 0 → pervadeClosing c d ≡ some l
-  unfolding pervadeClosing
-  pervade-named h k = rw (e, f) (go l m h k)
-    where
-      go : (l m : List Dim) → (length l ≡ 0 → ⊥) → length m ≡ 0 → pervadeClosing (some l) (some m) ≡ some l
-      go [] m h k = absurd (h refl)
-      go (x ∷ l) [] h k = refl
-      go (x ∷ l) (y ∷ m) h k = absurd (omega arith)
-
-  pub pervade-twice : (r : Dims) → (length l ≡ 0 → ⊥) → (length m ≡ 0 → ⊥) → r .count ≡ 0 → pervadeClosing c d ≡ some (dimsOf r)
-  unfolding pervadeClosing
-  pervade-twice r h k n = rw (e, f, n) (go l m h k)
-    where
-      go : (l m : List Dim) → (length l ≡ 0 → ⊥) → (length m ≡ 0 → ⊥) → pervadeClosing (some l) (some m) ≡ some []
-      go [] m h k = absurd (h refl)
-      go (x ∷ l) [] h k = absurd (k refl)
-      go (x ∷ l) (y ∷ m) h k = refl
-
--- ---- pervading
-
-pub pervade-beside : (f g : Bool) (o p : List Dim) (c d : Option (List Dim)) (v : Verdict) {l : List Dim} {s : Shape} → sizesBeside v l ≡ pervadeDims f g o p → s ≡ shape l (pervadeClosing c d) → shapeBeside v s ≡ pervade f g (shape o c) (shape p d)
-unfolding pervade
-pervade-beside f g o p c d Pervades e h = rw (h, ← e)
-pervade-beside f g o p c d (Clash i) e h = rw (← e)

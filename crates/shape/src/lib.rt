@@ -1,5 +1,6 @@
-// Sizes and shapes (shape.rs) and their pervading: the rules on sizes and shapes by value, and the public calls on bytes.
+// Sizes, lists of sizes and shapes by value (the Rust's shape.rs), and their pervading.
 mod dims;
+mod pervade;
 mod shapes;
 mod sizes;
 
@@ -7,8 +8,9 @@ pub use dims::compatible_dims;
 pub use dims::join_dims;
 pub use dims::join_ends;
 pub use dims::merge_dims;
-pub use dims::pervade_dims;
 pub use dims::rest_dims;
+pub use pervade::pervade_dims;
+pub use pervade::pervade_dyn_shapes;
 use record::Dims;
 use record::DynShape;
 pub use shapes::compatible_with;
@@ -17,7 +19,6 @@ pub use shapes::is_any;
 pub use shapes::is_scalar;
 pub use shapes::join;
 pub use shapes::merge_from;
-pub use shapes::pervade_dyn_shapes;
 pub use shapes::rank;
 pub use shapes::row_count;
 pub use sizes::cmp;
@@ -35,13 +36,13 @@ pub enum Order {
 }
 
 // What stands at an index of a list.
-pub enum Slot {
+enum Slot {
     Absent,
     Size(u64),
 }
 
 // What one index of a pervading gives.
-pub enum Cell {
+enum Cell {
     Gives(u64),
     Refuses,
 }

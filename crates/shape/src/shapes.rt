@@ -1,17 +1,14 @@
-// Shapes by value: the methods of `DynShape` and its join, and the pervading of two.
-use crate::ShapePervaded;
+// Shapes by value: the methods of `DynShape` and its join.
 use crate::Slot;
 use crate::dims::compatible_dims;
 use crate::dims::get;
 use crate::dims::join_dims;
 use crate::dims::join_ends;
 use crate::dims::merge_dims;
-use crate::dims::pervade_dims;
 use crate::dims::rest_dims;
 use limits::UNKNOWN;
 use record::Dims;
 use record::DynShape;
-use record::no_dims;
 use writer::size_count;
 ghost use mathlib.Core.Path.{_≡_};
 ghost use mathlib.Core.Bool.{cond};
@@ -21,8 +18,6 @@ ghost use Rattle.model.specs.Types.{shape};
 ghost use Rattle.format.specs.Records.{dimOf};
 ghost use Rattle.record.specs.Answers.{dimsOf, closingFor, shapeFor};
 ghost use Rattle.rules.specs.Shapes.{isScalar, isAny, rowCount, rank, rowShape, compatibleShapes, mergeClosing, mergeFrom, joinShapes};
-ghost use Rattle.rules.specs.Pervade.{pervadeClosing, pervade};
-ghost use Rattle.shape.specs.Answers.{shapePervadedOf};
 
 // The first opening size; without one, unknown if open, else 1.
 pub fn row_count(shape: DynShape) -> u64
@@ -136,40 +131,8 @@ pub fn join(a: DynShape, b: DynShape) -> DynShape
     of_parts(dims, suffix, b.closed)
 }
 
-pub fn pervade_dyn_shapes(a: DynShape, b: DynShape, a_fill: bool, b_fill: bool) -> ShapePervaded
-    ensures { λ r. ⌜ shapePervadedOf r ≡ pervade «a_fill» «b_fill» (shapeFor a) (shapeFor b) ⌝ }
-{
-    let a_dims = a.dims;
-    let b_dims = b.dims;
-    let walk = pervade_dims(a_dims, b_dims, a_fill, b_fill);
-    let answer = walk.answer;
-    let dims = walk.dims;
-    let shape = pervade_closing(dims, a, b);
-    ShapePervaded { answer, shape }
-}
-
-// An absent closing list yields to the other's, an empty one to a named one only; two named ones give an empty one.
-fn pervade_closing(dims: Dims, a: DynShape, b: DynShape) -> DynShape
-    ensures { λ r. ⌜ shapeFor r ≡ shape (dimsOf dims) (pervadeClosing (closingFor a) (closingFor b)) ⌝ }
-{
-    let a_suffix = a.suffix;
-    let b_suffix = b.suffix;
-    if a.closed {
-        return of_parts(dims, b_suffix, b.closed);
-    }
-    if b.closed {
-        return of_parts(dims, a_suffix, false);
-    }
-    if size_count(a_suffix) == 0 {
-        return of_parts(dims, b_suffix, false);
-    }
-    if size_count(b_suffix) == 0 {
-        return of_parts(dims, a_suffix, false);
-    }
-    of_parts(dims, no_dims(), false)
-}
-
-fn of_parts(dims: Dims, suffix: Dims, closed: bool) -> DynShape
+// A shape of its parts; closing sizes of a closed one say nothing.
+pub fn of_parts(dims: Dims, suffix: Dims, closed: bool) -> DynShape
     ensures { λ r. ⌜ shapeFor r ≡ shape (dimsOf dims) (cond closed none (some (dimsOf suffix))) ⌝ }
 {
     DynShape {

@@ -7,10 +7,10 @@ use mathlib.Core.List.{[]}
 use mathlib.Core.Logic.{⊎-elim}
 use Rattle.record.specs.Answers.{dimsOf}
 use Rattle.shape.specs.Answers.{cellOf}
-use Rattle.shape.proofs.WalkLaws.{Walked, walk-start, walk-more, walk-stop, walk-end}
+use Rattle.shape.proofs.PervadeLaws.{Walked, walk-start, walk-more, walk-stop, walk-end}
 use Rattle.rules.specs.Pervade.{clash}
-use Rattle.shape.proofs.dims.pervade_dims.Statement.{statement}
-use Rattle.shape.proofs.dims.pervade_dims.Tie as tie
+use Rattle.shape.proofs.pervade.pervade_dims.Statement.{statement}
+use Rattle.shape.proofs.pervade.pervade_dims.Tie as tie
 
 abbrev Inv-loop : tie.InvT-loop
 Inv-loop a b fill-a fill-b count sizes₀ i₀ sizes i = (i ≤ count) × (length sizes ≡ 8) × Walked fill-a fill-b (dimsOf a) (dimsOf b) sizes i

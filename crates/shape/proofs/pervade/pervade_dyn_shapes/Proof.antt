@@ -1,8 +1,8 @@
 use Rattle.record.specs.Answers.{dimsOf, closingFor}
-use Rattle.shape.proofs.ShapeLaws.{pervade-beside}
+use Rattle.shape.proofs.PervadeLaws.{pervade-beside}
 use borrow.Author.Needs.{needs}
-use Rattle.shape.proofs.shapes.pervade_dyn_shapes.Statement.{statement}
-use Rattle.shape.proofs.shapes.pervade_dyn_shapes.Tie as tie
+use Rattle.shape.proofs.pervade.pervade_dyn_shapes.Statement.{statement}
+use Rattle.shape.proofs.pervade.pervade_dyn_shapes.Tie as tie
 
 pervade-dims-requires : tie.Need-pervade-dims-requires
 pervade-dims-requires c κs = search needs

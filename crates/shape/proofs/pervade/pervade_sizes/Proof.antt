@@ -1,9 +1,9 @@
 use mathlib.Core.Path.{sym, ap, _∙_}
 use Rattle.shape.specs.Answers.{orderOf}
-use Rattle.shape.proofs.SizeLaws.{together-first, together-second, together-unknown, together-static, together-order}
+use Rattle.shape.proofs.PervadeLaws.{together-first, together-second, together-unknown, together-static, together-order}
 use borrow.Author.Needs.{needs}
-use Rattle.shape.proofs.dims.pervade_sizes.Statement.{statement}
-use Rattle.shape.proofs.dims.pervade_sizes.Tie as tie
+use Rattle.shape.proofs.pervade.pervade_sizes.Statement.{statement}
+use Rattle.shape.proofs.pervade.pervade_sizes.Tie as tie
 
 returns : tie.Need-returns
 returns c = sym (together-first (c .before .args .fill-a) (c .before .args .fill-b) (c .before .args .a) (c .before .args .b) (c .if1 .taken))

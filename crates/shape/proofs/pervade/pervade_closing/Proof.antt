@@ -1,10 +1,11 @@
 use mathlib.Core.Path.{sym, ap, _∙_}
 use Rattle.record.specs.Answers.{dimsOf, closingFor}
 use Rattle.model.specs.Types.{shape}
-use Rattle.shape.proofs.ShapeLaws.{closed-is, open-is, pervade-first, pervade-second, pervade-empty, pervade-named, pervade-twice}
+use Rattle.shape.proofs.ShapeLaws.{closed-is, open-is}
+use Rattle.shape.proofs.PervadeLaws.{pervade-first, pervade-second, pervade-empty, pervade-named, pervade-twice}
 use borrow.Author.Needs.{needs}
-use Rattle.shape.proofs.shapes.pervade_closing.Statement.{statement}
-use Rattle.shape.proofs.shapes.pervade_closing.Tie as tie
+use Rattle.shape.proofs.pervade.pervade_closing.Statement.{statement}
+use Rattle.shape.proofs.pervade.pervade_closing.Tie as tie
 
 of-parts-requires : tie.Need-of-parts-requires
 of-parts-requires c κs = search needs

@@ -2,8 +2,8 @@ use borrow.Author.Tests.{ne-eqb}
 use Rattle.rules.specs.Pervade.{againstAbsent}
 use Rattle.shape.proofs.SizeLaws.{one-number}
 use borrow.Author.Needs.{needs}
-use Rattle.shape.proofs.dims.against_absent.Statement.{statement}
-use Rattle.shape.proofs.dims.against_absent.Tie as tie
+use Rattle.shape.proofs.pervade.against_absent.Statement.{statement}
+use Rattle.shape.proofs.pervade.against_absent.Tie as tie
 
 enum-known-x : tie.Need-enum-known-x
 enum-known-x c = search needs

@@ -1,6 +1,6 @@
 use borrow.Author.Needs.{needs}
-use Rattle.shape.proofs.dims.where_filled.Statement.{statement}
-use Rattle.shape.proofs.dims.where_filled.Tie as tie
+use Rattle.shape.proofs.pervade.where_filled.Statement.{statement}
+use Rattle.shape.proofs.pervade.where_filled.Tie as tie
 
 returns : tie.Need-returns
 returns c = rw (c .if1 .taken)

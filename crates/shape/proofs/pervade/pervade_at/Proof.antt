@@ -1,9 +1,9 @@
 use mathlib.Core.Path.{sym, ap, _∙_}
 use Rattle.shape.specs.Answers.{slotOf}
-use Rattle.shape.proofs.DimsLaws.{pervade-absent, pervade-alone, pervade-both}
+use Rattle.shape.proofs.PervadeLaws.{pervade-absent, pervade-alone, pervade-both}
 use borrow.Author.Needs.{needs}
-use Rattle.shape.proofs.dims.pervade_at.Statement.{statement}
-use Rattle.shape.proofs.dims.pervade_at.Tie as tie
+use Rattle.shape.proofs.pervade.pervade_at.Statement.{statement}
+use Rattle.shape.proofs.pervade.pervade_at.Tie as tie
 
 get-requires : tie.Need-get-requires
 get-requires c κs = search needs

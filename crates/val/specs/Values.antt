@@ -1,5 +1,6 @@
 -- A value handed in is a number, a list of numbers or a type (document 01, "val.rs", in its order): `ty`, `spec`, `scalar`, `row_count`,
--- `rank`, `as_dim`, `as_dims` and the three rows. Where the length of a list becomes a size, it is refused 4 above 2^53, at place 0.
+-- `rank`, `as_dim`, `as_dims` and the three rows. Where the length of a list becomes a size, in `ty` and `row_count`, it is refused 4
+-- above 2^53, at place 0.
 use Prim.Native.Nat.{ℕ, zero, suc}
 use mathlib.Core.Bool.{cond}
 use mathlib.Core.List.{List, [], _∷_, map}
@@ -97,6 +98,7 @@ valueRank (typed t) = rank (shapeOf t)
 
 -- ---- `as_dim` and `as_dims`
 
+-- None for anything but a number, and for anything but a list.
 unfoldable pub valueAsDim : Value → Outcome (Option Dim)
 valueAsDim (number x) = mapped some (dimAlone (asDim x))
 valueAsDim (numbers xs) = accepted none
@@ -120,6 +122,7 @@ listRow [] = rowTyped numTy
 listRow (x ∷ []) = rowNumber x
 listRow (x ∷ y ∷ xs) = rowTyped numTy
 
+-- An empty list's first and last row is its row.
 unfoldable pub listFirst : List Float → Row
 listFirst [] = listRow []
 listFirst (x ∷ xs) = rowNumber x

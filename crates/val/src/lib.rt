@@ -26,6 +26,12 @@ pub enum Value {
     Of,
 }
 
+// How many, all ones for an unknown number of rows; or a refusal.
+pub enum Counted {
+    Count(u64),
+    Refused { number: u8, place: usize },
+}
+
 // A size, all ones for an unknown one; nothing for what is no number; or a refusal.
 pub enum MaybeDim {
     Size(u64),
@@ -46,15 +52,9 @@ pub struct DimsAnswer {
     pub dims: Dims,
 }
 
-// A row: a number, or how many bytes of a type were written to the result; or a refusal.
+// A row: a number, or a type, of which so many bytes were written to the result; or a refusal.
 pub enum Row {
     Number(f64),
     Wrote(usize),
-    Refused { number: u8, place: usize },
-}
-
-// How many, all ones for an unknown number of rows; or a refusal.
-pub enum Counted {
-    Count(u64),
     Refused { number: u8, place: usize },
 }

@@ -66,11 +66,11 @@ fn first_of_list(list: &[f64], result: &mut [u8]) -> Row
 fn last_of_list(list: &[f64], result: &mut [u8]) -> Row
     ensures { λ r. ⌜ rowDelivered r (now (result .exit)) ≡ deliverRow (accepted (listLast (now (list .entry)))) (now (result .entry)) ⌝ }
 {
-    if list.len() == 0 {
+    let n = list.len();
+    if n == 0 {
         return row_of_list(list, &mut *result);
     }
-    let last = list.len() - 1;
-    Row::Number(list[last])
+    Row::Number(list[n - 1])
 }
 
 // The row of a type, as it was written.

@@ -17,14 +17,14 @@ returns c =
     let s = c .before .before .before .before .before .before .before in
     c .before .before .row-of-list .ensures ∙ ap (λ row. deliverRow (accepted row) (s .args .result .now)) (sym (last-none (s .args .list .now) (c .before .before .before .before .if1 .taken)))
 
-sub-last : tie.Need-sub-last
-sub-last c = search needs
+sub-t7 : tie.Need-sub-t7
+sub-t7 c = search needs
 
-mul-t4 : tie.Need-mul-t4
-mul-t4 c = search needs
+mul-t8 : tie.Need-mul-t8
+mul-t8 c = search needs
 
-shared-slice-read-t9 : tie.Need-shared-slice-read-t9
-shared-slice-read-t9 c = search needs
+shared-slice-read-t10 : tie.Need-shared-slice-read-t10
+shared-slice-read-t10 c = search needs
 
 returns-2 : tie.Need-returns-2
 returns-2 c =
@@ -38,7 +38,7 @@ last-of-list-spec =
     row-of-list-requires
     same-length
     returns
-    sub-last
-    mul-t4
-    shared-slice-read-t9
+    sub-t7
+    mul-t8
+    shared-slice-read-t10
     returns-2)

@@ -294,8 +294,15 @@ fn at_most(most: u64, word: &[u8]) -> Taken<u64> {
     if number > most { bad("number") } else { Ok(number) }
 }
 
+// A size is handed in as 64 bits, all ones for `?`, so that number written out is `?` too.
 fn decimal_size(word: &[u8]) -> Taken<Dim> {
-    if word == b"?" { Ok(Dim::Dyn) } else { Ok(Dim::Static(decimal(word)? as usize)) }
+    if word == b"?" {
+        return Ok(Dim::Dyn);
+    }
+    match decimal(word)? {
+        u64::MAX => Ok(Dim::Dyn),
+        size => Ok(Dim::Static(size as usize)),
+    }
 }
 
 fn limited(dim: Dim, index: usize) -> Result<Dim, No> {

@@ -3,18 +3,23 @@ use Prim.Native.Nat.{ℕ, _+_, _-_, _≤_}
 use mathlib.Core.Bool.{Bool}
 use mathlib.Core.List.{List}
 use mathlib.Core.Path.{_≡_, refl, sym, _∙_, ap}
-use lib.ListN.{length, getD, drop}
+use lib.ListN.{length, getD, take, drop, length-drop}
+use lib.Seq.{take-length}
 use Rattle.model.specs.Limits.{maxDepth}
-use Rattle.model.specs.Types.{Scalar}
+use Rattle.model.specs.Types.{any, Scalar, plain, boxAny}
 use Rattle.format.specs.ReaderLaws.{Bytes}
-use Rattle.format.specs.Outcome.{accepted, mapped, both, lone, scalarRecord}
+use Rattle.format.specs.Records.{writeScalar}
+use Rattle.format.specs.Outcome.{Outcome, accepted, mapped, both, lone, scalarRecord}
 use Rattle.rules.specs.Order.{codeOf}
-use Rattle.rules.specs.Scalars.{supersetCodes, compatibleCodes, supersetOf, compatibleScalars, compatibleWithBoxes}
+use Rattle.rules.specs.Scalars.{supersetCodes, compatibleCodes, supersetOf, compatibleScalars, compatibleWithBoxes, union}
 use Rattle.rules.specs.Views.{kind-byte}
 use Rattle.record.specs.Answers.{nothings}
 use Rattle.walk.specs.At.{ScalarAt}
 use Rattle.walk.specs.Whole.{ofScalars}
-use Rattle.walk.specs.WholeLaws.{scalars-there}
+use Rattle.walk.specs.WholeLaws.{records-there, scalars-there}
+use Rattle.scalar.specs.Calls.{unitedOf}
+use Rattle.scalar.specs.declared.United.{United}
+use Rattle.scalar.specs.declared.United.the-variants.{First, Second, BoxAny, Any}
 
 module _ (a b : List ℕ) (good : both nothings (lone a) (lone b) ≡ accepted 0) (small : Bytes a) (small′ : Bytes b) where
   module _ {i j : ℕ} (first : (mapped scalarRecord (lone a) ≡ accepted (drop i a)) × (i ≤ length a)) (second : (mapped scalarRecord (lone b) ≡ accepted (drop j b)) × (j ≤ length b)) where
@@ -31,3 +36,29 @@ module _ (a b : List ℕ) (good : both nothings (lone a) (lone b) ≡ accepted 0
 
     pub boxes-is : {t : Bool} → ((k l : Scalar) → ScalarAt a i (maxDepth - 1) k → ScalarAt b j (maxDepth - 1) l → t ≡ compatibleWithBoxes k l) → accepted t ≡ ofScalars compatibleWithBoxes a b
     boxes-is e = scalars-there a b good small small′ first second compatibleWithBoxes λ k l h h′ is. sym (is ∙ ap accepted (sym (e k l h h′)))
+
+    -- which of the four a union's record is
+    module _ (r : United) (call : (k l : Scalar) → ScalarAt a i (maxDepth - 1) k → ScalarAt b j (maxDepth - 1) l → unitedOf r k l ≡ union k l) where
+      abbrev Record : Outcome (List ℕ)
+      Record = ofScalars (λ k l. writeScalar (union k l)) a b
+
+      united-is : (w : List ℕ) → ((k l : Scalar) → drop i a ≡ writeScalar k → drop j b ≡ writeScalar l → w ≡ writeScalar (unitedOf r k l)) → accepted w ≡ Record
+      united-is w e =
+          records-there a b good small small′ first second (λ k l. writeScalar (union k l)) λ k l h g u v is.
+          ap accepted (e k l u v ∙ ap writeScalar (call k l h g)) ∙ sym is
+
+      pub union-first : r ≡ First → accepted (drop i a) ≡ Record
+      union-first e = united-is (drop i a) (λ k l u v. u ∙ rw e)
+
+      pub union-second : r ≡ Second → accepted (drop j b) ≡ Record
+      union-second e = united-is (drop j b) (λ k l u v. v ∙ rw e)
+
+      pub union-box-any : r ≡ BoxAny → accepted (writeScalar boxAny) ≡ Record
+      union-box-any e = united-is (writeScalar boxAny) (λ k l u v. rw e)
+
+      pub union-any : r ≡ Any → accepted (writeScalar (plain any)) ≡ Record
+      union-any e = united-is (writeScalar (plain any)) (λ k l u v. rw e)
+
+-- the rest of a list, as a part of a slice has it
+pub rest-is : (s : List ℕ) (n : ℕ) → take (length s - n) (drop n s) ≡ drop n s
+rest-is s n = ap (λ k. take k (drop n s)) (sym (length-drop n s)) ∙ take-length (drop n s)

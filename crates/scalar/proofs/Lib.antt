@@ -1,3 +1,4 @@
 mod KindLaws
 mod CallLaws
 mod BoxLaws
+mod UnrefineLaws

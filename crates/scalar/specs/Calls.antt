@@ -1,7 +1,8 @@
 -- What the answers of this crate say, in the terms of the definitions: for each case of each, the paper's number and values.
 use mathlib.Core.Bool.{Bool, true, false}
-use Rattle.model.specs.Types.{any, Scalar, plain, boxAny}
+use Rattle.model.specs.Types.{any, Scalar, plain, boxAny, Ty, ty}
 use Rattle.format.specs.Outcome.{Outcome, accepted, refused}
+use Rattle.rules.specs.Scalars.{unrefine}
 use Rattle.scalar.specs.declared.Tested.{Tested}
 use Rattle.scalar.specs.declared.Tested.the-variants.{Yes, No, Refused}
 use Rattle.scalar.specs.declared.United.{United}
@@ -18,3 +19,7 @@ unitedOf First k l = k
 unitedOf Second k l = l
 unitedOf BoxAny k l = boxAny
 unitedOf Any k l = plain any
+
+-- a type whose scalar is unrefined
+abbrev pub unrefined : Ty → Ty
+unrefined (ty o k) = ty o (unrefine k)

@@ -6,9 +6,9 @@ ghost use Rattle.rules.specs.Scalars.{supersetCodes, streamOrBox, compatibleCod
 
 const COMPLEX: u64 = 4;
 
-const ASCII: u64 = 5;
+pub const ASCII: u64 = 5;
 
-const CHAR: u64 = 6;
+pub const CHAR: u64 = 6;
 
 const STREAM: u64 = 7;
 

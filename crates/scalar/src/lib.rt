@@ -2,16 +2,20 @@
 // depth; and the public calls on whole types.
 mod boxes;
 mod kinds;
+mod refinement;
 mod tests;
-mod union;
+mod unions;
 
 pub use boxes::compatible_boxes;
 pub use kinds::compatible_codes;
 pub use kinds::superset_codes;
+pub use refinement::unrefine;
+pub use refinement::unrefine_at;
 pub use tests::compatible_scalars;
 pub use tests::compatible_with_boxes;
 pub use tests::superset;
-pub use union::unite;
+pub use unions::union;
+pub use unions::unite;
 
 // What a test answers.
 pub enum Tested {

@@ -2,20 +2,66 @@
 use crate::United;
 use crate::boxes::compatible_contents;
 use crate::kinds::superset_codes;
+use lent::Written;
+use lent::hand_over;
+use limits::ANY;
+use limits::BOX;
+use limits::BOX_ANY;
+use limits::MAX_DEPTH;
 use order::Compared;
 use order::compare_types;
+use record::Lone;
+use record::lone_scalar;
+use record::read_both;
 use walk::is_all;
 use walk::kind_at;
 ghost use mathlib.Core.Path.{_≡_};
 ghost use mathlib.Core.Bool.{_&&_, cond};
 ghost use Prim.Native.Nat.{ℕ};
-ghost use Rattle.model.specs.Types.{Scalar, Ty, boxAny, boxOf, shapeOf, scalarOf};
+ghost use Rattle.model.specs.Types.{any, Scalar, Ty, plain, boxAny, boxOf, shapeOf, scalarOf};
+ghost use Rattle.format.specs.Records.{writeScalar};
+ghost use Rattle.format.specs.Outcome.{accepted, deliver};
+ghost use Rattle.lent.specs.Written.{delivered};
 ghost use Rattle.rules.specs.Order.{codeOf};
 ghost use Rattle.rules.specs.Shapes.{compatibleShapes};
 ghost use Rattle.rules.specs.Scalars.{compatibleWithBoxes, wider, laterTy, union};
 ghost use Rattle.walk.specs.At.{ScalarAt, TypeAt, HasScalar, HasType};
+ghost use Rattle.walk.specs.Whole.{ofScalars};
 ghost use Rattle.scalar.specs.Calls.{unitedOf};
 
+// The union's record, to the front of the result.
+pub fn union(a: &[u8], b: &[u8], result: &mut [u8]) -> Written
+    ensures { λ r. ⌜ delivered r (now (result .exit)) ≡ deliver (ofScalars (λ k l. writeScalar (union k l)) (now (a .entry)) (now (b .entry))) (now (result .entry)) ⌝ }
+{
+    let read = read_both(a, b);
+    if let Lone::Refused { number, place } = read {
+        return Written::Refused { number, place };
+    }
+    let i = lone_scalar(a);
+    let j = lone_scalar(b);
+    match unite(a, i, b, j, MAX_DEPTH - 1) {
+        United::First => hand_over(&a[i..], &mut *result),
+        United::Second => hand_over(&b[j..], &mut *result),
+        United::BoxAny => hand_box_any(&mut *result),
+        United::Any => hand_any(&mut *result),
+    }
+}
+
+fn hand_box_any(result: &mut [u8]) -> Written
+    ensures { λ r. ⌜ delivered r (now (result .exit)) ≡ deliver (accepted (writeScalar boxAny)) (now (result .entry)) ⌝ }
+{
+    let record = [0x53u8, 0x43, BOX as u8, 0x42, 0x58, BOX_ANY as u8];
+    hand_over(&record, &mut *result)
+}
+
+fn hand_any(result: &mut [u8]) -> Written
+    ensures { λ r. ⌜ delivered r (now (result .exit)) ≡ deliver (accepted (writeScalar (plain any))) (now (result .entry)) ⌝ }
+{
+    let record = [0x53u8, 0x43, ANY as u8];
+    hand_over(&record, &mut *result)
+}
+
+// Two scalars inside bytes.
 pub fn unite(a: &[u8], i: usize, b: &[u8], j: usize, depth: u64) -> United
     requires { ⌜ HasScalar (now a) i depth × HasScalar (now b) j depth ⌝ }
     ensures { λ r. ⌜ ((k l : Scalar) → ScalarAt (now (a .entry)) i depth k → ScalarAt (now (b .entry)) j depth l → unitedOf r k l ≡ union k l) ⌝ }

@@ -1,10 +1,10 @@
 use mathlib.Core.Path.{_≡_, refl, sym, ap, _∙_}
 use Rattle.scalar.proofs.BoxLaws.{first-wider, second-wider, neither-wider}
 use borrow.Author.Needs.{needs}
-use Rattle.scalar.proofs.union.widen.Statement.{statement}
-use Rattle.scalar.proofs.union.widen.Tie as tie
-use Rattle.scalar.proofs.union.widen.Reads as reads
-use Rattle.scalar.proofs.union.widen.Lts as lts
+use Rattle.scalar.proofs.unions.widen.Statement.{statement}
+use Rattle.scalar.proofs.unions.widen.Tie as tie
+use Rattle.scalar.proofs.unions.widen.Reads as reads
+use Rattle.scalar.proofs.unions.widen.Lts as lts
 use Rattle.scalar.proofs.kinds.superset_codes.Reads as superset-codes-reads
 
 superset-codes-requires : tie.Need-superset-codes-requires

@@ -1,10 +1,10 @@
 use mathlib.Core.Path.{_≡_, refl, sym, ap, _∙_}
 use Rattle.scalar.proofs.BoxLaws.{none-later, second-later, same-later, first-later}
 use borrow.Author.Needs.{needs}
-use Rattle.scalar.proofs.union.unite_contents.Statement.{statement}
-use Rattle.scalar.proofs.union.unite_contents.Tie as tie
-use Rattle.scalar.proofs.union.unite_contents.Reads as reads
-use Rattle.scalar.proofs.union.unite_contents.Lts as lts
+use Rattle.scalar.proofs.unions.unite_contents.Statement.{statement}
+use Rattle.scalar.proofs.unions.unite_contents.Tie as tie
+use Rattle.scalar.proofs.unions.unite_contents.Reads as reads
+use Rattle.scalar.proofs.unions.unite_contents.Lts as lts
 use Rattle.order.proofs.compare_types.Reads as compare-types-reads
 use Rattle.scalar.proofs.boxes.compatible_contents.Reads as compatible-contents-reads
 

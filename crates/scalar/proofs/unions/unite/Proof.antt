@@ -5,12 +5,12 @@ use Rattle.rules.specs.Views.{kind-within}
 use Rattle.walk.specs.AtLaws.{has-content, all-within}
 use Rattle.scalar.proofs.BoxLaws.{clash, all-united, by-wider}
 use borrow.Author.Needs.{needs}
-use Rattle.scalar.proofs.union.unite.Statement.{statement}
-use Rattle.scalar.proofs.union.unite.Tie as tie
-use Rattle.scalar.proofs.union.unite.Reads as reads
-use Rattle.scalar.proofs.union.unite.Lts as lts
-use Rattle.scalar.proofs.union.unite_contents.Reads as unite-contents-reads
-use Rattle.scalar.proofs.union.widen.Reads as widen-reads
+use Rattle.scalar.proofs.unions.unite.Statement.{statement}
+use Rattle.scalar.proofs.unions.unite.Tie as tie
+use Rattle.scalar.proofs.unions.unite.Reads as reads
+use Rattle.scalar.proofs.unions.unite.Lts as lts
+use Rattle.scalar.proofs.unions.unite_contents.Reads as unite-contents-reads
+use Rattle.scalar.proofs.unions.widen.Reads as widen-reads
 use Rattle.walk.proofs.is_all.Reads as is-all-reads
 use Rattle.walk.proofs.kind_at.Reads as kind-at-reads
 

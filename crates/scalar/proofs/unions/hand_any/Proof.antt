@@ -1,0 +1,27 @@
+use Rattle.format.specs.Records.{code, writeScalar}
+use borrow.Author.Needs.{needs}
+use Rattle.scalar.proofs.unions.hand_any.Statement.{statement}
+use Rattle.scalar.proofs.unions.hand_any.Tie as tie
+use Rattle.scalar.proofs.unions.hand_any.Reads as reads
+use Rattle.scalar.proofs.unions.hand_any.Lts as lts
+use Rattle.lent.proofs.hand_over.Reads as hand-over-reads
+
+cast-t3 : tie.Need-cast-t3
+cast-t3 c = search needs
+
+slice-aggregate-hand-over : tie.Need-slice-aggregate-hand-over
+slice-aggregate-hand-over c = search needs
+
+hand-over-requires : tie.Need-hand-over-requires
+hand-over-requires c κs = search needs
+
+same-length : tie.Need-same-length
+same-length c = search needs
+
+returns : tie.Need-returns
+unfolding writeScalar code
+returns c = c .before .before .hand-over .ensures
+
+pub hand-any-spec : {M : Type 1} → statement M
+hand-any-spec =
+    tie.close (tie.spec cast-t3 slice-aggregate-hand-over hand-over-requires same-length returns)

@@ -15,6 +15,7 @@ use crate::words::part;
 use lent::hand_over;
 use record::Lone;
 use record::read_lone;
+use scalar::unrefine;
 use shape_calls::count_rows;
 use shape_calls::row_shape;
 use shape_calls::shape_is_any;
@@ -30,7 +31,7 @@ use ty::unboxed;
 // In the order of `call`'s arms.
 pub fn number(name: &[u8]) -> Found {
     find(
-        b"read row_shape shape_is_any shape_is_scalar row_count rank row first_row last_row unboxed as_boxes",
+        b"read row_shape shape_is_any shape_is_scalar row_count rank row first_row last_row unboxed as_boxes unrefine",
         name,
     )
 }
@@ -59,6 +60,7 @@ fn call(k: usize, a: &[u8], result: &mut [u8]) -> Answer {
         8 => delivered(into_last_row(a, result)),
         9 => delivered(unboxed(a, result)),
         10 => listed(as_boxes(a, result)),
+        11 => delivered(unrefine(a, result)),
         _ => Answer::Bad(Fault::Request),
     }
 }

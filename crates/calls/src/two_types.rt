@@ -11,10 +11,12 @@ use crate::words::count;
 use crate::words::find;
 use crate::words::nth;
 use crate::words::part;
+use join::join;
 use order::compare;
 use scalar::compatible_scalars;
 use scalar::compatible_with_boxes;
 use scalar::superset;
+use scalar::union;
 use shape_calls::compatible_shapes;
 use shape_calls::join_shapes;
 use shape_calls::merge;
@@ -23,7 +25,7 @@ use text::Decoded;
 // In the order of `call`'s arms.
 pub fn number(name: &[u8]) -> Found {
     find(
-        b"merge join_shapes compatible_shapes superset compatible_scalars compatible_with_boxes compare",
+        b"merge join_shapes compatible_shapes superset compatible_scalars compatible_with_boxes compare union join",
         name,
     )
 }
@@ -57,6 +59,8 @@ fn call(k: usize, a: &[u8], b: &[u8], result: &mut [u8]) -> Answer {
         4 => told(compatible_scalars(a, b)),
         5 => told(compatible_with_boxes(a, b)),
         6 => compared(compare(a, b)),
+        7 => delivered(union(a, b, result)),
+        8 => delivered(join(a, b, result)),
         _ => Answer::Bad(Fault::Request),
     }
 }

@@ -14,6 +14,7 @@ pub use rows::into_first_row;
 pub use rows::into_last_row;
 pub use rows::into_nth_row;
 pub use rows::into_row;
+pub use rows::write_parts;
 
 // The bytes of [..] of Any.
 const ANY_TYPE: [u8; 7] = [0x53, 0x48, 0, 0, 0x53, 0x43, 9];

@@ -138,7 +138,7 @@ fn index_of(which: Which, count: u64) -> u64
 }
 
 // A shape's record, then the start of a scalar's, if any, and the rest of it.
-fn write_parts(shape: DynShape, head: &[u8], tail: &[u8], result: &mut [u8]) -> Written
+pub fn write_parts(shape: DynShape, head: &[u8], tail: &[u8], result: &mut [u8]) -> Written
     requires { ⌜ length (now head) ≤ 6 ⌝ }
     ensures { λ r. ⌜ delivered r (now (result .exit)) ≡ deliver (accepted (writeShape (shapeFor shape) ++ (now (head .entry) ++ now (tail .entry)))) (now (result .entry)) ⌝ }
 {

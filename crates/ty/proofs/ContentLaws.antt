@@ -23,7 +23,8 @@ use Rattle.rules.specs.FieldsLaws.{cut, written, field-bytes}
 use Rattle.rules.specs.Views.{scalar-least}
 use Rattle.ty.specs.Parts.{heldBy, contentOf}
 use Rattle.ty.specs.declared.parts.Held.the-variants.{Plain, BoxAny, BoxAll, BoxDef}
-use Rattle.ty.proofs.PartLaws.{Def, fields, View, view, view-plain, view-any, view-all}
+use Rattle.ty.proofs.PartLaws.{View, view, view-plain, view-any, view-all}
+use Rattle.ty.proofs.FieldLaws.{Def, fields}
 
 -- ---- parts of a slice
 

@@ -8,7 +8,7 @@ use mathlib.Core.Path.{_≡_, sym, _∙_, ap}
 use lib.ListN.{length, set, length-append}
 use lib.Seq.{sets-eq, paste-zero}
 use borrow.Author.Tests.{eq-eqb, ne-eqb, le-leb, lt-leb}
-use Rattle.model.specs.Limits.{ones, maxFields}
+use Rattle.model.specs.Limits.{ones, maxFields, maxBytes}
 use Rattle.model.specs.Refusals.{tooMany}
 use Rattle.format.specs.Records.{absent, dimOf}
 use Rattle.format.specs.Outcome.{accepted, refused}
@@ -63,8 +63,8 @@ pub length-listed : (n : ℕ) (w : List ℕ) → length (listed n w) ≡ 2 + n *
 unfolding listed
 length-listed n w = omega (arith, length-repeated w n)
 
--- 31 copies of a type are within a number of 64 bits
-pub copies-fit : (n : ℕ) (w : List ℕ) → n ≤ 31 → length w ≤ 4992 → n * length w ≤ 154752
+-- a list of copies is no longer than so many of the longest type
+pub copies-fit : (n : ℕ) (w : List ℕ) → n ≤ maxFields → length w ≤ maxBytes → n * length w ≤ maxFields * maxBytes
 copies-fit n w h l = mul-le-mul h l
 
 -- the two first bytes, then the copies

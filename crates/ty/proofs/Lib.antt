@@ -1,4 +1,5 @@
 mod PartLaws
+mod FieldLaws
 mod ContentLaws
 mod CopyLaws
 mod ListingLaws

@@ -1,14 +1,13 @@
 -- The rows of a type: what each way through them lays down.
 use Prim.Native.Nat.{ℕ, zero, suc, _+_, _-_, _≤_, _<_}
 use native.Mathlib.Omega.{arith}
-use mathlib.Core.List.{List, _++_, append-assoc}
-use mathlib.Core.Path.{_≡_, refl, sym, _∙_, ap}
-use lib.ListN.{length, length-append}
-use lib.ListN.{take, drop}
-use borrow.Author.Tests.{eq-eqb, ne-eqb, lt-ltb, le-ltb, ltb-true, ltb-false}
 use mathlib.Core.Bool.{Bool, true, false, cond}
+use mathlib.Core.List.{List, _++_, append-assoc}
 use mathlib.Core.Option.{Option, none, some}
+use mathlib.Core.Path.{_≡_, refl, sym, _∙_, ap}
+use lib.ListN.{length, take, drop, length-append}
 use lib.Dec.{ltb}
+use borrow.Author.Tests.{eq-eqb, ne-eqb, lt-ltb, le-ltb, ltb-true, ltb-false}
 use Rattle.model.specs.Types.{Shape, Scalar, plain, boxAny, boxAll, boxDef, Fields, noFields, field, Ty, ty, boxOf, shapeOf, fieldCount}
 use Rattle.format.specs.ReaderLaws.{Bytes}
 use Rattle.format.specs.Records.{boxStart, writeShape, writeScalar, writeTy}
@@ -22,7 +21,8 @@ use Rattle.ty.specs.declared.parts.Held.{Held}
 use Rattle.ty.specs.declared.parts.Held.the-variants.{Plain, BoxAny, BoxAll, BoxDef}
 use Rattle.ty.specs.declared.rows.Which.{Which}
 use Rattle.ty.specs.declared.rows.Which.the-variants.{First, Last, Nth}
-use Rattle.ty.proofs.PartLaws.{View, view, view-plain, view-any, view-all, view-def, NoDef}
+use Rattle.ty.proofs.PartLaws.{View, view, view-plain, view-any, view-all, view-def}
+use Rattle.ty.proofs.FieldLaws.{NoDef}
 use Rattle.ty.proofs.ContentLaws.{anyBytes, any-bytes, first-is, field-found, field-lacks, shaped-as}
 
 -- ---- three stretches, one after the other

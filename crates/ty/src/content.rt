@@ -18,7 +18,7 @@ ghost use Rattle.record.specs.Answers.{nothing};
 ghost use Rattle.rules.specs.Types.{unboxed};
 ghost use Rattle.ty.specs.Parts.{contentOf};
 
-// The content of a lone box, as shape [] makes it one; all else stays.
+// The content of a box of shape []; all else stays.
 pub fn unboxed(ty: &[u8], result: &mut [u8]) -> Written
     ensures { λ r. ⌜ delivered r (now (result .exit)) ≡ deliver (mapped (λ t. writeTy (unboxed t)) (lone (now (ty .entry)))) (now (result .entry)) ⌝ }
 {
@@ -32,7 +32,7 @@ pub fn unboxed(ty: &[u8], result: &mut [u8]) -> Written
     hand_over(ty, &mut *result)
 }
 
-// The content of a box, whatever its shape: what an All holds, a Def's first field, [..] of Any where nothing is inside.
+// What a box holds, whatever its shape: the content of an All, the first field of a Def, [..] of Any where nothing is inside.
 // What is no box stays.
 fn write_content(ty: &[u8], result: &mut [u8]) -> Written
     requires { ⌜ mapped nothing (lone (now ty)) ≡ accepted 0 ⌝ }

@@ -9,7 +9,7 @@ use limits::refusal::TOO_SHORT;
 ghost use mathlib.Core.Path.{_≡_};
 ghost use Prim.Native.Nat.{_+_, _≤_};
 ghost use lib.ListN.{length};
-ghost use Rattle.model.specs.Limits.{maxBytes};
+ghost use Rattle.model.specs.Limits.{maxFields, maxBytes};
 ghost use Rattle.format.specs.Records.{dimOf};
 ghost use Rattle.format.specs.Outcome.{accepted, deliver};
 ghost use Rattle.lent.specs.Over.{over};
@@ -35,7 +35,7 @@ pub fn write_copies(t: &[u8], rows: u64, result: &mut [u8]) -> Written
 
 // No name, the count, and the copies.
 fn write_list(t: &[u8], n: u64, result: &mut [u8]) -> Written
-    requires { ⌜ (n ≤ 31) × (length (now t) ≤ maxBytes) ⌝ }
+    requires { ⌜ (n ≤ maxFields) × (length (now t) ≤ maxBytes) ⌝ }
     ensures { λ r. ⌜ delivered r (now (result .exit)) ≡ deliver (accepted (listed n (now (t .entry)))) (now (result .entry)) ⌝ }
 {
     let size = 2 + n as usize * t.len();

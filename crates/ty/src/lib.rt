@@ -19,7 +19,7 @@ pub use rows::write_parts;
 // The bytes of [..] of Any.
 const ANY_TYPE: [u8; 7] = [0x53, 0x48, 0, 0, 0x53, 0x43, 9];
 
-// The start of a scalar's record that is a box with a type in it.
+// A scalar's record up to the type in its box.
 const BOX_START: [u8; 6] = [0x53, 0x43, 8, 0x42, 0x58, 1];
 
 // Where field n of a type stands, that there is none, or the refusal of the type.
@@ -29,7 +29,7 @@ pub enum Found {
     Refused { number: u8, place: usize },
 }
 
-// How many bytes a list of boxes has, that there is none, or a refusal.
+// How many bytes of a list of boxes were written, that there is none, or the refusal.
 pub enum Boxes {
     Wrote(usize),
     Nothing,

@@ -21,7 +21,7 @@ ghost use mathlib.Core.Path.{_≡_};
 ghost use mathlib.Core.List.{_++_};
 ghost use Prim.Native.Nat.{_≤_};
 ghost use lib.ListN.{length};
-ghost use Rattle.format.specs.Records.{writeShape, writeTy};
+ghost use Rattle.format.specs.Records.{boxStart, writeShape, writeTy};
 ghost use Rattle.format.specs.Outcome.{accepted, deliver, mapped, lone};
 ghost use Rattle.lent.specs.Written.{delivered};
 ghost use Rattle.record.specs.Answers.{shapeFor, nothing};
@@ -29,6 +29,7 @@ ghost use Rattle.rules.specs.Types.{rowBy, intoRow, intoFirstRow, intoLastRow, 
 ghost use Rattle.ty.specs.Parts.{heldBy};
 ghost use Rattle.ty.specs.Rows.{chosen, indexOf, kept, taken};
 
+// The row of a type: its shape loses a size, and at rank 1 a Def's row is a box with its first field.
 pub fn into_row(ty: &[u8], result: &mut [u8]) -> Written
     ensures { λ r. ⌜ delivered r (now (result .exit)) ≡ deliver (mapped (λ t. writeTy (intoRow t)) (lone (now (ty .entry)))) (now (result .entry)) ⌝ }
 {
@@ -47,7 +48,7 @@ pub fn into_last_row(ty: &[u8], result: &mut [u8]) -> Written
     row_by(ty, Which::Last, &mut *result)
 }
 
-// Row n, counted from 0.
+// Row n, counted from 0: where a Def has no such field, its first again.
 pub fn into_nth_row(ty: &[u8], n: u64, result: &mut [u8]) -> Written
     ensures { λ r. ⌜ delivered r (now (result .exit)) ≡ deliver (mapped (λ t. writeTy (intoNthRow n t)) (lone (now (ty .entry)))) (now (result .entry)) ⌝ }
 {
@@ -61,7 +62,7 @@ pub enum Which {
     Nth(u64),
 }
 
-// The row's shape, and at rank 1 a Def's field in a box; every other scalar stays.
+// All four rows: the row's shape, and at rank 1 a Def's field in a box; every other scalar stays.
 fn row_by(ty: &[u8], which: Which, result: &mut [u8]) -> Written
     ensures { λ r. ⌜ delivered r (now (result .exit)) ≡ deliver (mapped (λ t. writeTy (rowBy (chosen which) t)) (lone (now (ty .entry)))) (now (result .entry)) ⌝ }
 {
@@ -139,7 +140,7 @@ fn index_of(which: Which, count: u64) -> u64
 
 // A shape's record, then the start of a scalar's, if any, and the rest of it.
 pub fn write_parts(shape: DynShape, head: &[u8], tail: &[u8], result: &mut [u8]) -> Written
-    requires { ⌜ length (now head) ≤ 6 ⌝ }
+    requires { ⌜ length (now head) ≤ length (boxStart 1) ⌝ }
     ensures { λ r. ⌜ delivered r (now (result .exit)) ≡ deliver (accepted (writeShape (shapeFor shape) ++ (now (head .entry) ++ now (tail .entry)))) (now (result .entry)) ⌝ }
 {
     let middle = shape_length(shape);

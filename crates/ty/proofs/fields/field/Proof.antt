@@ -4,7 +4,7 @@ use Rattle.rules.specs.Types.{fieldPlace}
 use Rattle.record.specs.Answers.{loneOf}
 use Rattle.record.proofs.LoneLaws.{passed-refused, mapped-refused}
 use Rattle.ty.specs.Parts.{partOf}
-use Rattle.ty.proofs.PartLaws.{field-none}
+use Rattle.ty.proofs.FieldLaws.{field-none}
 use borrow.Author.Needs.{needs}
 use Rattle.ty.proofs.fields.field.Statement.{statement}
 use Rattle.ty.proofs.fields.field.Tie as tie

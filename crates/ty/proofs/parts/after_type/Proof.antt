@@ -2,7 +2,7 @@ use Prim.Native.Nat.{_-_}
 use Rattle.model.specs.Types.{types}
 use Rattle.format.specs.Records.{readType}
 use Rattle.record.proofs.Known.{known, told}
-use Rattle.ty.proofs.PartLaws.{past-got, past-stopped}
+use Rattle.ty.proofs.FieldLaws.{past-got, past-stopped}
 use borrow.Author.Needs.{needs}
 use Rattle.ty.proofs.parts.after_type.Statement.{statement}
 use Rattle.ty.proofs.parts.after_type.Tie as tie

@@ -2,7 +2,7 @@ use mathlib.Core.Path.{_≡_, refl, sym, ap, _∙_}
 use native.Mathlib.Omega.{arith}
 use borrow.Author.Needs.{needs}
 use Rattle.ty.specs.Parts.{afterTypes}
-use Rattle.ty.proofs.PartLaws.{after-more, after-end}
+use Rattle.ty.proofs.FieldLaws.{after-more, after-end}
 use Rattle.ty.proofs.parts.after_types.Statement.{statement}
 use Rattle.ty.proofs.parts.after_types.Tie as tie
 use Rattle.ty.proofs.parts.after_types.Reads as reads

@@ -1,5 +1,5 @@
 use native.Mathlib.Omega.{arith}
-use Rattle.ty.proofs.PartLaws.{find-none, find-forward, find-some}
+use Rattle.ty.proofs.FieldLaws.{find-none, find-forward, find-some}
 use borrow.Author.Needs.{needs}
 use Rattle.ty.proofs.parts.find_field.Statement.{statement}
 use Rattle.ty.proofs.parts.find_field.Tie as tie

@@ -1,1 +1,3 @@
 mod SizeLaws
+mod DimsLaws
+mod WalkLaws

@@ -3,9 +3,6 @@ use Rattle.rules.specs.Sizes.{cmpDim}
 use borrow.Author.Needs.{needs}
 use Rattle.shape.proofs.sizes.cmp.Statement.{statement}
 use Rattle.shape.proofs.sizes.cmp.Tie as tie
-use Rattle.shape.proofs.sizes.cmp.Reads as reads
-use Rattle.shape.proofs.sizes.cmp.Lts as lts
-use Rattle.shape.proofs.sizes.cmp_numbers.Reads as cmp-numbers-reads
 
 returns : tie.Need-returns
 unfolding cmpDim

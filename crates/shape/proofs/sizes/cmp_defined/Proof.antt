@@ -3,9 +3,6 @@ use Rattle.rules.specs.Sizes.{cmpDefined}
 use borrow.Author.Needs.{needs}
 use Rattle.shape.proofs.sizes.cmp_defined.Statement.{statement}
 use Rattle.shape.proofs.sizes.cmp_defined.Tie as tie
-use Rattle.shape.proofs.sizes.cmp_defined.Reads as reads
-use Rattle.shape.proofs.sizes.cmp_defined.Lts as lts
-use Rattle.shape.proofs.sizes.cmp_numbers.Reads as cmp-numbers-reads
 
 returns : tie.Need-returns
 unfolding cmpDefined

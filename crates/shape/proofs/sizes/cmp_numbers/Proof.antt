@@ -1,8 +1,6 @@
 use borrow.Author.Tests.{lt-ltb, le-ltb, eq-eqb, ne-eqb}
 use Rattle.shape.proofs.sizes.cmp_numbers.Statement.{statement}
 use Rattle.shape.proofs.sizes.cmp_numbers.Tie as tie
-use Rattle.shape.proofs.sizes.cmp_numbers.Reads as reads
-use Rattle.shape.proofs.sizes.cmp_numbers.Lts as lts
 
 returns : tie.Need-returns
 returns c = rw (lt-ltb _ _ (c .if1 .taken))

@@ -2,8 +2,6 @@ use borrow.Author.Tests.{eq-eqb, ne-eqb}
 use Rattle.rules.specs.Sizes.{compatible}
 use Rattle.shape.proofs.sizes.compatible.Statement.{statement}
 use Rattle.shape.proofs.sizes.compatible.Tie as tie
-use Rattle.shape.proofs.sizes.compatible.Reads as reads
-use Rattle.shape.proofs.sizes.compatible.Lts as lts
 
 returns : tie.Need-returns
 unfolding compatible

@@ -3,8 +3,6 @@ use Rattle.rules.specs.SizesLaws.{joinDim-idem}
 use Rattle.shape.proofs.SizeLaws.{join-unequal}
 use Rattle.shape.proofs.sizes.join_sizes.Statement.{statement}
 use Rattle.shape.proofs.sizes.join_sizes.Tie as tie
-use Rattle.shape.proofs.sizes.join_sizes.Reads as reads
-use Rattle.shape.proofs.sizes.join_sizes.Lts as lts
 
 returns : tie.Need-returns
 returns c = rw (c .if1 .taken) (sym (joinDim-idem _))

@@ -4,9 +4,6 @@ use Rattle.shape.specs.Answers.{orderOf}
 use borrow.Author.Needs.{needs}
 use Rattle.shape.proofs.sizes.larger.Statement.{statement}
 use Rattle.shape.proofs.sizes.larger.Tie as tie
-use Rattle.shape.proofs.sizes.larger.Reads as reads
-use Rattle.shape.proofs.sizes.larger.Lts as lts
-use Rattle.shape.proofs.sizes.cmp.Reads as cmp-reads
 
 cmp-requires : tie.Need-cmp-requires
 cmp-requires c κs = search needs

@@ -5,9 +5,6 @@ use Rattle.shape.proofs.SizeLaws.{one-number}
 use borrow.Author.Needs.{needs}
 use Rattle.shape.proofs.sizes.row_compatible.Statement.{statement}
 use Rattle.shape.proofs.sizes.row_compatible.Tie as tie
-use Rattle.shape.proofs.sizes.row_compatible.Reads as reads
-use Rattle.shape.proofs.sizes.row_compatible.Lts as lts
-use Rattle.shape.proofs.sizes.compatible.Reads as compatible-reads
 
 compatible-requires : tie.Need-compatible-requires
 compatible-requires c κs = search needs

@@ -1,0 +1,86 @@
+use borrow.Author.Needs.{needs}
+use mathlib.Core.Path.{_≡_, sym, ap, _∙_}
+use native.Mathlib.Omega.{arith}
+use Prim.Native.Nat.{_-_, _≤_}
+use lib.ListN.{length, length-set}
+use mathlib.Core.List.{[]}
+use mathlib.Core.Logic.{⊎-elim}
+use Rattle.record.specs.Answers.{dimsOf}
+use Rattle.shape.specs.Answers.{cellOf}
+use Rattle.shape.proofs.WalkLaws.{Walked, walk-start, walk-more, walk-stop, walk-end}
+use Rattle.rules.specs.Pervade.{clash}
+use Rattle.shape.proofs.dims.pervade_dims.Statement.{statement}
+use Rattle.shape.proofs.dims.pervade_dims.Tie as tie
+
+abbrev Inv-loop : tie.InvT-loop
+Inv-loop a b fill-a fill-b count sizes₀ i₀ sizes i = (i ≤ count) × (length sizes ≡ 8) × Walked fill-a fill-b (dimsOf a) (dimsOf b) sizes i
+
+abbrev μ-loop : tie.MeasureT-loop
+μ-loop a b fill-a fill-b count sizes₀ i₀ sizes i = count - i
+
+longer-requires : tie.Need-longer-requires Inv-loop μ-loop
+longer-requires c κs = search needs
+
+loop-holds : tie.Need-loop-holds Inv-loop μ-loop
+loop-holds c = (search needs, search needs, walk-start (c .before .args .fill-a) (c .before .args .fill-b) (dimsOf (c .before .args .a)) (dimsOf (c .before .args .b)) [])
+
+get-requires : tie.Need-get-requires Inv-loop μ-loop
+get-requires c κs = search needs
+
+get-requires-2 : tie.Need-get-requires-2 Inv-loop μ-loop
+get-requires-2 c κs = search needs
+
+pervade-at-requires : tie.Need-pervade-at-requires Inv-loop μ-loop
+pervade-at-requires c κs = search needs
+
+enum-known-size : tie.Need-enum-known-size Inv-loop μ-loop
+enum-known-size c = search needs
+
+mul-sizes : tie.Need-mul-sizes Inv-loop μ-loop
+mul-sizes c = search needs
+
+array-write-sizes : tie.Need-array-write-sizes Inv-loop μ-loop
+array-write-sizes c = search needs
+
+enum-told : tie.Need-enum-told Inv-loop μ-loop
+enum-told c = search needs
+
+add-i : tie.Need-add-i Inv-loop μ-loop
+add-i c = search needs
+
+loop-less : tie.Need-loop-less Inv-loop μ-loop
+loop-less c = search needs
+
+loop-again : tie.Need-loop-again Inv-loop μ-loop
+loop-again c = (omega arith, simp length-set (c .before .before .before .before .before .before .before .loop .inv .1), walk-more (c .before .before .before .before .before .before .before .before .before .args .fill-a) (c .before .before .before .before .before .before .before .before .before .args .fill-b) (dimsOf (c .before .before .before .before .before .before .before .before .before .args .a)) (dimsOf (c .before .before .before .before .before .before .before .before .before .args .b)) (c .before .before .before .before .before .before .before .loop .sizes) (c .before .before .before .before .before .before .before .loop .i) (omega (arith, c .before .before .before .before .before .before .before .before .longer .ensures .0)) (c .before .before .before .before .before .get .ensures) (c .before .before .before .before .get2 .ensures) (c .before .before .before .before .before .before .before .loop .inv .2) (c .before .size .given .0 .0) (omega arith) (sym (ap cellOf (c .before .size .given .1)) ∙ c .before .before .before .pervade-at .ensures))
+
+no-dims-requires : tie.Need-no-dims-requires Inv-loop μ-loop
+no-dims-requires c κs = search needs
+
+returns : tie.Need-returns Inv-loop μ-loop
+returns c = ⊎-elim (λ w. absurd (omega arith)) (λ w. ap clash (w .6) ∙ sym (walk-stop (c .before .before .before .before .before .args .fill-a) (c .before .before .before .before .before .args .fill-b) (dimsOf (c .before .before .before .before .before .args .a)) (dimsOf (c .before .before .before .before .before .args .b)) (c .before .before .before .loop .sizes) (c .before .before .before .loop .i) (omega (arith, c .before .before .before .before .longer .ensures .0)) (w .1 .ensures) (w .2 .ensures) (c .before .before .before .loop .inv .2) (omega arith) (sym (ap cellOf (w .5 .given .1)) ∙ w .3 .ensures))) (c .before .before .if1 .came)
+
+returns-2 : tie.Need-returns-2 Inv-loop μ-loop
+returns-2 c = ⊎-elim (λ w. sym (walk-end (c .before .before .before .before .args .fill-a) (c .before .before .before .before .args .fill-b) (dimsOf (c .before .before .before .before .args .a)) (dimsOf (c .before .before .before .before .args .b)) (c .before .before .loop .sizes) (c .before .before .loop .i) (w .0 .taken) (c .before .before .before .longer .ensures .0) (c .before .before .loop .inv .2))) (λ w. absurd (omega arith)) (c .before .if1 .came)
+
+pub pervade-dims-spec : {M : Type 1} → statement M
+pervade-dims-spec =
+    tie.close
+    (tie.spec
+    Inv-loop
+    μ-loop
+    longer-requires
+    loop-holds
+    get-requires
+    get-requires-2
+    pervade-at-requires
+    enum-known-size
+    mul-sizes
+    array-write-sizes
+    enum-told
+    add-i
+    loop-less
+    loop-again
+    no-dims-requires
+    returns
+    returns-2)

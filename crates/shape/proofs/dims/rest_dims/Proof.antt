@@ -1,0 +1,75 @@
+use borrow.Author.Needs.{needs}
+use mathlib.Core.Path.{_≡_, sym, _∙_}
+use native.Mathlib.Omega.{arith}
+use Prim.Native.Nat.{_-_, _≤_}
+use lib.ListN.{length, length-set, length-drop, drop}
+use mathlib.Core.List.{[]}
+use Rattle.record.specs.Answers.{dimsOf}
+use Rattle.shape.proofs.DimsLaws.{Built, build-start, build-end, rest-none, rest-more}
+use Rattle.shape.proofs.dims.rest_dims.Statement.{statement}
+use Rattle.shape.proofs.dims.rest_dims.Tie as tie
+
+abbrev Inv-loop : tie.InvT-loop
+Inv-loop d n count sizes₀ i₀ sizes i = (i ≤ count) × (length sizes ≡ 8) × Built (drop 1 (dimsOf d)) sizes i
+
+abbrev μ-loop : tie.MeasureT-loop
+μ-loop d n count sizes₀ i₀ sizes i = count - i
+
+size-count-requires : tie.Need-size-count-requires Inv-loop μ-loop
+size-count-requires c κs = search needs
+
+returns : tie.Need-returns Inv-loop μ-loop
+returns c = rest-none (dimsOf (c .before .before .args .t1)) (sym (c .before .size-count .ensures .0) ∙ c .if1 .taken)
+
+sub-count : tie.Need-sub-count Inv-loop μ-loop
+sub-count c = search needs
+
+loop-holds : tie.Need-loop-holds Inv-loop μ-loop
+loop-holds c = (search needs, search needs, build-start (drop 1 (dimsOf (c .before .before .args .t1))) [])
+
+add-sizes : tie.Need-add-sizes Inv-loop μ-loop
+add-sizes c = search needs
+
+mul-sizes : tie.Need-mul-sizes Inv-loop μ-loop
+mul-sizes c = search needs
+
+element-copy-out-sizes : tie.Need-element-copy-out-sizes Inv-loop μ-loop
+element-copy-out-sizes c = search needs
+
+mul-sizes-2 : tie.Need-mul-sizes-2 Inv-loop μ-loop
+mul-sizes-2 c = search needs
+
+array-write-sizes : tie.Need-array-write-sizes Inv-loop μ-loop
+array-write-sizes c = search needs
+
+add-i : tie.Need-add-i Inv-loop μ-loop
+add-i c = search needs
+
+loop-less : tie.Need-loop-less Inv-loop μ-loop
+loop-less c = search needs
+
+loop-again : tie.Need-loop-again Inv-loop μ-loop
+loop-again c = (omega arith, simp length-set (c .before .before .loop .inv .1), rest-more (c .before .before .before .before .before .args .t1) (c .before .before .loop .sizes) (c .before .before .loop .i) (omega arith) (omega (arith, c .before .before .before .before .size-count .ensures .0)) (c .before .before .loop .inv .2))
+
+returns-2 : tie.Need-returns-2 Inv-loop μ-loop
+returns-2 c = build-end (drop 1 (dimsOf (c .before .before .before .before .args .t1))) (c .before .loop .sizes) (c .before .loop .i) {n = c .before .before .before .size-count .result - 1} (omega arith) (omega (arith, length-drop 1 (dimsOf (c .before .before .before .before .args .t1)), c .before .before .before .size-count .ensures .0)) (c .before .loop .inv .2)
+
+pub rest-dims-spec : {M : Type 1} → statement M
+rest-dims-spec =
+    tie.close
+    (tie.spec
+    Inv-loop
+    μ-loop
+    size-count-requires
+    returns
+    sub-count
+    loop-holds
+    add-sizes
+    mul-sizes
+    element-copy-out-sizes
+    mul-sizes-2
+    array-write-sizes
+    add-i
+    loop-less
+    loop-again
+    returns-2)

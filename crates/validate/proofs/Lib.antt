@@ -1,0 +1,3 @@
+mod DimsLaws
+mod ShapesLaws
+mod CallLaws

@@ -1,0 +1,67 @@
+// `check_shape` on shapes by value.
+use crate::Side;
+use crate::dims::agree;
+use crate::dims::agree_ends;
+use crate::dims::equal_dims;
+use record::Dims;
+use record::DynShape;
+use writer::size_count;
+ghost use mathlib.Core.Path.{_≡_};
+ghost use Rattle.record.specs.Answers.{dimsOf, shapeFor};
+ghost use Rattle.validation.specs.CheckShape.{unsided, left, right, mismatch, shapeMismatch, sidedShape, checkShape};
+ghost use Rattle.validate.specs.Answers.{sideOf, checkedOf};
+
+// The opening sizes of a spec against a type's shape, without a side.
+fn mismatch_unsided(o: Dims, t: DynShape) -> bool
+    ensures { λ r. ⌜ r ≡ mismatch unsided (dimsOf o) (shapeFor t) ⌝ }
+{
+    let dims = t.dims;
+    if t.closed {
+        if size_count(dims) != size_count(o) {
+            return true;
+        }
+        return !agree(dims, o);
+    }
+    let suffix = t.suffix;
+    !equal_dims(dims, suffix, o)
+}
+
+fn mismatch_left(o: Dims, t: DynShape) -> bool
+    ensures { λ r. ⌜ r ≡ mismatch left (dimsOf o) (shapeFor t) ⌝ }
+{
+    let dims = t.dims;
+    if t.closed {
+        if size_count(dims) < size_count(o) {
+            return true;
+        }
+        return !agree(dims, o);
+    }
+    !agree(dims, o)
+}
+
+fn mismatch_right(o: Dims, t: DynShape) -> bool
+    ensures { λ r. ⌜ r ≡ mismatch right (dimsOf o) (shapeFor t) ⌝ }
+{
+    let dims = t.dims;
+    if t.closed {
+        if size_count(dims) < size_count(o) {
+            return true;
+        }
+        return !agree_ends(dims, o);
+    }
+    let suffix = t.suffix;
+    if size_count(dims) + size_count(suffix) < size_count(o) {
+        return true;
+    }
+    !agree_ends(suffix, o)
+}
+
+fn mismatch(side: Side, o: Dims, t: DynShape) -> bool
+    ensures { λ r. ⌜ r ≡ mismatch (sideOf side) (dimsOf o) (shapeFor t) ⌝ }
+{
+    match side {
+        Side::Unsided => mismatch_unsided(o, t),
+        Side::Left => mismatch_left(o, t),
+        Side::Right => mismatch_right(o, t),
+    }
+}

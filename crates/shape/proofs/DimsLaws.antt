@@ -4,7 +4,7 @@ use native.Mathlib.Omega.{arith}
 use native.Mathlib.Numerals.{add-one, one-add}
 use mathlib.Core.Bool.{Bool, true, false, not, _&&_}
 use mathlib.Core.List.{List, [], _∷_, _++_, map}
-use mathlib.Core.Option.{Option, none, some}
+use mathlib.Core.Option.{Option, none, some, Option·map}
 use mathlib.Core.Path.{_≡_, refl, sym, _∙_, ap}
 use lib.ListN.{length, take, drop, getD, set, getElem?, length-drop}
 use lib.Seq.{take-suc, take-suc-set, take-length, getD-drop}
@@ -13,7 +13,9 @@ use Rattle.model.specs.Types.{Dim, unknown}
 use Rattle.format.specs.Records.{dimOf}
 use Rattle.record.specs.Answers.{dimsOf}
 use Rattle.record.specs.declared.Dims.{Dims}
-use Rattle.rules.specs.Sizes.{rowCompatible, joinDim}
+use Rattle.rules.specs.Sizes.{larger, rowCompatible, joinDim}
+use Rattle.rules.specs.Pervade.{againstAbsent, together}
+use Rattle.rules.specs.PervadeSteps.{pervadeAt}
 use Rattle.rules.specs.Shapes.{compatibleDims, mergeDims, joinDims, joinEnds}
 use Rattle.rules.specs.ShapesLaws.{compatible-counts, merge-length, join-length, joinEnds-length}
 use Rattle.rules.specs.ShapesSteps.{compatible-step, mergeAt, merge-at, join-at, fromEnd, joinEnds-at}
@@ -27,35 +29,59 @@ at-index (suc count) [] i z h = absurd (omega arith)
 at-index (suc count) (n ∷ sizes) zero z h = refl
 at-index (suc count) (n ∷ sizes) (suc i) z h = at-index count sizes i z (omega arith)
 
-module _ (d : Dims) (i : ℕ) (h : i < length (dimsOf d)) where
-  pub dims-at : (z : Dim) → getD (dimsOf d) i z ≡ dimOf (getD (d .sizes) i 0)
-  dims-at z = at-index (d .count) (d .sizes) i z h
+pub slot-there : (d : Dims) (i : ℕ) → i < length (dimsOf d) → getElem? (dimsOf d) i ≡ some (dimOf (getD (d .sizes) i 0))
+slot-there d i h = getElem?-in (dimsOf d) i unknown h ∙ ap some (at-index (d .count) (d .sizes) i unknown h)
 
-  pub slot-there : getElem? (dimsOf d) i ≡ some (dimOf (getD (d .sizes) i 0))
-  slot-there = getElem?-in (dimsOf d) i unknown h ∙ ap some (dims-at unknown)
+pub slot-size : (l : List Dim) (i : ℕ) (z : Dim) {d : Dim} → some d ≡ getElem? l i → d ≡ getD l i z
+slot-size [] i z e = cc
+slot-size (x ∷ l) zero z e = cc
+slot-size (x ∷ l) (suc i) z e = slot-size l i z e
 
--- ---- from the end
+pub slot-none : (l : List Dim) (i : ℕ) (z : Dim) → none ≡ getElem? l i → z ≡ getD l i z
+slot-none [] i z e = refl
+slot-none (x ∷ l) zero z e = cc
+slot-none (x ∷ l) (suc i) z e = slot-none l i z e
 
-getD-some : (l : List Dim) (i : ℕ) (z : Dim) {d : Dim} → some d ≡ getElem? l i → d ≡ getD l i z
-getD-some [] i z e = cc
-getD-some (x ∷ l) zero z e = cc
-getD-some (x ∷ l) (suc i) z e = getD-some l i z e
+-- ---- what one index comes to, by what stands there on either side
 
-getD-none : (l : List Dim) (i : ℕ) (z : Dim) → none ≡ getElem? l i → z ≡ getD l i z
-getD-none [] i z e = refl
-getD-none (x ∷ l) zero z e = cc
-getD-none (x ∷ l) (suc i) z e = getD-none l i z e
+size-or-unknown : (l : List Dim) (i : ℕ) → getD l i unknown ≡ mergeAt none (getElem? l i)
+size-or-unknown [] i = refl
+size-or-unknown (x ∷ l) zero = refl
+size-or-unknown (x ∷ l) (suc i) = size-or-unknown l i
+
+pub merge-absent : {x : Option Dim} (p : List Dim) (i : ℕ) {r : Dim} → none ≡ x → r ≡ getD p i unknown → r ≡ mergeAt x (getElem? p i)
+merge-absent p i e w = w ∙ rw (← e) (size-or-unknown p i)
+
+pub merge-alone : {x y : Option Dim} {d : Dim} → some d ≡ x → none ≡ y → d ≡ mergeAt x y
+merge-alone e f = rw (← e, ← f)
+
+pub merge-both : {x y : Option Dim} {d e r : Dim} → some d ≡ x → some e ≡ y → r ≡ larger d e → r ≡ mergeAt x y
+merge-both h k w = rw (← h, ← k) w
+
+module _ (f g : Bool) {x y r : Option Dim} where
+  pub pervade-absent : {s : Option Dim} → none ≡ x → s ≡ y → r ≡ Option·map againstAbsent s → r ≡ pervadeAt f g x y
+  pervade-absent {s} e h w = rw (← e, ← h) (w ∙ go s)
+    where
+      go : (s : Option Dim) → Option·map againstAbsent s ≡ pervadeAt f g none s
+      go none = refl
+      go (some d) = refl
+
+  pub pervade-alone : {s : Option Dim} → s ≡ x → none ≡ y → r ≡ Option·map againstAbsent s → r ≡ pervadeAt f g x y
+  pervade-alone {s} h e w = rw (← e, ← h) (w ∙ go s)
+    where
+      go : (s : Option Dim) → Option·map againstAbsent s ≡ pervadeAt f g s none
+      go none = refl
+      go (some d) = refl
+
+  pub pervade-both : {d e : Dim} → some d ≡ x → some e ≡ y → r ≡ together f g d e → r ≡ pervadeAt f g x y
+  pervade-both h k w = rw (← h, ← k) w
 
 module _ (l : List Dim) (i : ℕ) where
   pub end-past : length l < i → unknown ≡ fromEnd i l
   end-past h = rw (lt-leb i (length l) h)
 
-  module _ {n : ℕ} (count : n ≡ length l) (h : i ≤ n) where
-    pub end-there : {d : Dim} → some d ≡ getElem? l (n - i) → d ≡ fromEnd i l
-    end-there e = rw (← count, le-leb i n h) (getD-some l (n - i) unknown e)
-
-    pub end-none : none ≡ getElem? l (n - i) → unknown ≡ fromEnd i l
-    end-none e = rw (← count, le-leb i n h) (getD-none l (n - i) unknown e)
+  pub end-there : i ≤ length l → getD l (length l - i) unknown ≡ fromEnd i l
+  end-there h = rw (le-leb i (length l) h)
 
 -- ---- a list built index by index: the first i of it are there
 
@@ -83,18 +109,14 @@ module _ (l : List Dim) (sizes : List ℕ) where
 -- ---- one index of each rule
 
 module _ (o p : List Dim) (sizes : List ℕ) (i v : ℕ) (room : i < length sizes) where
-  pub merge-more : {x y : Option Dim} → i < max (length o) (length p) → x ≡ getElem? o i → y ≡ getElem? p i → dimOf v ≡ mergeAt x y → Built (mergeDims o p) sizes i → Built (mergeDims o p) (set sizes i v) (i + 1)
-  merge-more {x} {y} h e f w b = build-more (mergeDims o p) sizes i v (omega (arith, merge-length o p)) room (merge-at i o p unknown h ∙ sym (w ∙ rw (e, f))) b
+  pub merge-more : i < max (length o) (length p) → dimOf v ≡ mergeAt (getElem? o i) (getElem? p i) → Built (mergeDims o p) sizes i → Built (mergeDims o p) (set sizes i v) (i + 1)
+  merge-more h w b = build-more (mergeDims o p) sizes i v (omega (arith, merge-length o p)) room (merge-at i o p unknown h ∙ sym w) b
+
+  pub join-more : {x y : Dim} → i < min (length o) (length p) → x ≡ getD o i unknown → y ≡ getD p i unknown → dimOf v ≡ joinDim x y → Built (joinDims o p) sizes i → Built (joinDims o p) (set sizes i v) (i + 1)
+  join-more {x} {y} h e f w b = build-more (joinDims o p) sizes i v (omega (arith, join-length o p)) room (join-at i o p unknown (omega arith) (omega arith) ∙ sym (w ∙ ap (λ k. joinDim k y) e ∙ ap (joinDim (getD o i unknown)) f)) b
 
   pub ends-more : {x y : Dim} → i < max (length o) (length p) → x ≡ fromEnd i o → y ≡ fromEnd i p → dimOf v ≡ joinDim x y → Built (joinEnds o p) sizes i → Built (joinEnds o p) (set sizes i v) (i + 1)
   ends-more {x} {y} h e f w b = build-more (joinEnds o p) sizes i v (omega (arith, joinEnds-length o p)) room (joinEnds-at i o p h ∙ sym (w ∙ ap (λ k. joinDim k y) e ∙ ap (joinDim (fromEnd i o)) f)) b
-
-module _ (a b : Dims) where
-  pub join-more : (sizes : List ℕ) (i v : ℕ) → i < length sizes → i < min (length (dimsOf a)) (length (dimsOf b)) → dimOf v ≡ joinDim (dimOf (getD (a .sizes) i 0)) (dimOf (getD (b .sizes) i 0)) → Built (joinDims (dimsOf a) (dimsOf b)) sizes i → Built (joinDims (dimsOf a) (dimsOf b)) (set sizes i v) (i + 1)
-  join-more sizes i v room h w =
-      let m : i < length (dimsOf a) = omega arith in
-      let n : i < length (dimsOf b) = omega arith in
-      build-more (joinDims (dimsOf a) (dimsOf b)) sizes i v (omega (arith, join-length (dimsOf a) (dimsOf b))) room (join-at i (dimsOf a) (dimsOf b) unknown m n ∙ rw (dims-at a i m unknown, dims-at b i n unknown) (sym w))
 
 -- ---- all but the first
 
@@ -102,8 +124,8 @@ pub rest-none : (l : List Dim) → length l ≡ 0 → l ≡ drop 1 l
 rest-none [] e = refl
 rest-none (d ∷ l) e = absurd (omega arith)
 
-pub rest-more : (d : Dims) (sizes : List ℕ) (i : ℕ) → i < length sizes → i + 1 < length (dimsOf d) → Built (drop 1 (dimsOf d)) sizes i → Built (drop 1 (dimsOf d)) (set sizes i (getD (d .sizes) (i + 1) 0)) (i + 1)
-rest-more d sizes i room h = build-more (drop 1 (dimsOf d)) sizes i (getD (d .sizes) (i + 1) 0) (omega (arith, length-drop 1 (dimsOf d))) room (getD-drop 1 (dimsOf d) i unknown ∙ rw (one-add, ← (add-one i)) (dims-at d (i + 1) h unknown))
+pub rest-more : (l : List Dim) (sizes : List ℕ) (i v : ℕ) → i < length sizes → i + 1 < length l → dimOf v ≡ getD l (i + 1) unknown → Built (drop 1 l) sizes i → Built (drop 1 l) (set sizes i v) (i + 1)
+rest-more l sizes i v room h e = build-more (drop 1 l) sizes i v (omega (arith, length-drop 1 l)) room (getD-drop 1 l i unknown ∙ rw (one-add, ← (add-one i)) (sym e))
 
 -- ---- `compatible_with`: what is left at an index decides
 
@@ -122,12 +144,12 @@ not-true : (t : Bool) → not t ≡ true → t ≡ false
 not-true true u = cc
 not-true false u = refl
 
-module _ (a b : Dims) (i : ℕ) (m : i < length (dimsOf a)) (n : i < length (dimsOf b)) {t : Bool} (e : t ≡ rowCompatible (dimOf (getD (a .sizes) i 0)) (dimOf (getD (b .sizes) i 0))) where
-  step : compatibleDims (drop i (dimsOf a)) (drop i (dimsOf b)) ≡ (t && compatibleDims (drop (i + 1) (dimsOf a)) (drop (i + 1) (dimsOf b)))
-  step = compatible-step i (dimsOf a) (dimsOf b) unknown m n ∙ rw (e, add-one, dims-at a i m unknown, dims-at b i n unknown)
+module _ (o p : List Dim) (i : ℕ) (m : i < length o) (n : i < length p) {x y : Dim} {t : Bool} (e : x ≡ getD o i unknown) (f : y ≡ getD p i unknown) (w : t ≡ rowCompatible x y) where
+  step : compatibleDims (drop i o) (drop i p) ≡ (t && compatibleDims (drop (i + 1) o) (drop (i + 1) p))
+  step = compatible-step i o p unknown m n ∙ rw (w, e, f, add-one)
 
-  pub compatible-more : not t ≡ false → compatibleDims (drop i (dimsOf a)) (drop i (dimsOf b)) ≡ compatibleDims (drop (i + 1) (dimsOf a)) (drop (i + 1) (dimsOf b))
+  pub compatible-more : not t ≡ false → compatibleDims (drop i o) (drop i p) ≡ compatibleDims (drop (i + 1) o) (drop (i + 1) p)
   compatible-more u = rw (not-false t u) at step
 
-  pub compatible-stop : not t ≡ true → compatibleDims (drop i (dimsOf a)) (drop i (dimsOf b)) ≡ false
+  pub compatible-stop : not t ≡ true → compatibleDims (drop i o) (drop i p) ≡ false
   compatible-stop u = rw (not-true t u) at step

@@ -22,18 +22,18 @@ module _ (f g : Bool) (o p : List Dim) where
   pub walk-start : (done : List ℕ) → Walked done 0
   walk-start done = sym (after-start (pervadeDims f g o p))
 
-  module _ (done : List ℕ) (i : ℕ) (h : i < max (length o) (length p)) {x y : Option Dim} (e : x ≡ getElem? o i) (k : y ≡ getElem? p i) (w : Walked done i) where
-    index : pervadeDims f g o p ≡ after (map dimOf (take i done)) (thenRest (pervadeAt f g x y) (pervadeDims f g (drop (suc i) o) (drop (suc i) p)))
-    index = w ∙ rw (e, k, pervade-step f g i o p h)
+  module _ (done : List ℕ) (i : ℕ) (h : i < max (length o) (length p)) {c : Option Dim} (e : c ≡ pervadeAt f g (getElem? o i) (getElem? p i)) (w : Walked done i) where
+    index : pervadeDims f g o p ≡ after (map dimOf (take i done)) (thenRest c (pervadeDims f g (drop (suc i) o) (drop (suc i) p)))
+    index = w ∙ rw (e, pervade-step f g i o p h)
 
-    pub walk-more : (v : ℕ) → i < length done → some (dimOf v) ≡ pervadeAt f g x y → Walked (set done i v) (i + 1)
+    pub walk-more : (v : ℕ) → i < length done → some (dimOf v) ≡ c → Walked (set done i v) (i + 1)
     walk-more v room u =
         index
         ∙ ap (λ c. after (map dimOf (take i done)) (thenRest c (pervadeDims f g (drop (suc i) o) (drop (suc i) p)))) (sym u)
         ∙ after-more (map dimOf (take i done)) (dimOf v) (pervadeDims f g (drop (suc i) o) (drop (suc i) p))
         ∙ rw (one-more done i v room, add-one)
 
-    pub walk-stop : i ≤ length done → none ≡ pervadeAt f g x y → pervadeDims f g o p ≡ clash i
+    pub walk-stop : i ≤ length done → none ≡ c → pervadeDims f g o p ≡ clash i
     walk-stop room u =
         index
         ∙ ap (λ c. after (map dimOf (take i done)) (thenRest c (pervadeDims f g (drop (suc i) o) (drop (suc i) p)))) (sym u)

@@ -14,8 +14,10 @@ use record::Dims;
 use record::no_dims;
 use writer::size_count;
 ghost use mathlib.Core.Path.{_≡_};
+ghost use mathlib.Core.Option.{Option·map};
 ghost use Prim.Native.Nat.{_≤_, max, min};
-ghost use lib.ListN.{length, getElem?, drop};
+ghost use lib.ListN.{length, drop, getD, getElem?};
+ghost use Rattle.model.specs.Types.{unknown};
 ghost use Rattle.format.specs.Records.{dimOf};
 ghost use Rattle.record.specs.Answers.{dimsOf};
 ghost use Rattle.rules.specs.Shapes.{compatibleDims, mergeDims, joinDims, joinEnds};
@@ -32,25 +34,22 @@ pub fn merge_dims(a: Dims, b: Dims) -> Dims
     let mut sizes = [0u64; MAX_SIZES];
     let mut i = 0;
     while i < count {
-        sizes[i] = merge_at(get(a, i), get(b, i));
+        sizes[i] = merge_at(a, b, i);
         i += 1;
     }
     Dims { sizes, count }
 }
 
-fn merge_at(x: Slot, y: Slot) -> u64
-    ensures { λ r. ⌜ dimOf r ≡ mergeAt (slotOf x) (slotOf y) ⌝ }
+fn merge_at(a: Dims, b: Dims, i: usize) -> u64
+    ensures { λ r. ⌜ dimOf r ≡ mergeAt (getElem? (dimsOf a) i) (getElem? (dimsOf b) i) ⌝ }
 {
-    match x {
-        Slot::Absent => match y {
-            Slot::Absent => UNKNOWN,
-            Slot::Size(b) => b,
-        },
-        Slot::Size(a) => match y {
-            Slot::Absent => a,
-            Slot::Size(b) => larger(a, b),
-        },
-    }
+    let Slot::Size(x) = get(a, i) else {
+        return size_at(b, i);
+    };
+    let Slot::Size(y) = get(b, i) else {
+        return x;
+    };
+    larger(x, y)
 }
 
 // The shorter count, joined at each index.
@@ -61,7 +60,7 @@ pub fn join_dims(a: Dims, b: Dims) -> Dims
     let mut sizes = [0u64; MAX_SIZES];
     let mut i = 0;
     while i < count {
-        sizes[i] = join_sizes(a.sizes[i], b.sizes[i]);
+        sizes[i] = join_sizes(size_at(a, i), size_at(b, i));
         i += 1;
     }
     Dims { sizes, count }
@@ -89,10 +88,7 @@ fn from_end(d: Dims, i: usize) -> u64
     if count < i {
         return UNKNOWN;
     }
-    match get(d, count - i) {
-        Slot::Absent => UNKNOWN,
-        Slot::Size(size) => size,
-    }
+    size_at(d, count - i)
 }
 
 // Equal counts, and at each index equal, or either 1 or unknown.
@@ -105,7 +101,7 @@ pub fn compatible_dims(a: Dims, b: Dims) -> bool
     }
     let mut i = 0;
     while i < count {
-        if !row_compatible(a.sizes[i], b.sizes[i]) {
+        if !row_compatible(size_at(a, i), size_at(b, i)) {
             return false;
         }
         i += 1;
@@ -125,7 +121,7 @@ pub fn rest_dims(d: Dims) -> Dims
     let mut sizes = [0u64; MAX_SIZES];
     let mut i = 0;
     while i < count {
-        sizes[i] = d.sizes[i + 1];
+        sizes[i] = size_at(d, i + 1);
         i += 1;
     }
     Dims { sizes, count }
@@ -142,7 +138,7 @@ pub fn pervade_dims(a: Dims, b: Dims, fill_a: bool, fill_b: bool) -> DimsPervade
         if i == count {
             break i;
         }
-        match pervade_at(get(a, i), get(b, i), fill_a, fill_b) {
+        match pervade_at(a, b, i, fill_a, fill_b) {
             Cell::Gives(size) => {
                 sizes[i] = size;
             }
@@ -164,29 +160,31 @@ pub fn pervade_dims(a: Dims, b: Dims, fill_a: bool, fill_b: bool) -> DimsPervade
     }
 }
 
-fn pervade_at(x: Slot, y: Slot, fill_x: bool, fill_y: bool) -> Cell
-    ensures { λ r. ⌜ cellOf r ≡ pervadeAt «fill_x» «fill_y» (slotOf x) (slotOf y) ⌝ }
+fn pervade_at(a: Dims, b: Dims, i: usize, fill_a: bool, fill_b: bool) -> Cell
+    ensures { λ r. ⌜ cellOf r ≡ pervadeAt «fill_a» «fill_b» (getElem? (dimsOf a) i) (getElem? (dimsOf b) i) ⌝ }
 {
-    match x {
-        Slot::Absent => match y {
-            Slot::Absent => Cell::Refuses,
-            Slot::Size(b) => Cell::Gives(against_absent(b)),
-        },
-        Slot::Size(a) => match y {
-            Slot::Absent => Cell::Gives(against_absent(a)),
-            Slot::Size(b) => pervade_sizes(a, b, fill_x, fill_y),
-        },
-    }
+    let x = get(a, i);
+    let y = get(b, i);
+    let Slot::Size(p) = x else {
+        return against_absent(y);
+    };
+    let Slot::Size(q) = y else {
+        return against_absent(x);
+    };
+    pervade_sizes(p, q, fill_a, fill_b)
 }
 
 // 1 against absent is unknown.
-fn against_absent(a: u64) -> u64
-    ensures { λ r. ⌜ dimOf r ≡ againstAbsent (dimOf a) ⌝ }
+fn against_absent(x: Slot) -> Cell
+    ensures { λ r. ⌜ cellOf r ≡ Option·map againstAbsent (slotOf x) ⌝ }
 {
-    if a == 1 {
-        return UNKNOWN;
+    let Slot::Size(size) = x else {
+        return Cell::Refuses;
+    };
+    if size == 1 {
+        return Cell::Gives(UNKNOWN);
     }
-    a
+    Cell::Gives(size)
 }
 
 // 1 yields, then the unknown; equal statics stay; else the larger, if the smaller's side is filled.
@@ -229,6 +227,16 @@ fn get(d: Dims, i: usize) -> Slot
         return Slot::Size(d.sizes[i]);
     }
     Slot::Absent
+}
+
+// The same, unknown where the list has none.
+fn size_at(d: Dims, i: usize) -> u64
+    ensures { λ r. ⌜ dimOf r ≡ getD (dimsOf d) i unknown ⌝ }
+{
+    match get(d, i) {
+        Slot::Absent => UNKNOWN,
+        Slot::Size(size) => size,
+    }
 }
 
 fn longer(a: Dims, b: Dims) -> usize

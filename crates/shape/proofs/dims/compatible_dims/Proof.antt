@@ -23,28 +23,22 @@ size-count-requires-2 : tie.Need-size-count-requires-2 Inv-loop μ-loop
 size-count-requires-2 c κs = search needs
 
 returns : tie.Need-returns Inv-loop μ-loop
-returns c = sym (compatible-uneven (dimsOf (c .before .before .before .args .t1)) (dimsOf (c .before .before .before .args .t2)) (λ e. c .if1 .taken (c .before .before .size-count .ensures .0 ∙ (e ∙ sym (c .before .size-count2 .ensures .0)))))
+returns c = sym (compatible-uneven (dimsOf (c .before .before .before .args .a)) (dimsOf (c .before .before .before .args .b)) (λ e. c .if1 .taken (c .before .before .size-count .ensures .0 ∙ (e ∙ sym (c .before .size-count2 .ensures .0)))))
 
 loop-holds : tie.Need-loop-holds Inv-loop μ-loop
 loop-holds c = (search needs, refl)
 
-mul-row-compatible : tie.Need-mul-row-compatible Inv-loop μ-loop
-mul-row-compatible c = search needs
+size-at-requires : tie.Need-size-at-requires Inv-loop μ-loop
+size-at-requires c κs = search needs
 
-element-copy-out-row-compatible : tie.Need-element-copy-out-row-compatible Inv-loop μ-loop
-element-copy-out-row-compatible c = search needs
-
-mul-row-compatible-2 : tie.Need-mul-row-compatible-2 Inv-loop μ-loop
-mul-row-compatible-2 c = search needs
-
-element-copy-out-row-compatible-2 : tie.Need-element-copy-out-row-compatible-2 Inv-loop μ-loop
-element-copy-out-row-compatible-2 c = search needs
+size-at-requires-2 : tie.Need-size-at-requires-2 Inv-loop μ-loop
+size-at-requires-2 c κs = search needs
 
 row-compatible-requires : tie.Need-row-compatible-requires Inv-loop μ-loop
 row-compatible-requires c κs = search needs
 
 returns-2 : tie.Need-returns-2 Inv-loop μ-loop
-returns-2 c = sym (c .before .before .before .before .before .loop .inv .1 ∙ compatible-stop (c .before .before .before .before .before .before .before .before .before .args .t1) (c .before .before .before .before .before .before .before .before .before .args .t2) (c .before .before .before .before .before .loop .i) (omega (arith, c .before .before .before .before .before .before .before .before .size-count .ensures .0)) (omega (arith, c .before .before .before .before .before .before .before .size-count2 .ensures .0)) (c .before .row-compatible .ensures) (c .if2 .taken))
+returns-2 c = sym (c .before .before .before .before .before .loop .inv .1 ∙ compatible-stop (dimsOf (c .before .before .before .before .before .before .before .before .before .args .a)) (dimsOf (c .before .before .before .before .before .before .before .before .before .args .b)) (c .before .before .before .before .before .loop .i) (omega (arith, c .before .before .before .before .before .before .before .before .size-count .ensures .0)) (omega (arith, c .before .before .before .before .before .before .before .size-count2 .ensures .0)) (c .before .before .before .size-at .ensures) (c .before .before .size-at2 .ensures) (c .before .row-compatible .ensures) (c .if2 .taken))
 
 add-i : tie.Need-add-i Inv-loop μ-loop
 add-i c = search needs
@@ -53,10 +47,10 @@ loop-less : tie.Need-loop-less Inv-loop μ-loop
 loop-less c = search needs
 
 loop-again : tie.Need-loop-again Inv-loop μ-loop
-loop-again c = (omega arith, c .before .before .before .before .before .loop .inv .1 ∙ compatible-more (c .before .before .before .before .before .before .before .before .before .args .t1) (c .before .before .before .before .before .before .before .before .before .args .t2) (c .before .before .before .before .before .loop .i) (omega (arith, c .before .before .before .before .before .before .before .before .size-count .ensures .0)) (omega (arith, c .before .before .before .before .before .before .before .size-count2 .ensures .0)) (c .before .row-compatible .ensures) (c .if2 .left))
+loop-again c = (omega arith, c .before .before .before .before .before .loop .inv .1 ∙ compatible-more (dimsOf (c .before .before .before .before .before .before .before .before .before .args .a)) (dimsOf (c .before .before .before .before .before .before .before .before .before .args .b)) (c .before .before .before .before .before .loop .i) (omega (arith, c .before .before .before .before .before .before .before .before .size-count .ensures .0)) (omega (arith, c .before .before .before .before .before .before .before .size-count2 .ensures .0)) (c .before .before .before .size-at .ensures) (c .before .before .size-at2 .ensures) (c .before .row-compatible .ensures) (c .if2 .left))
 
 returns-3 : tie.Need-returns-3 Inv-loop μ-loop
-returns-3 c = sym (c .before .loop .inv .1 ∙ compatible-end (c .before .loop .i) (dimsOf (c .before .before .before .before .before .args .t1)) (dimsOf (c .before .before .before .before .before .args .t2)) (omega (arith, c .before .before .before .before .size-count .ensures .0)) (omega (arith, c .before .before .before .size-count2 .ensures .0)))
+returns-3 c = sym (c .before .loop .inv .1 ∙ compatible-end (c .before .loop .i) (dimsOf (c .before .before .before .before .before .args .a)) (dimsOf (c .before .before .before .before .before .args .b)) (omega (arith, c .before .before .before .before .size-count .ensures .0)) (omega (arith, c .before .before .before .size-count2 .ensures .0)))
 
 pub compatible-dims-spec : {M : Type 1} → statement M
 compatible-dims-spec =
@@ -68,10 +62,8 @@ compatible-dims-spec =
     size-count-requires-2
     returns
     loop-holds
-    mul-row-compatible
-    element-copy-out-row-compatible
-    mul-row-compatible-2
-    element-copy-out-row-compatible-2
+    size-at-requires
+    size-at-requires-2
     row-compatible-requires
     returns-2
     add-i

@@ -1,7 +1,9 @@
-use mathlib.Core.Path.{sym, ap, _∙_}
+use mathlib.Core.Path.{ap, _∙_}
 use native.Mathlib.Omega.{arith}
-use Rattle.shape.proofs.DimsLaws.{end-past, end-there, end-none}
-use Rattle.shape.specs.Answers.{slotOf}
+use lib.ListN.{getD}
+use Prim.Native.Nat.{_-_}
+use Rattle.model.specs.Types.{unknown}
+use Rattle.shape.proofs.DimsLaws.{end-past, end-there}
 use Rattle.record.specs.Answers.{dimsOf}
 use borrow.Author.Needs.{needs}
 use Rattle.shape.proofs.dims.from_end.Statement.{statement}
@@ -13,29 +15,11 @@ size-count-requires c κs = search needs
 returns : tie.Need-returns
 returns c = end-past (dimsOf (c .before .before .args .d)) (c .before .before .args .i) (omega (arith, c .before .size-count .ensures .0))
 
-get-requires : tie.Need-get-requires
-get-requires c κs = search needs
-
-enum-told : tie.Need-enum-told
-enum-told c = search needs
-
-enum-known-size : tie.Need-enum-known-size
-enum-known-size c = search needs
+size-at-requires : tie.Need-size-at-requires
+size-at-requires c κs = search needs
 
 returns-2 : tie.Need-returns-2
-returns-2 c = end-none (dimsOf (c .before .before .before .before .before .args .d)) (c .before .before .before .before .before .args .i) (c .before .before .before .before .size-count .ensures .0) (c .before .before .before .if1 .left) (sym (ap slotOf (c .enum-told .given .1)) ∙ c .before .before .get .ensures)
-
-returns-3 : tie.Need-returns-3
-returns-3 c = end-there (dimsOf (c .before .before .before .before .before .before .args .d)) (c .before .before .before .before .before .before .args .i) (c .before .before .before .before .before .size-count .ensures .0) (c .before .before .before .before .if1 .left) (sym (ap slotOf (c .before .size .given .1)) ∙ c .before .before .before .get .ensures)
+returns-2 c = c .size-at .ensures ∙ (ap (λ n. getD (dimsOf (c .before .before .before .args .d)) (n - c .before .before .before .args .i) unknown) (c .before .before .size-count .ensures .0) ∙ end-there (dimsOf (c .before .before .before .args .d)) (c .before .before .before .args .i) (omega (arith, c .before .before .size-count .ensures .0)))
 
 pub from-end-spec : {M : Type 1} → statement M
-from-end-spec =
-    tie.close
-    (tie.spec
-    size-count-requires
-    returns
-    get-requires
-    enum-told
-    enum-known-size
-    returns-2
-    returns-3)
+from-end-spec = tie.close (tie.spec size-count-requires returns size-at-requires returns-2)

@@ -21,19 +21,13 @@ shorter-requires : tie.Need-shorter-requires Inv-loop μ-loop
 shorter-requires c κs = search needs
 
 loop-holds : tie.Need-loop-holds Inv-loop μ-loop
-loop-holds c = (search needs, search needs, build-start (joinDims (dimsOf (c .before .args .t1)) (dimsOf (c .before .args .t2))) [])
+loop-holds c = (search needs, search needs, build-start (joinDims (dimsOf (c .before .args .a)) (dimsOf (c .before .args .b))) [])
 
-mul-join-sizes : tie.Need-mul-join-sizes Inv-loop μ-loop
-mul-join-sizes c = search needs
+size-at-requires : tie.Need-size-at-requires Inv-loop μ-loop
+size-at-requires c κs = search needs
 
-element-copy-out-join-sizes : tie.Need-element-copy-out-join-sizes Inv-loop μ-loop
-element-copy-out-join-sizes c = search needs
-
-mul-join-sizes-2 : tie.Need-mul-join-sizes-2 Inv-loop μ-loop
-mul-join-sizes-2 c = search needs
-
-element-copy-out-join-sizes-2 : tie.Need-element-copy-out-join-sizes-2 Inv-loop μ-loop
-element-copy-out-join-sizes-2 c = search needs
+size-at-requires-2 : tie.Need-size-at-requires-2 Inv-loop μ-loop
+size-at-requires-2 c κs = search needs
 
 join-sizes-requires : tie.Need-join-sizes-requires Inv-loop μ-loop
 join-sizes-requires c κs = search needs
@@ -51,10 +45,10 @@ loop-less : tie.Need-loop-less Inv-loop μ-loop
 loop-less c = search needs
 
 loop-again : tie.Need-loop-again Inv-loop μ-loop
-loop-again c = (omega arith, simp length-set (c .before .before .before .before .loop .inv .1), join-more (c .before .before .before .before .before .before .args .t1) (c .before .before .before .before .before .before .args .t2) (c .before .before .before .before .loop .sizes) (c .before .before .before .before .loop .i) (c .join-sizes .result) (omega arith) (omega (arith, c .before .before .before .before .before .shorter .ensures .0)) (c .join-sizes .ensures) (c .before .before .before .before .loop .inv .2))
+loop-again c = (omega arith, simp length-set (c .before .before .before .before .loop .inv .1), join-more (dimsOf (c .before .before .before .before .before .before .args .a)) (dimsOf (c .before .before .before .before .before .before .args .b)) (c .before .before .before .before .loop .sizes) (c .before .before .before .before .loop .i) (c .join-sizes .result) (omega arith) (omega (arith, c .before .before .before .before .before .shorter .ensures .0)) (c .before .before .size-at .ensures) (c .before .size-at2 .ensures) (c .join-sizes .ensures) (c .before .before .before .before .loop .inv .2))
 
 returns : tie.Need-returns Inv-loop μ-loop
-returns c = build-end (joinDims (dimsOf (c .before .before .before .args .t1)) (dimsOf (c .before .before .before .args .t2))) (c .before .loop .sizes) (c .before .loop .i) (omega arith) (c .before .before .shorter .ensures .0 ∙ sym (join-length (dimsOf (c .before .before .before .args .t1)) (dimsOf (c .before .before .before .args .t2)))) (c .before .loop .inv .2)
+returns c = build-end (joinDims (dimsOf (c .before .before .before .args .a)) (dimsOf (c .before .before .before .args .b))) (c .before .loop .sizes) (c .before .loop .i) (omega arith) (c .before .before .shorter .ensures .0 ∙ sym (join-length (dimsOf (c .before .before .before .args .a)) (dimsOf (c .before .before .before .args .b)))) (c .before .loop .inv .2)
 
 pub join-dims-spec : {M : Type 1} → statement M
 join-dims-spec =
@@ -64,10 +58,8 @@ join-dims-spec =
     μ-loop
     shorter-requires
     loop-holds
-    mul-join-sizes
-    element-copy-out-join-sizes
-    mul-join-sizes-2
-    element-copy-out-join-sizes-2
+    size-at-requires
+    size-at-requires-2
     join-sizes-requires
     mul-sizes
     array-write-sizes

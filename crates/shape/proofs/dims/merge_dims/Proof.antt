@@ -23,12 +23,6 @@ longer-requires c κs = search needs
 loop-holds : tie.Need-loop-holds Inv-loop μ-loop
 loop-holds c = (search needs, search needs, build-start (mergeDims (dimsOf (c .before .args .a)) (dimsOf (c .before .args .b))) [])
 
-get-requires : tie.Need-get-requires Inv-loop μ-loop
-get-requires c κs = search needs
-
-get-requires-2 : tie.Need-get-requires-2 Inv-loop μ-loop
-get-requires-2 c κs = search needs
-
 merge-at-requires : tie.Need-merge-at-requires Inv-loop μ-loop
 merge-at-requires c κs = search needs
 
@@ -45,7 +39,7 @@ loop-less : tie.Need-loop-less Inv-loop μ-loop
 loop-less c = search needs
 
 loop-again : tie.Need-loop-again Inv-loop μ-loop
-loop-again c = (omega arith, simp length-set (c .before .before .before .before .loop .inv .1), merge-more (dimsOf (c .before .before .before .before .before .before .args .a)) (dimsOf (c .before .before .before .before .before .before .args .b)) (c .before .before .before .before .loop .sizes) (c .before .before .before .before .loop .i) (c .merge-at .result) (omega arith) (omega (arith, c .before .before .before .before .before .longer .ensures .0)) (c .before .before .get .ensures) (c .before .get2 .ensures) (c .merge-at .ensures) (c .before .before .before .before .loop .inv .2))
+loop-again c = (omega arith, simp length-set (c .before .before .loop .inv .1), merge-more (dimsOf (c .before .before .before .before .args .a)) (dimsOf (c .before .before .before .before .args .b)) (c .before .before .loop .sizes) (c .before .before .loop .i) (c .merge-at .result) (omega arith) (omega (arith, c .before .before .before .longer .ensures .0)) (c .merge-at .ensures) (c .before .before .loop .inv .2))
 
 returns : tie.Need-returns Inv-loop μ-loop
 returns c = build-end (mergeDims (dimsOf (c .before .before .before .args .a)) (dimsOf (c .before .before .before .args .b))) (c .before .loop .sizes) (c .before .loop .i) (omega arith) (c .before .before .longer .ensures .0 ∙ sym (merge-length (dimsOf (c .before .before .before .args .a)) (dimsOf (c .before .before .before .args .b)))) (c .before .loop .inv .2)
@@ -58,8 +52,6 @@ merge-dims-spec =
     μ-loop
     longer-requires
     loop-holds
-    get-requires
-    get-requires-2
     merge-at-requires
     mul-sizes
     array-write-sizes

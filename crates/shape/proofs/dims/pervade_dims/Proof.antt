@@ -24,12 +24,6 @@ longer-requires c κs = search needs
 loop-holds : tie.Need-loop-holds Inv-loop μ-loop
 loop-holds c = (search needs, search needs, walk-start (c .before .args .fill-a) (c .before .args .fill-b) (dimsOf (c .before .args .a)) (dimsOf (c .before .args .b)) [])
 
-get-requires : tie.Need-get-requires Inv-loop μ-loop
-get-requires c κs = search needs
-
-get-requires-2 : tie.Need-get-requires-2 Inv-loop μ-loop
-get-requires-2 c κs = search needs
-
 pervade-at-requires : tie.Need-pervade-at-requires Inv-loop μ-loop
 pervade-at-requires c κs = search needs
 
@@ -52,13 +46,13 @@ loop-less : tie.Need-loop-less Inv-loop μ-loop
 loop-less c = search needs
 
 loop-again : tie.Need-loop-again Inv-loop μ-loop
-loop-again c = (omega arith, simp length-set (c .before .before .before .before .before .before .before .loop .inv .1), walk-more (c .before .before .before .before .before .before .before .before .before .args .fill-a) (c .before .before .before .before .before .before .before .before .before .args .fill-b) (dimsOf (c .before .before .before .before .before .before .before .before .before .args .a)) (dimsOf (c .before .before .before .before .before .before .before .before .before .args .b)) (c .before .before .before .before .before .before .before .loop .sizes) (c .before .before .before .before .before .before .before .loop .i) (omega (arith, c .before .before .before .before .before .before .before .before .longer .ensures .0)) (c .before .before .before .before .before .get .ensures) (c .before .before .before .before .get2 .ensures) (c .before .before .before .before .before .before .before .loop .inv .2) (c .before .size .given .0 .0) (omega arith) (sym (ap cellOf (c .before .size .given .1)) ∙ c .before .before .before .pervade-at .ensures))
+loop-again c = (omega arith, simp length-set (c .before .before .before .before .before .loop .inv .1), walk-more (c .before .before .before .before .before .before .before .args .fill-a) (c .before .before .before .before .before .before .before .args .fill-b) (dimsOf (c .before .before .before .before .before .before .before .args .a)) (dimsOf (c .before .before .before .before .before .before .before .args .b)) (c .before .before .before .before .before .loop .sizes) (c .before .before .before .before .before .loop .i) (omega (arith, c .before .before .before .before .before .before .longer .ensures .0)) (c .before .before .before .pervade-at .ensures) (c .before .before .before .before .before .loop .inv .2) (c .before .size .given .0 .0) (omega arith) (sym (ap cellOf (c .before .size .given .1))))
 
 no-dims-requires : tie.Need-no-dims-requires Inv-loop μ-loop
 no-dims-requires c κs = search needs
 
 returns : tie.Need-returns Inv-loop μ-loop
-returns c = ⊎-elim (λ w. absurd (omega arith)) (λ w. ap clash (w .6) ∙ sym (walk-stop (c .before .before .before .before .before .args .fill-a) (c .before .before .before .before .before .args .fill-b) (dimsOf (c .before .before .before .before .before .args .a)) (dimsOf (c .before .before .before .before .before .args .b)) (c .before .before .before .loop .sizes) (c .before .before .before .loop .i) (omega (arith, c .before .before .before .before .longer .ensures .0)) (w .1 .ensures) (w .2 .ensures) (c .before .before .before .loop .inv .2) (omega arith) (sym (ap cellOf (w .5 .given .1)) ∙ w .3 .ensures))) (c .before .before .if1 .came)
+returns c = ⊎-elim (λ w. absurd (omega arith)) (λ w. ap clash (w .4) ∙ sym (walk-stop (c .before .before .before .before .before .args .fill-a) (c .before .before .before .before .before .args .fill-b) (dimsOf (c .before .before .before .before .before .args .a)) (dimsOf (c .before .before .before .before .before .args .b)) (c .before .before .before .loop .sizes) (c .before .before .before .loop .i) (omega (arith, c .before .before .before .before .longer .ensures .0)) (w .1 .ensures) (c .before .before .before .loop .inv .2) (omega arith) (sym (ap cellOf (w .3 .given .1))))) (c .before .before .if1 .came)
 
 returns-2 : tie.Need-returns-2 Inv-loop μ-loop
 returns-2 c = ⊎-elim (λ w. sym (walk-end (c .before .before .before .before .args .fill-a) (c .before .before .before .before .args .fill-b) (dimsOf (c .before .before .before .before .args .a)) (dimsOf (c .before .before .before .before .args .b)) (c .before .before .loop .sizes) (c .before .before .loop .i) (w .0 .taken) (c .before .before .before .longer .ensures .0) (c .before .before .loop .inv .2))) (λ w. absurd (omega arith)) (c .before .if1 .came)
@@ -71,8 +65,6 @@ pervade-dims-spec =
     μ-loop
     longer-requires
     loop-holds
-    get-requires
-    get-requires-2
     pervade-at-requires
     enum-known-size
     mul-sizes

@@ -19,25 +19,22 @@ size-count-requires : tie.Need-size-count-requires Inv-loop μ-loop
 size-count-requires c κs = search needs
 
 returns : tie.Need-returns Inv-loop μ-loop
-returns c = rest-none (dimsOf (c .before .before .args .t1)) (sym (c .before .size-count .ensures .0) ∙ c .if1 .taken)
+returns c = rest-none (dimsOf (c .before .before .args .d)) (sym (c .before .size-count .ensures .0) ∙ c .if1 .taken)
 
 sub-count : tie.Need-sub-count Inv-loop μ-loop
 sub-count c = search needs
 
 loop-holds : tie.Need-loop-holds Inv-loop μ-loop
-loop-holds c = (search needs, search needs, build-start (drop 1 (dimsOf (c .before .before .args .t1))) [])
+loop-holds c = (search needs, search needs, build-start (drop 1 (dimsOf (c .before .before .args .d))) [])
 
-add-sizes : tie.Need-add-sizes Inv-loop μ-loop
-add-sizes c = search needs
+add-size-at : tie.Need-add-size-at Inv-loop μ-loop
+add-size-at c = search needs
+
+size-at-requires : tie.Need-size-at-requires Inv-loop μ-loop
+size-at-requires c κs = search needs
 
 mul-sizes : tie.Need-mul-sizes Inv-loop μ-loop
 mul-sizes c = search needs
-
-element-copy-out-sizes : tie.Need-element-copy-out-sizes Inv-loop μ-loop
-element-copy-out-sizes c = search needs
-
-mul-sizes-2 : tie.Need-mul-sizes-2 Inv-loop μ-loop
-mul-sizes-2 c = search needs
 
 array-write-sizes : tie.Need-array-write-sizes Inv-loop μ-loop
 array-write-sizes c = search needs
@@ -49,10 +46,10 @@ loop-less : tie.Need-loop-less Inv-loop μ-loop
 loop-less c = search needs
 
 loop-again : tie.Need-loop-again Inv-loop μ-loop
-loop-again c = (omega arith, simp length-set (c .before .before .loop .inv .1), rest-more (c .before .before .before .before .before .args .t1) (c .before .before .loop .sizes) (c .before .before .loop .i) (omega arith) (omega (arith, c .before .before .before .before .size-count .ensures .0)) (c .before .before .loop .inv .2))
+loop-again c = (omega arith, simp length-set (c .before .before .loop .inv .1), rest-more (dimsOf (c .before .before .before .before .before .args .d)) (c .before .before .loop .sizes) (c .before .before .loop .i) (c .size-at .result) (omega arith) (omega (arith, c .before .before .before .before .size-count .ensures .0)) (c .size-at .ensures) (c .before .before .loop .inv .2))
 
 returns-2 : tie.Need-returns-2 Inv-loop μ-loop
-returns-2 c = build-end (drop 1 (dimsOf (c .before .before .before .before .args .t1))) (c .before .loop .sizes) (c .before .loop .i) {n = c .before .before .before .size-count .result - 1} (omega arith) (omega (arith, length-drop 1 (dimsOf (c .before .before .before .before .args .t1)), c .before .before .before .size-count .ensures .0)) (c .before .loop .inv .2)
+returns-2 c = build-end (drop 1 (dimsOf (c .before .before .before .before .args .d))) (c .before .loop .sizes) (c .before .loop .i) {n = c .before .before .before .size-count .result - 1} (omega arith) (omega (arith, length-drop 1 (dimsOf (c .before .before .before .before .args .d)), c .before .before .before .size-count .ensures .0)) (c .before .loop .inv .2)
 
 pub rest-dims-spec : {M : Type 1} → statement M
 rest-dims-spec =
@@ -64,10 +61,9 @@ rest-dims-spec =
     returns
     sub-count
     loop-holds
-    add-sizes
+    add-size-at
+    size-at-requires
     mul-sizes
-    element-copy-out-sizes
-    mul-sizes-2
     array-write-sizes
     add-i
     loop-less

@@ -1,0 +1,56 @@
+// Two kinds by their codes.
+use limits::ANY;
+use limits::BOX;
+ghost use mathlib.Core.Path.{_≡_};
+ghost use Rattle.rules.specs.Scalars.{supersetCodes, streamOrBox, compatibleCodes};
+
+const COMPLEX: u64 = 4;
+
+const ASCII: u64 = 5;
+
+const CHAR: u64 = 6;
+
+const STREAM: u64 = 7;
+
+// Any over all; Complex, Num, Int, Nat, Bool each over the later ones; Char over Ascii; each over its own kind.
+pub fn superset_codes(k: u64, l: u64) -> bool
+    ensures { λ r. ⌜ r ≡ supersetCodes k l ⌝ }
+{
+    if k == ANY {
+        return true;
+    }
+    if k <= COMPLEX {
+        return l <= k;
+    }
+    if k == CHAR {
+        if l == ASCII {
+            return true;
+        }
+    }
+    k == l
+}
+
+// Either over the other, or each a Stream or a Box.
+pub fn compatible_codes(k: u64, l: u64) -> bool
+    ensures { λ r. ⌜ r ≡ compatibleCodes k l ⌝ }
+{
+    if superset_codes(k, l) {
+        return true;
+    }
+    if superset_codes(l, k) {
+        return true;
+    }
+    if stream_or_box(k) {
+        return stream_or_box(l);
+    }
+    false
+}
+
+fn stream_or_box(k: u64) -> bool
+    ensures { λ r. ⌜ r ≡ streamOrBox k ⌝ }
+{
+    if k == STREAM {
+        return true;
+    }
+    k == BOX
+}

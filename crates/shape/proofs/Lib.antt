@@ -1,3 +1,4 @@
 mod SizeLaws
 mod DimsLaws
 mod WalkLaws
+mod ShapeLaws

@@ -3,7 +3,7 @@ use crate::Cell;
 use crate::DimsPervaded;
 use crate::Order;
 use crate::Slot;
-use crate::Walk;
+use crate::Verdict;
 use crate::sizes::cmp;
 use crate::sizes::join_sizes;
 use crate::sizes::larger;
@@ -150,12 +150,12 @@ pub fn pervade_dims(a: Dims, b: Dims, fill_a: bool, fill_b: bool) -> DimsPervade
     };
     if at < count {
         return DimsPervaded {
-            answer: Walk::Stopped(at),
+            answer: Verdict::Clash(at),
             dims: no_dims(),
         };
     }
     DimsPervaded {
-        answer: Walk::Finished,
+        answer: Verdict::Pervaded,
         dims: Dims { sizes, count },
     }
 }
@@ -220,7 +220,7 @@ fn where_filled(fill: bool, size: u64) -> Cell
 }
 
 // The size at an index, where the list has one.
-fn get(d: Dims, i: usize) -> Slot
+pub fn get(d: Dims, i: usize) -> Slot
     ensures { λ r. ⌜ slotOf r ≡ getElem? (dimsOf d) i ⌝ }
 {
     if i < size_count(d) {

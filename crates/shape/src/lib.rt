@@ -1,5 +1,6 @@
 // Sizes and shapes (shape.rs) and their pervading: the rules on sizes and shapes by value, and the public calls on bytes.
 mod dims;
+mod shapes;
 mod sizes;
 
 pub use dims::compatible_dims;
@@ -9,6 +10,16 @@ pub use dims::merge_dims;
 pub use dims::pervade_dims;
 pub use dims::rest_dims;
 use record::Dims;
+use record::DynShape;
+pub use shapes::compatible_with;
+pub use shapes::into_row;
+pub use shapes::is_any;
+pub use shapes::is_scalar;
+pub use shapes::join;
+pub use shapes::merge_from;
+pub use shapes::pervade_dyn_shapes;
+pub use shapes::rank;
+pub use shapes::row_count;
 pub use sizes::cmp;
 pub use sizes::cmp_defined;
 pub use sizes::compatible;
@@ -35,14 +46,19 @@ pub enum Cell {
     Refuses,
 }
 
-// A walk over the indices: finished, or stopped at the first that refuses.
-pub enum Walk {
-    Finished,
-    Stopped(usize),
+// A pervading: clash names the first index that refuses. Sizes stand beside it, since an enum cannot hold an array; where
+// it is a clash they say nothing.
+pub enum Verdict {
+    Pervaded,
+    Clash(usize),
 }
 
-// The sizes of a finished walk stand beside it, since an enum cannot hold an array.
 pub struct DimsPervaded {
-    pub answer: Walk,
+    pub answer: Verdict,
     pub dims: Dims,
+}
+
+pub struct ShapePervaded {
+    pub answer: Verdict,
+    pub shape: DynShape,
 }

@@ -1,0 +1,26 @@
+use mathlib.Core.Path.{sym}
+use native.Mathlib.Omega.{arith}
+use Rattle.record.specs.Answers.{dimsOf, closingFor}
+use Rattle.shape.proofs.ShapeLaws.{closed-is, open-is, any-opening, any-closed, any-open}
+use borrow.Author.Needs.{needs}
+use Rattle.shape.proofs.shapes.is_any.Statement.{statement}
+use Rattle.shape.proofs.shapes.is_any.Tie as tie
+
+size-count-requires : tie.Need-size-count-requires
+size-count-requires c κs = search needs
+
+returns : tie.Need-returns
+returns c = sym (any-opening (dimsOf (c .before .before .before .args .shape .dims)) (closingFor (c .before .before .before .args .shape)) (omega (arith, c .before .size-count .ensures .0)))
+
+returns-2 : tie.Need-returns-2
+returns-2 c = sym (any-closed (dimsOf (c .before .before .before .before .args .shape .dims)) (closed-is (c .before .before .before .before .args .shape) (c .if2 .taken)))
+
+size-count-requires-2 : tie.Need-size-count-requires-2
+size-count-requires-2 c κs = search needs
+
+returns-3 : tie.Need-returns-3
+returns-3 c = sym (any-open (dimsOf (c .before .before .before .before .before .before .args .shape .dims)) (omega (arith, c .before .before .before .before .size-count .ensures .0)) (open-is (c .before .before .before .before .before .before .args .shape) (c .before .before .if2 .left)) (c .size-count2 .ensures .0))
+
+pub is-any-spec : {M : Type 1} → statement M
+is-any-spec =
+    tie.close (tie.spec size-count-requires returns returns-2 size-count-requires-2 returns-3)

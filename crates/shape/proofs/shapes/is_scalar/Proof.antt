@@ -1,0 +1,19 @@
+use mathlib.Core.Path.{sym}
+use native.Mathlib.Omega.{arith}
+use Rattle.record.specs.Answers.{dimsOf, closingFor}
+use Rattle.shape.proofs.ShapeLaws.{scalar-opening, scalar-closing}
+use borrow.Author.Needs.{needs}
+use Rattle.shape.proofs.shapes.is_scalar.Statement.{statement}
+use Rattle.shape.proofs.shapes.is_scalar.Tie as tie
+
+size-count-requires : tie.Need-size-count-requires
+size-count-requires c κs = search needs
+
+returns : tie.Need-returns
+returns c = sym (scalar-opening (dimsOf (c .before .before .before .args .shape .dims)) (closingFor (c .before .before .before .args .shape)) (omega (arith, c .before .size-count .ensures .0)))
+
+returns-2 : tie.Need-returns-2
+returns-2 c = sym (scalar-closing (dimsOf (c .before .before .before .args .shape .dims)) (c .before .before .before .args .shape .closed) (dimsOf (c .before .before .before .args .shape .suffix)) (omega (arith, c .before .size-count .ensures .0)))
+
+pub is-scalar-spec : {M : Type 1} → statement M
+is-scalar-spec = tie.close (tie.spec size-count-requires returns returns-2)

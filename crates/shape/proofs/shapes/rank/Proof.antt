@@ -1,0 +1,25 @@
+use native.Mathlib.Omega.{arith}
+use Rattle.record.specs.Answers.{dimsOf}
+use Rattle.shape.proofs.ShapeLaws.{closed-is, open-is, rank-closed, rank-open}
+use borrow.Author.Needs.{needs}
+use Rattle.shape.proofs.shapes.rank.Statement.{statement}
+use Rattle.shape.proofs.shapes.rank.Tie as tie
+
+size-count-requires : tie.Need-size-count-requires
+size-count-requires c κs = search needs
+
+returns : tie.Need-returns
+returns c = (rank-closed (dimsOf (c .before .before .before .args .shape .dims)) (c .before .size-count .ensures .0) (closed-is (c .before .before .before .args .shape) (c .if1 .taken)), omega (arith, c .before .size-count .ensures .1))
+
+size-count-requires-2 : tie.Need-size-count-requires-2
+size-count-requires-2 c κs = search needs
+
+add-result : tie.Need-add-result
+add-result c = search needs
+
+returns-2 : tie.Need-returns-2
+returns-2 c = (rank-open (dimsOf (c .before .before .before .before .before .args .shape .dims)) (c .before .before .before .size-count .ensures .0) (c .size-count2 .ensures .0) (open-is (c .before .before .before .before .before .args .shape) (c .before .before .if1 .left)), omega (arith, c .before .before .before .size-count .ensures .1, c .size-count2 .ensures .1))
+
+pub rank-spec : {M : Type 1} → statement M
+rank-spec =
+    tie.close (tie.spec size-count-requires returns size-count-requires-2 add-result returns-2)

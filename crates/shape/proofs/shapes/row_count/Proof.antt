@@ -1,0 +1,29 @@
+use mathlib.Core.Path.{sym, ap, _∙_}
+use Rattle.record.specs.Answers.{dimsOf, closingFor}
+use Rattle.shape.specs.Answers.{slotOf}
+use Rattle.shape.proofs.ShapeLaws.{closed-is, open-is, rows-first, rows-closed, rows-open}
+use borrow.Author.Needs.{needs}
+use Rattle.shape.proofs.shapes.row_count.Statement.{statement}
+use Rattle.shape.proofs.shapes.row_count.Tie as tie
+
+get-requires : tie.Need-get-requires
+get-requires c κs = search needs
+
+enum-known-size : tie.Need-enum-known-size
+enum-known-size c = search needs
+
+returns : tie.Need-returns
+returns c = rows-first (dimsOf (c .before .before .before .before .before .args .shape .dims)) (closingFor (c .before .before .before .before .before .args .shape)) (sym (ap slotOf (c .before .size .given .1)) ∙ c .before .before .before .get .ensures)
+
+enum-told : tie.Need-enum-told
+enum-told c = search needs
+
+returns-2 : tie.Need-returns-2
+returns-2 c = rows-closed (dimsOf (c .before .before .before .before .before .args .shape .dims)) (sym (ap slotOf (c .before .enum-told .given .1)) ∙ c .before .before .before .get .ensures) (closed-is (c .before .before .before .before .before .args .shape) (c .if1 .taken))
+
+returns-3 : tie.Need-returns-3
+returns-3 c = rows-open (dimsOf (c .before .before .before .before .before .args .shape .dims)) (sym (ap slotOf (c .before .enum-told .given .1)) ∙ c .before .before .before .get .ensures) (open-is (c .before .before .before .before .before .args .shape) (c .if1 .left))
+
+pub row-count-spec : {M : Type 1} → statement M
+row-count-spec =
+    tie.close (tie.spec get-requires enum-known-size returns enum-told returns-2 returns-3)

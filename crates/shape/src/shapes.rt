@@ -1,0 +1,221 @@
+// Shapes by value: the methods of `DynShape` and its join, and the pervading of two.
+use crate::ShapePervaded;
+use crate::Slot;
+use crate::dims::compatible_dims;
+use crate::dims::get;
+use crate::dims::join_dims;
+use crate::dims::join_ends;
+use crate::dims::merge_dims;
+use crate::dims::pervade_dims;
+use crate::dims::rest_dims;
+use limits::UNKNOWN;
+use record::Dims;
+use record::DynShape;
+use record::no_dims;
+use writer::size_count;
+ghost use mathlib.Core.Path.{_≡_};
+ghost use Prim.Native.Nat.{_≤_};
+ghost use Rattle.model.specs.Types.{shape};
+ghost use Rattle.format.specs.Records.{dimOf};
+ghost use Rattle.record.specs.Answers.{dimsOf, closingFor, shapeFor};
+ghost use Rattle.rules.specs.Shapes.{isScalar, isAny, rowCount, rank, rowShape, compatibleShapes, mergeClosing, mergeFrom, joinShapes};
+ghost use Rattle.rules.specs.Pervade.{pervadeClosing, pervade};
+ghost use Rattle.shape.specs.Answers.{shapePervadedOf};
+
+// The first opening size; without one, unknown if open, else 1.
+pub fn row_count(shape: DynShape) -> u64
+    ensures { λ r. ⌜ dimOf r ≡ rowCount (shapeFor shape) ⌝ }
+{
+    let dims = shape.dims;
+    if let Slot::Size(size) = get(dims, 0) {
+        return size;
+    }
+    if shape.closed {
+        return 1;
+    }
+    UNKNOWN
+}
+
+// Both counts added.
+pub fn rank(shape: DynShape) -> usize
+    ensures { λ r. ⌜ (r ≡ rank (shapeFor shape)) × (r ≤ 16) ⌝ }
+{
+    let dims = shape.dims;
+    let opening = size_count(dims);
+    if shape.closed {
+        return opening;
+    }
+    let suffix = shape.suffix;
+    opening + size_count(suffix)
+}
+
+pub fn is_any(shape: DynShape) -> bool
+    ensures { λ r. ⌜ r ≡ isAny (shapeFor shape) ⌝ }
+{
+    let dims = shape.dims;
+    if 0 < size_count(dims) {
+        return false;
+    }
+    if shape.closed {
+        return false;
+    }
+    let suffix = shape.suffix;
+    size_count(suffix) == 0
+}
+
+pub fn is_scalar(shape: DynShape) -> bool
+    ensures { λ r. ⌜ r ≡ isScalar (shapeFor shape) ⌝ }
+{
+    let dims = shape.dims;
+    if 0 < size_count(dims) {
+        return false;
+    }
+    shape.closed
+}
+
+// Drops the first opening size, else the first closing one.
+pub fn into_row(shape: DynShape) -> DynShape
+    ensures { λ r. ⌜ shapeFor r ≡ rowShape (shapeFor shape) ⌝ }
+{
+    let dims = shape.dims;
+    let suffix = shape.suffix;
+    let closed = shape.closed;
+    if 0 < size_count(dims) {
+        let dims = rest_dims(dims);
+        return DynShape {
+            dims,
+            suffix,
+            closed,
+        };
+    }
+    let suffix = rest_dims(suffix);
+    DynShape {
+        dims,
+        suffix,
+        closed,
+    }
+}
+
+// Closing sizes are not looked at.
+pub fn compatible_with(a: DynShape, b: DynShape) -> bool
+    ensures { λ r. ⌜ r ≡ compatibleShapes (shapeFor a) (shapeFor b) ⌝ }
+{
+    let a_dims = a.dims;
+    let b_dims = b.dims;
+    compatible_dims(a_dims, b_dims)
+}
+
+pub fn merge_from(a: DynShape, b: DynShape) -> DynShape
+    ensures { λ r. ⌜ shapeFor r ≡ mergeFrom (shapeFor a) (shapeFor b) ⌝ }
+{
+    let a_dims = a.dims;
+    let b_dims = b.dims;
+    let dims = merge_dims(a_dims, b_dims);
+    merge_closing(dims, a, b)
+}
+
+// Open with none named against closed gives closed; named closing sizes stay; closed against open takes the other's.
+fn merge_closing(dims: Dims, a: DynShape, b: DynShape) -> DynShape
+    ensures { λ r. ⌜ shapeFor r ≡ shape (dimsOf dims) (mergeClosing (closingFor a) (closingFor b)) ⌝ }
+{
+    let a_suffix = a.suffix;
+    let b_suffix = b.suffix;
+    if a.closed {
+        return DynShape {
+            dims,
+            suffix: b_suffix,
+            closed: b.closed,
+        };
+    }
+    if b.closed {
+        let closed = size_count(a_suffix) == 0;
+        return DynShape {
+            dims,
+            suffix: a_suffix,
+            closed,
+        };
+    }
+    let suffix = merge_dims(a_suffix, b_suffix);
+    DynShape {
+        dims,
+        suffix,
+        closed: false,
+    }
+}
+
+// A closing list exists only if both have one.
+pub fn join(a: DynShape, b: DynShape) -> DynShape
+    ensures { λ r. ⌜ shapeFor r ≡ joinShapes (shapeFor a) (shapeFor b) ⌝ }
+{
+    let a_dims = a.dims;
+    let b_dims = b.dims;
+    let a_suffix = a.suffix;
+    let b_suffix = b.suffix;
+    let dims = join_dims(a_dims, b_dims);
+    let suffix = join_ends(a_suffix, b_suffix);
+    if a.closed {
+        return DynShape {
+            dims,
+            suffix,
+            closed: true,
+        };
+    }
+    DynShape {
+        dims,
+        suffix,
+        closed: b.closed,
+    }
+}
+
+pub fn pervade_dyn_shapes(a: DynShape, b: DynShape, a_fill: bool, b_fill: bool) -> ShapePervaded
+    ensures { λ r. ⌜ shapePervadedOf r ≡ pervade «a_fill» «b_fill» (shapeFor a) (shapeFor b) ⌝ }
+{
+    let a_dims = a.dims;
+    let b_dims = b.dims;
+    let walk = pervade_dims(a_dims, b_dims, a_fill, b_fill);
+    let answer = walk.answer;
+    let dims = walk.dims;
+    let shape = pervade_closing(dims, a, b);
+    ShapePervaded { answer, shape }
+}
+
+// An absent closing list yields to the other's, an empty one to a named one only; two named ones give an empty one.
+fn pervade_closing(dims: Dims, a: DynShape, b: DynShape) -> DynShape
+    ensures { λ r. ⌜ shapeFor r ≡ shape (dimsOf dims) (pervadeClosing (closingFor a) (closingFor b)) ⌝ }
+{
+    let a_suffix = a.suffix;
+    let b_suffix = b.suffix;
+    if a.closed {
+        return DynShape {
+            dims,
+            suffix: b_suffix,
+            closed: b.closed,
+        };
+    }
+    if b.closed {
+        return DynShape {
+            dims,
+            suffix: a_suffix,
+            closed: false,
+        };
+    }
+    if size_count(a_suffix) == 0 {
+        return DynShape {
+            dims,
+            suffix: b_suffix,
+            closed: false,
+        };
+    }
+    if size_count(b_suffix) == 0 {
+        return DynShape {
+            dims,
+            suffix: a_suffix,
+            closed: false,
+        };
+    }
+    DynShape {
+        dims,
+        suffix: no_dims(),
+        closed: false,
+    }
+}

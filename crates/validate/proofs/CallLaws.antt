@@ -1,17 +1,18 @@
 -- The public calls: what the two types that a call reads come to, and what it hands over.
-use Prim.Native.Nat.{ℕ, _+_, _≤_}
+use Prim.Native.Nat.{ℕ, _+_, _-_, _≤_}
 use native.Mathlib.Omega.{arith}
 use native.Mathlib.Nat.{zero-add}
 use mathlib.Core.Bool.{Bool, true, false, cond}
 use mathlib.Core.List.{List, _++_}
 use mathlib.Core.Path.{_≡_, refl, sym, _∙_, ap}
-use lib.ListN.{length, length-append}
+use lib.ListN.{length, take, drop, length-append, length-drop}
+use lib.Seq.{take-length}
 use Rattle.model.specs.Refusals.{wrongShape}
 use Rattle.model.specs.Types.{Shape, Scalar, Ty, ty, shapeOf}
 use Rattle.format.specs.Records.{writeShape, writeScalar, writeTy}
 use Rattle.format.specs.Outcome.{Outcome, accepted, refused, mapped, bound, both, scalarRecord}
 use Rattle.lent.specs.Over.{over, over-over}
-use Rattle.record.specs.Answers.{nothing, nothings}
+use Rattle.record.specs.Answers.{nothing, nothings, shapeFor}
 use Rattle.validation.specs.CheckShape.{Side, checkShape}
 use Rattle.validation.specs.Validate.{checkShapeOnly}
 use Rattle.validate.specs.Answers.{checkedOf}
@@ -56,12 +57,17 @@ module _ (side : Side) (x y : Outcome Ty) {s t : Shape} {w : List ℕ} (first : 
       go (accepted (ty a k)) (refused j q) e f g = let z : _≡_ {A = ℕ} 0 1 = cc in absurd (omega arith)
       go (refused j q) y e f g = let z : _≡_ {A = ℕ} 0 1 = cc in absurd (omega arith)
 
-  module _ (r : Checked) (checked : checkedOf r ≡ checkShape side s t) where
-    pub shape-clash : r .clash ≡ true → both (λ a b. mapped writeTy (checkShapeOnly side a b)) x y ≡ refused wrongShape 0
-    shape-clash e = shape-only ∙ ap (mapped (λ u. writeShape u ++ w)) (sym checked) ∙ rw e
+  pub shape-merged : (r : Checked) → checkedOf r ≡ checkShape side s t → r .clash ≡ false → both (λ a b. mapped writeTy (checkShapeOnly side a b)) x y ≡ accepted (writeShape (shapeFor (r .shape)) ++ w)
+  shape-merged r checked e = shape-only ∙ ap (mapped (λ u. writeShape u ++ w)) (sym checked) ∙ rw e
 
-    pub shape-merged : {u : Shape} → r .clash ≡ false → checkedOf r ≡ accepted u → both (λ a b. mapped writeTy (checkShapeOnly side a b)) x y ≡ accepted (writeShape u ++ w)
-    shape-merged e h = shape-only ∙ ap (mapped (λ u. writeShape u ++ w)) (sym checked ∙ h)
+-- the type's scalar is not looked at
+pub shape-clash : (side : Side) (x y : Outcome Ty) {s t : Shape} → mapped shapeOf x ≡ accepted s → mapped shapeOf y ≡ accepted t → (r : Checked) → checkedOf r ≡ checkShape side s t → r .clash ≡ true → both (λ a b. mapped writeTy (checkShapeOnly side a b)) x y ≡ refused wrongShape 0
+shape-clash side x (accepted (ty b l)) first second r checked e = shape-only side x (accepted (ty b l)) first second refl ∙ ap (mapped (λ u. writeShape u ++ writeScalar l)) (sym checked) ∙ rw e
+shape-clash side x (refused k p) first second r checked e = let z : _≡_ {A = ℕ} 0 1 = cc in absurd (omega arith)
+
+-- the rest of a list, as a part of a slice has it
+pub rest-is : (s : List ℕ) (n : ℕ) → take (length s - n) (drop n s) ≡ drop n s
+rest-is s n = ap (λ k. take k (drop n s)) (sym (length-drop n s)) ∙ take-length (drop n s)
 
 -- ---- one stretch after another at the front of a result
 

@@ -1,3 +1,4 @@
 mod DimsLaws
 mod ShapesLaws
 mod CallLaws
+mod PlacesLaws

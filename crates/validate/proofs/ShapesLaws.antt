@@ -86,6 +86,10 @@ module _ (side : Side) (o : List Dim) (c : _) (t : Shape) {m : Bool} (e : m ≡ 
 
 -- ---- what is merged
 
+pub sided-not : (s : Shape) → s ≡ sidedShape unsided s
+unfolding sidedShape
+sided-not s = refl
+
 none-of : (d : Dims) → d .count ≡ 0 → dimsOf d ≡ []
 none-of d e = rw e
 

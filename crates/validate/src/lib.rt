@@ -1,8 +1,11 @@
 // Validation (mod.rs): `validate`, `check_scalar` and `check_shape`. Old bytes in, new bytes out, or a refusal and nothing
 // changed.
+mod calls;
 mod dims;
+mod places;
 mod shapes;
 
+pub use calls::check_shape;
 use record::DynShape;
 
 // The side that a validation is for, or none.
@@ -16,4 +19,20 @@ pub enum Side {
 pub struct Checked {
     pub clash: bool,
     pub shape: DynShape,
+}
+
+// What a type's scalar is, and where what it holds begins: an All box's content; a Def's name, its fields and their count.
+pub enum View {
+    Plain {
+        code: u64,
+    },
+    BoxAny,
+    BoxAll {
+        content: usize,
+    },
+    BoxDef {
+        name: usize,
+        fields: usize,
+        count: u64,
+    },
 }

@@ -1,10 +1,14 @@
 // `check_shape` on shapes by value.
+use crate::Checked;
 use crate::Side;
 use crate::dims::agree;
 use crate::dims::agree_ends;
 use crate::dims::equal_dims;
 use record::Dims;
 use record::DynShape;
+use record::no_dims;
+use shape::is_any;
+use shape::merge_from;
 use writer::size_count;
 ghost use mathlib.Core.Path.{_≡_};
 ghost use Rattle.record.specs.Answers.{dimsOf, shapeFor};
@@ -63,5 +67,56 @@ fn mismatch(side: Side, o: Dims, t: DynShape) -> bool
         Side::Unsided => mismatch_unsided(o, t),
         Side::Left => mismatch_left(o, t),
         Side::Right => mismatch_right(o, t),
+    }
+}
+
+// [..] on either side excuses a mismatch.
+fn clashes(side: Side, spec: DynShape, t: DynShape) -> bool
+    ensures { λ r. ⌜ r ≡ shapeMismatch (sideOf side) (shapeFor spec) (shapeFor t) ⌝ }
+{
+    let dims = spec.dims;
+    if !mismatch(side, dims, t) {
+        return false;
+    }
+    if is_any(spec) {
+        return false;
+    }
+    !is_any(t)
+}
+
+// What is merged: for a side the spec's opening sizes alone, open, and for the right side as closing sizes.
+fn sided_shape(side: Side, spec: DynShape) -> DynShape
+    ensures { λ r. ⌜ shapeFor r ≡ sidedShape (sideOf side) (shapeFor spec) ⌝ }
+{
+    let sizes = spec.dims;
+    match side {
+        Side::Unsided => spec,
+        Side::Left => DynShape {
+            dims: sizes,
+            suffix: no_dims(),
+            closed: false,
+        },
+        Side::Right => DynShape {
+            dims: no_dims(),
+            suffix: sizes,
+            closed: false,
+        },
+    }
+}
+
+// A spec's shape on a type's.
+pub fn check_shapes(side: Side, spec: DynShape, t: DynShape) -> Checked
+    ensures { λ r. ⌜ checkedOf r ≡ checkShape (sideOf side) (shapeFor spec) (shapeFor t) ⌝ }
+{
+    if clashes(side, spec, t) {
+        return Checked {
+            clash: true,
+            shape: t,
+        };
+    }
+    let merged = merge_from(t, sided_shape(side, spec));
+    Checked {
+        clash: false,
+        shape: merged,
     }
 }

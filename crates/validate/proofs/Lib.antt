@@ -2,3 +2,4 @@ mod DimsLaws
 mod ShapesLaws
 mod CallLaws
 mod PlacesLaws
+mod PlanLaws

@@ -6,6 +6,7 @@ use mathlib.Core.List.{List, [], _∷_, _++_}
 use mathlib.Core.Option.{Option, none, some}
 use mathlib.Core.Path.{_≡_, refl, sym, _∙_, ap}
 use lib.ListN.{length, getD, drop, length-append}
+use lib.Dec.{eqb}
 use borrow.Author.Tests.{ne-eqb}
 use Rattle.model.specs.Limits.{maxName, maxTypes, maxDepth}
 use Rattle.model.specs.Types.{Shape, Scalar, boxAny, boxAll, boxDef, Fields, noFields, field, fieldCount, Ty, ty, types, depth, inside, among, below, deepest}
@@ -176,9 +177,9 @@ module _ {s : List ℕ} {at : ℕ} {p : Shape} {k : Scalar} (placed : Placed s a
             pub count-there : i + 7 + m < length s
             count-there = parts λ n g is st l. omega (arith, stands-within s (i + 7 + m) (fieldCount g ∷ writeFields g) (omega arith) (count-stands n g st l))
 
-            pub seen-def : {b : ℕ} → b ≡ getD s (i + 7 + m) 0 → SeenDef s k (i + 6) (i + 7 + m + 1) b
+            pub seen-def : {b : ℕ} {d : Bool} → d ≡ cond (eqb (getD s (i + 6) 0) absent) false true → b ≡ getD s (i + 7 + m) 0 → SeenDef s k (i + 6) d (i + 7 + m + 1) b
             unfolding inside below
-            seen-def {b} count = parts λ n g is st l.
+            seen-def {b} {d} given count = parts λ n g is st l.
                 let two = count-stands n g st l in
                 let w : ScalarWithin (boxDef n g) = rw is at (placed .within) in
                 let x : inside (boxDef n g) < maxTypes = rw is at (placed .few) in
@@ -187,8 +188,11 @@ module _ {s : List ℕ} {at : ℕ} {p : Shape} {k : Scalar} (placed : Placed s a
                   name = n;
                   held = g;
                   is = is;
-                  named = stands-first s (i + 6) (countOf n ∷ listOf n) (fieldCount g ∷ writeFields g) st;
+                  known = given ∙ ap (λ c. cond (eqb c absent) false true) (stands-byte s (i + 6) (countOf n) (listOf n ++ (fieldCount g ∷ writeFields g)) st);
+                  titled = stands-first s (i + 6) (countOf n ∷ listOf n) (fieldCount g ∷ writeFields g) st;
+                  short = l;
                   ends = omega (arith, long n g st l);
                   listed = listed-fields s (i + 7 + m + 1) g (stands-second s (i + 7 + m) (fieldCount g ∷ []) (writeFields g) two) (w .2) x y;
                   counted = count ∙ stands-byte s (i + 7 + m) (fieldCount g) (writeFields g) two;
+                  numbered = w .1;
                 }

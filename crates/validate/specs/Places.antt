@@ -1,14 +1,15 @@
 -- Where a type stands in bytes that were once read, and a list of types of which each stands at a place.
-use Prim.Native.Nat.{ℕ, suc, _+_, _<_}
-use mathlib.Core.Bool.{Bool, true, cond}
+use Prim.Native.Nat.{ℕ, suc, _+_, _≤_, _<_}
+use mathlib.Core.Bool.{Bool, true, false, cond}
 use mathlib.Core.List.{List, _∷_, _++_}
 use mathlib.Core.Option.{Option}
 use mathlib.Core.Path.{_≡_}
 use lib.ListN.{length}
-use Rattle.model.specs.Limits.{maxTypes, maxDepth}
+use lib.Dec.{eqb}
+use Rattle.model.specs.Limits.{maxName, maxFields, maxTypes, maxDepth}
 use Rattle.model.specs.Types.{Shape, Kind, Scalar, plain, boxAny, boxAll, boxDef, Fields, noFields, field, fieldCount, inside, below}
 use Rattle.model.specs.Within.{ShapeWithin, ScalarWithin}
-use Rattle.format.specs.Records.{code, countOf, listOf, writeShape, writeScalar}
+use Rattle.format.specs.Records.{code, absent, countOf, listOf, writeShape, writeScalar}
 use Rattle.format.specs.Views.{Stands}
 use Rattle.validate.specs.declared.View.{View}
 use Rattle.validate.specs.declared.View.the-variants.{Plain, BoxAny, BoxAll, BoxDef}
@@ -47,17 +48,20 @@ pub record SeenAll (s : List ℕ) (k : Scalar) (c : ℕ) : Type 0 where
   pub is : k ≡ boxAll shape scalar
   pub placed : Placed s c shape scalar
 
-pub record SeenDef (s : List ℕ) (k : Scalar) (at fields count : ℕ) : Type 0 where
+pub record SeenDef (s : List ℕ) (k : Scalar) (at : ℕ) (named : Bool) (fields count : ℕ) : Type 0 where
   pub name : Option (List ℕ)
   pub held : Fields
   pub is : k ≡ boxDef name held
-  pub named : Stands s at (countOf name ∷ listOf name)
+  pub titled : Stands s at (countOf name ∷ listOf name)
+  pub known : named ≡ cond (eqb (countOf name) absent) false true
+  pub short : length (listOf name) ≤ maxName
   pub ends : fields ≡ at + suc (suc (length (listOf name)))
   pub listed : Listed true s fields held
   pub counted : count ≡ fieldCount held
+  pub numbered : fieldCount held ≤ maxFields
 
 abbrev pub Seen : List ℕ → Scalar → View → Type 0
 Seen s k (Plain c) = SeenPlain k c
 Seen s k BoxAny = k ≡ boxAny
 Seen s k (BoxAll c) = SeenAll s k c
-Seen s k (BoxDef name fields count) = SeenDef s k name fields count
+Seen s k (BoxDef name named fields count) = SeenDef s k name named fields count

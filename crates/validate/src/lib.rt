@@ -3,6 +3,7 @@
 mod calls;
 mod dims;
 mod places;
+mod plans;
 mod shapes;
 
 pub use calls::check_shape;
@@ -32,7 +33,35 @@ pub enum View {
     },
     BoxDef {
         name: usize,
+        named: bool,
         fields: usize,
         count: u64,
+    },
+}
+
+// What a spec's scalar asks of a type's: a refusal; the type's scalar as it is; the spec's; the contents of two All boxes, at
+// their places; or a Def whose fields are those of two lists, pair by pair as far as both go.
+pub enum Plan {
+    Refuse {
+        number: u8,
+    },
+    Keep,
+    Take,
+    Inside {
+        content: usize,
+        other: usize,
+    },
+    // The spec's list: its place and count, and whether its types stand one after the other or all at that place. The type's
+    // list likewise, which stands in the type's bytes or is made of [..] Any. The Def's name, in the spec's bytes or the type's.
+    Pairs {
+        content: usize,
+        limit: u64,
+        moves: bool,
+        other: usize,
+        count: u64,
+        steps: bool,
+        fresh: bool,
+        name: usize,
+        borrowed: bool,
     },
 }

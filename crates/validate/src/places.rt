@@ -12,11 +12,12 @@ use record::read_type;
 use scalar::form_at;
 use scalar::kind_at;
 ghost use mathlib.Core.Path.{_≡_};
-ghost use mathlib.Core.Bool.{Bool};
+ghost use mathlib.Core.Bool.{Bool, true, false, cond};
 ghost use Prim.Native.Nat.{suc, _+_, _≤_, _<_};
 ghost use lib.ListN.{length};
+ghost use lib.Dec.{eqb};
 ghost use Rattle.model.specs.Types.{Shape, Scalar, inside};
-ghost use Rattle.format.specs.Records.{listCount, writeShape};
+ghost use Rattle.format.specs.Records.{absent, listCount, writeShape};
 ghost use Rattle.validation.specs.FitsLaws.{fits};
 ghost use Rattle.validate.specs.Places.{Placed, HasPlaced, onward, Seen};
 
@@ -37,7 +38,7 @@ pub fn scalar_at(s: &[u8], at: usize) -> usize
 
 // How many types it is, itself counted.
 pub fn types_at(s: &[u8], at: usize) -> u64
-    ensures { λ r. ⌜ ((p : Shape) (k : Scalar) → Placed (now (s .entry)) at p k → r ≡ suc (inside k)) ⌝ }
+    ensures { λ r. ⌜ (r ≤ 32) × ((p : Shape) (k : Scalar) → Placed (now (s .entry)) at p k → r ≡ suc (inside k)) ⌝ }
 {
     let answer = read_type(s, at, MAX_DEPTH, MAX_TYPES);
     match answer {
@@ -107,9 +108,20 @@ pub fn look(s: &[u8], at: usize) -> View
     let end = i + 7 + name_length(s[i + 6]);
     View::BoxDef {
         name: i + 6,
+        named: has_name(s[i + 6]),
         fields: end + 1,
         count: s[end] as u64,
     }
+}
+
+// Whether it is the length of a name.
+fn has_name(n: u8) -> bool
+    ensures { λ r. ⌜ r ≡ cond (eqb n absent) false true ⌝ }
+{
+    if n as u64 == ABSENT {
+        return false;
+    }
+    true
 }
 
 fn name_length(n: u8) -> usize

@@ -14,16 +14,16 @@ enum-known-answer : tie.Need-enum-known-answer
 enum-known-answer c = search needs
 
 returns : tie.Need-returns
-returns c = λ p k h. absurd (omega (arith, type-known h _ (c .before .before .before .before .read-type .ensures) (c .before .before .answer .given .1) .0))
+returns c = (omega arith, λ p k h. absurd (omega (arith, type-known h _ (c .before .before .before .before .read-type .ensures) (c .before .before .answer .given .1) .0)))
 
 enum-told : tie.Need-enum-told
 enum-told c = search needs
 
 returns-2 : tie.Need-returns-2
-returns-2 c = λ p k h. omega (arith, type-known h _ (c .before .before .before .before .read-type .ensures) (c .before .before .answer .given .1) .0, h .few)
+returns-2 c = (omega arith, λ p k h. omega (arith, type-known h _ (c .before .before .before .before .read-type .ensures) (c .before .before .answer .given .1) .0, h .few))
 
 returns-3 : tie.Need-returns-3
-returns-3 c = λ p k h. type-there h _ (c .before .before .read-type .ensures) (c .enum-told .given .1)
+returns-3 c = (omega arith, λ p k h. type-there h _ (c .before .before .read-type .ensures) (c .enum-told .given .1))
 
 pub types-at-spec : {M : Type 1} → statement M
 types-at-spec =

@@ -3,3 +3,4 @@ mod ShapesLaws
 mod CallLaws
 mod PlacesLaws
 mod PlanLaws
+mod CopyLaws

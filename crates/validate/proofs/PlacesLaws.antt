@@ -107,7 +107,7 @@ name-most : (n : Option (List ℕ)) → Each NameWithin n → length (listOf n) 
 name-most none h = omega arith
 name-most (some n) h = h .0
 
-counted-is : (n : Option (List ℕ)) → length (listOf n) ≤ maxName → listCount (countOf n) ≡ length (listOf n)
+pub counted-is : (n : Option (List ℕ)) → length (listOf n) ≤ maxName → listCount (countOf n) ≡ length (listOf n)
 counted-is none h = refl
 counted-is (some n) h = rw (ne-eqb (length n) absent (λ x. omega arith))
 

@@ -1,6 +1,7 @@
 // Validation (mod.rs): `validate`, `check_scalar` and `check_shape`. Old bytes in, new bytes out, or a refusal and nothing
 // changed.
 mod calls;
+mod copies;
 mod dims;
 mod places;
 mod plans;
@@ -64,4 +65,10 @@ pub enum Plan {
         name: usize,
         borrowed: bool,
     },
+}
+
+// Where the bytes written end and how many types they are, or the number of a refusal.
+pub enum Wrote {
+    Done { end: usize, types: u64 },
+    Refused { number: u8 },
 }

@@ -124,7 +124,7 @@ fn has_name(n: u8) -> bool
     true
 }
 
-fn name_length(n: u8) -> usize
+pub fn name_length(n: u8) -> usize
     ensures { λ r. ⌜ (r ≡ listCount n) × (r < 256) ⌝ }
 {
     if n as u64 == ABSENT {

@@ -1,0 +1,61 @@
+// Records and heads of records, written to a buffer from a place on.
+use crate::Wrote;
+use crate::places::name_length;
+use crate::places::next_type;
+use crate::places::scalar_at;
+use crate::places::types_at;
+use lent::lay;
+ghost use mathlib.Core.Path.{_≡_};
+ghost use mathlib.Core.List.{List};
+ghost use mathlib.Core.Option.{Option};
+ghost use mathlib.Core.List.{_∷_};
+ghost use Prim.Native.Nat.{ℕ, _+_, _≤_, _<_};
+ghost use lib.ListN.{length, take};
+ghost use Rattle.model.specs.Types.{Shape, Scalar};
+ghost use Rattle.format.specs.Records.{boxStart, countOf, listOf};
+ghost use Rattle.format.specs.Views.{Stands};
+ghost use Rattle.format.specs.Outcome.{accepted};
+ghost use Rattle.lent.specs.Over.{over};
+ghost use Rattle.validate.specs.Places.{Placed};
+ghost use Rattle.validate.specs.Walk.{wroteOf, scalarPiece, Roomy, Copyable, Nameable, defHead};
+
+// The scalar of the type at `at`, as it stands.
+pub fn copy_scalar(s: &[u8], at: usize, out: &mut [u8], to: usize) -> Wrote
+    requires { ⌜ Copyable (now s) at to (length (now out)) ⌝ }
+    ensures { λ r. ⌜ ((p : Shape) (k : Scalar) → Placed (now (s .entry)) at p k → (wroteOf r (now (out .exit)) ≡ accepted (scalarPiece (take to (now (out .entry))) k)) × Roomy r (to + 24)) ⌝ }
+{
+    let start = scalar_at(s, at);
+    let end = next_type(s, at, true);
+    let types = types_at(s, at);
+    lay(&s[start..end], &mut *out, to);
+    Wrote::Done {
+        end: to + (end - start),
+        types: types - 1,
+    }
+}
+
+// A box's record up to its form.
+pub fn put_box(out: &mut [u8], to: usize, form: u8)
+    requires { ⌜ to + 6 ≤ length (now out) ⌝ }
+    ensures { λ _. ⌜ now (out .exit) ≡ over (now (out .entry)) to (boxStart form) ⌝ }
+{
+    out[to] = 0x53;
+    out[to + 1] = 0x43;
+    out[to + 2] = 8;
+    out[to + 3] = 0x42;
+    out[to + 4] = 0x58;
+    out[to + 5] = form;
+}
+
+// A Def's head: its box, the name that stands at `name`, and the count of its fields. Answers the place after it.
+pub fn put_def(s: &[u8], name: usize, count: u8, out: &mut [u8], to: usize) -> usize
+    requires { ⌜ Nameable (now s) name to (length (now out)) ⌝ }
+    ensures { λ r. ⌜ ((label : Option (List ℕ)) → Stands (now (s .entry)) name (countOf label ∷ listOf label) → length (listOf label) ≤ 16 → (r ≡ to + length (defHead label count)) × (r ≤ to + 24) × (now (out .exit) ≡ over (now (out .entry)) to (defHead label count))) ⌝ }
+{
+    let end = name + 1 + name_length(s[name]);
+    put_box(&mut *out, to, 2);
+    lay(&s[name..end], &mut *out, to + 6);
+    let last = to + 6 + (end - name);
+    out[last] = count;
+    last + 1
+}

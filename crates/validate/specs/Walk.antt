@@ -2,14 +2,16 @@
 use Prim.Native.Nat.{ℕ, suc, _+_, _*_, _≤_}
 use mathlib.Core.List.{List, [], _∷_, _++_}
 use mathlib.Core.Option.{Option}
+use mathlib.Core.Path.{_≡_}
+use mathlib.Core.Bool.{Bool}
 use lib.ListN.{length, take}
-use Rattle.model.specs.Limits.{maxName, maxFields}
-use Rattle.model.specs.Types.{Shape, Scalar, Fields, Ty, ty, inside, among}
+use Rattle.model.specs.Limits.{maxName, maxFields, maxTypes}
+use Rattle.model.specs.Types.{Shape, Scalar, Fields, Ty, ty, fieldCount, inside, among}
 use Rattle.format.specs.Records.{boxStart, countOf, listOf, writeShape, writeScalar, writeFields}
 use Rattle.format.specs.Suffices.{shapeBytes, boxBytes}
 use Rattle.format.specs.Views.{Stands}
 use Rattle.format.specs.Outcome.{Outcome, accepted, refused}
-use Rattle.validate.specs.Places.{Placed}
+use Rattle.validate.specs.Places.{Placed, Listed}
 use Rattle.validate.specs.declared.Wrote.{Wrote}
 use Rattle.validate.specs.declared.Wrote.the-variants.{Done, Refused}
 
@@ -43,6 +45,12 @@ pub record Copyable (s : List ℕ) (at to room : ℕ) : Type 0 where
   pub there : Placed s at shape scalar
   pub fits : to + boxBytes + (shapeBytes + boxBytes) * inside scalar ≤ room
 
+pub record Placeable (s : List ℕ) (at to room : ℕ) : Type 0 where
+  pub shape : Shape
+  pub scalar : Scalar
+  pub there : Placed s at shape scalar
+  pub fits : to + (shapeBytes + boxBytes) * suc (inside scalar) ≤ room
+
 -- There is a name, or none, whose Def's head has room in a buffer.
 pub record Nameable (s : List ℕ) (at to room : ℕ) : Type 0 where
   pub label : Option (List ℕ)
@@ -53,3 +61,20 @@ pub record Nameable (s : List ℕ) (at to room : ℕ) : Type 0 where
 -- a Def's head: its box, its name and the count of its fields
 abbrev pub defHead : Option (List ℕ) → ℕ → List ℕ
 defHead label count = boxStart 2 ++ ((countOf label ∷ listOf label) ++ (count ∷ []))
+
+-- There is a list of fields that has room in a buffer.
+pub record Listable (s : List ℕ) (at count : ℕ) (moves : Bool) (to room : ℕ) : Type 0 where
+  pub fields : Fields
+  pub there : Listed moves s at fields
+  pub counted : fieldCount fields ≡ count
+  pub fits : to + (shapeBytes + boxBytes) * among fields ≤ room
+  pub few : among fields ≤ maxTypes
+
+-- Of the fields f that were to be written behind `before`, those still to be written behind `so-far`, and how many types went before.
+pub record Going (s : List ℕ) (f : Fields) (before : List ℕ) (to : ℕ) (moves : Bool) (at left : ℕ) (so-far : List ℕ) (end types : ℕ) : Type 0 where
+  pub rest : Fields
+  pub there : Listed moves s at rest
+  pub counted : fieldCount rest ≡ left
+  pub bytes : before ++ writeFields f ≡ so-far ++ writeFields rest
+  pub number : among f ≡ types + among rest
+  pub room : end ≤ to + (shapeBytes + boxBytes) * types

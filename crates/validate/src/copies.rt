@@ -9,15 +9,16 @@ ghost use mathlib.Core.Path.{_≡_};
 ghost use mathlib.Core.List.{List};
 ghost use mathlib.Core.Option.{Option};
 ghost use mathlib.Core.List.{_∷_};
-ghost use Prim.Native.Nat.{ℕ, _+_, _≤_, _<_};
+ghost use Prim.Native.Nat.{ℕ, _+_, _*_, _≤_, _<_};
 ghost use lib.ListN.{length, take};
-ghost use Rattle.model.specs.Types.{Shape, Scalar};
+ghost use Rattle.model.specs.Types.{Shape, Scalar, Fields, fieldCount, among};
+ghost use Rattle.model.specs.Types as types;
 ghost use Rattle.format.specs.Records.{boxStart, countOf, listOf};
 ghost use Rattle.format.specs.Views.{Stands};
 ghost use Rattle.format.specs.Outcome.{accepted};
 ghost use Rattle.lent.specs.Over.{over};
-ghost use Rattle.validate.specs.Places.{Placed};
-ghost use Rattle.validate.specs.Walk.{wroteOf, scalarPiece, Roomy, Copyable, Nameable, defHead};
+ghost use Rattle.validate.specs.Places.{Placed, Listed};
+ghost use Rattle.validate.specs.Walk.{wroteOf, scalarPiece, typePiece, fieldsPiece, Roomy, Copyable, Placeable, Nameable, Listable, defHead};
 
 // The scalar of the type at `at`, as it stands.
 pub fn copy_scalar(s: &[u8], at: usize, out: &mut [u8], to: usize) -> Wrote
@@ -32,6 +33,49 @@ pub fn copy_scalar(s: &[u8], at: usize, out: &mut [u8], to: usize) -> Wrote
         end: to + (end - start),
         types: types - 1,
     }
+}
+
+// The type at `at`, as it stands.
+pub fn copy_type(s: &[u8], at: usize, out: &mut [u8], to: usize) -> Wrote
+    requires { ⌜ Placeable (now s) at to (length (now out)) ⌝ }
+    ensures { λ r. ⌜ ((p : Shape) (k : Scalar) → Placed (now (s .entry)) at p k → (wroteOf r (now (out .exit)) ≡ accepted (typePiece (take to (now (out .entry))) (types.ty p k))) × Roomy r to) ⌝ }
+{
+    let end = next_type(s, at, true);
+    let types = types_at(s, at);
+    lay(&s[at..end], &mut *out, to);
+    Wrote::Done {
+        end: to + (end - at),
+        types,
+    }
+}
+
+// As many types of a list, as they stand.
+pub fn copy_fields(
+    s: &[u8],
+    start: usize,
+    count: u64,
+    moves: bool,
+    out: &mut [u8],
+    to: usize,
+) -> Wrote
+    requires { ⌜ Listable (now s) start count moves to (length (now out)) ⌝ }
+    ensures { λ r. ⌜ ((f : Fields) → Listed moves (now (s .entry)) start f → fieldCount f ≡ count → to + 156 * among f ≤ length (now (out .entry)) → (wroteOf r (now (out .exit)) ≡ accepted (fieldsPiece (take to (now (out .entry))) 0 f)) × Roomy r to) ⌝ }
+{
+    let mut at = start;
+    let mut end = to;
+    let mut types = 0u64;
+    let mut left = count;
+    while 0 < left {
+        let w = copy_type(s, at, &mut *out, end);
+        let Wrote::Done { end: e, types: n } = w else {
+            return w;
+        };
+        at = next_type(s, at, moves);
+        end = e;
+        types += n;
+        left -= 1;
+    }
+    Wrote::Done { end, types }
 }
 
 // A box's record up to its form.

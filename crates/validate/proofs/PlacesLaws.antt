@@ -26,7 +26,7 @@ use Rattle.rules.specs.Order.{codeOf}
 use Rattle.rules.specs.Types.{copies}
 use Rattle.rules.specs.Views.{formOf, afterForm, kind-within, kind-byte, form-within, form-byte, after-form, is-plain, is-box-any, is-box-all, is-box-def, is-box-def-else}
 use Rattle.validation.specs.FitsLaws.{fits, fits-true, fits-of}
-use Rattle.validate.specs.Places.{Placed, onward, Listed, SeenPlain, SeenAll, SeenDef}
+use Rattle.validate.specs.Places.{Placed, onward, Listed, Counting, SeenPlain, SeenAll, SeenDef}
 
 impossible : {A B : Type 0} {a : A} {n k p : ℕ} → got a n ≡ stopped k p → B
 impossible e = let z : _≡_ {A = ℕ} 0 1 = cc in absurd (omega arith)
@@ -196,3 +196,25 @@ module _ {s : List ℕ} {at : ℕ} {p : Shape} {k : Scalar} (placed : Placed s a
                   counted = count ∙ stands-byte s (i + 7 + m) (fieldCount g) (writeFields g) two;
                   numbered = w .1;
                 }
+
+-- ---- counted one by one
+
+pub count-start : (s : List ℕ) (f : Fields) (moves : Bool) (at n : ℕ) → Listed moves s at f → fieldCount f ≡ n → Counting s f moves at n 0
+count-start s f moves at n h c = record { rest = f; there = h; counted = c; number = omega arith }
+
+module _ {s : List ℕ} {f : Fields} {moves : Bool} {at left types : ℕ} (g : Counting s f moves at left types) where
+  pub count-next : 0 < left → {n next : ℕ} → ((p : Shape) (k : Scalar) → Placed s at p k → n ≡ suc (inside k)) → ((p : Shape) (k : Scalar) → Placed s at p k → next ≡ onward moves at p k) → Counting s f moves next (left - 1) (types + n)
+  unfolding among
+  count-next l {n} {next} many moved = go (g .rest) (g .there) (g .counted) (g .number)
+    where
+      go : (r : Fields) → Listed moves s at r → fieldCount r ≡ left → among f ≡ types + among r → Counting s f moves next (left - 1) (types + n)
+      go noFields h c x = absurd (omega arith)
+      go (field p k r) h c x = record { rest = r; there = rw (moved p k (h .0)) (h .1); counted = omega (arith, c); number = omega (arith, x, many p k (h .0)) }
+
+  pub count-end : left ≡ 0 → types ≡ among f
+  unfolding among
+  count-end z = go (g .rest) (g .counted) (g .number)
+    where
+      go : (r : Fields) → fieldCount r ≡ left → among f ≡ types + among r → types ≡ among f
+      go noFields c x = omega (arith, x)
+      go (field p k r) c x = absurd (omega (arith, z))

@@ -7,7 +7,7 @@ use mathlib.Core.Path.{_≡_}
 use lib.ListN.{length}
 use lib.Dec.{eqb}
 use Rattle.model.specs.Limits.{maxName, maxFields, maxTypes, maxDepth}
-use Rattle.model.specs.Types.{Shape, Kind, Scalar, plain, boxAny, boxAll, boxDef, Fields, noFields, field, fieldCount, inside, below}
+use Rattle.model.specs.Types.{Shape, Kind, Scalar, plain, boxAny, boxAll, boxDef, Fields, noFields, field, fieldCount, inside, among, below}
 use Rattle.model.specs.Within.{ShapeWithin, ScalarWithin}
 use Rattle.format.specs.Records.{code, absent, countOf, listOf, writeShape, writeScalar}
 use Rattle.format.specs.Views.{Stands}
@@ -35,6 +35,20 @@ onward moves at p k = cond moves (at + length (writeShape p ++ writeScalar k)) a
 abbrev pub Listed : Bool → List ℕ → ℕ → Fields → Type 0
 Listed moves s at noFields = Unit {0}
 Listed moves s at (field p k f) = Placed s at p k × Listed moves s (onward moves at p k) f
+
+-- There is a list of so many fields, and no more types in it than allowed.
+pub record Countable (s : List ℕ) (at count : ℕ) (moves : Bool) : Type 0 where
+  pub fields : Fields
+  pub there : Listed moves s at fields
+  pub counted : fieldCount fields ≡ count
+  pub few : among fields ≤ maxTypes
+
+-- Of the fields f, those still to be counted, and how many types went before.
+pub record Counting (s : List ℕ) (f : Fields) (moves : Bool) (at left types : ℕ) : Type 0 where
+  pub rest : Fields
+  pub there : Listed moves s at rest
+  pub counted : fieldCount rest ≡ left
+  pub number : among f ≡ types + among rest
 
 -- What was seen of a scalar whose type stands at a place: its code; an All box's content; a Def's name, fields and their count.
 pub record SeenPlain (k : Scalar) (c : ℕ) : Type 0 where

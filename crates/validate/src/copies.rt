@@ -6,6 +6,7 @@ use crate::places::scalar_at;
 use crate::places::types_at;
 use lent::lay;
 ghost use mathlib.Core.Path.{_≡_};
+ghost use mathlib.Core.Bool.{cond};
 ghost use mathlib.Core.List.{List};
 ghost use mathlib.Core.Option.{Option};
 ghost use mathlib.Core.List.{_∷_};
@@ -102,4 +103,23 @@ pub fn put_def(s: &[u8], name: usize, count: u8, out: &mut [u8], to: usize) -> u
     let last = to + 6 + (end - name);
     out[last] = count;
     last + 1
+}
+
+// The same, where the name stands in the spec's bytes or in the type's.
+pub fn put_name(
+    spec: &[u8],
+    ty: &[u8],
+    borrowed: bool,
+    name: usize,
+    count: u8,
+    out: &mut [u8],
+    to: usize,
+) -> usize
+    requires { ⌜ Nameable (cond borrowed (now spec) (now ty)) name to (length (now out)) ⌝ }
+    ensures { λ r. ⌜ ((label : Option (List ℕ)) → Stands (cond borrowed (now (spec .entry)) (now (ty .entry))) name (countOf label ∷ listOf label) → length (listOf label) ≤ 16 → (r ≡ to + length (defHead label count)) × (r ≤ to + 24) × (now (out .exit) ≡ over (now (out .entry)) to (defHead label count))) ⌝ }
+{
+    if borrowed {
+        return put_def(spec, name, count, &mut *out, to);
+    }
+    put_def(ty, name, count, &mut *out, to)
 }

@@ -16,10 +16,10 @@ ghost use mathlib.Core.Bool.{Bool, true, false, cond};
 ghost use Prim.Native.Nat.{suc, _+_, _≤_, _<_};
 ghost use lib.ListN.{length};
 ghost use lib.Dec.{eqb};
-ghost use Rattle.model.specs.Types.{Shape, Scalar, inside};
+ghost use Rattle.model.specs.Types.{Shape, Scalar, Fields, fieldCount, inside, among};
 ghost use Rattle.format.specs.Records.{absent, listCount, writeShape};
 ghost use Rattle.validation.specs.FitsLaws.{fits};
-ghost use Rattle.validate.specs.Places.{Placed, HasPlaced, onward, Seen};
+ghost use Rattle.validate.specs.Places.{Placed, HasPlaced, onward, Listed, Countable, Seen};
 
 // Where the scalar begins.
 pub fn scalar_at(s: &[u8], at: usize) -> usize
@@ -131,4 +131,20 @@ pub fn name_length(n: u8) -> usize
         return 0;
     }
     n as usize
+}
+
+// How many types a list of as many is.
+pub fn types_in(s: &[u8], start: usize, count: u64, moves: bool) -> u64
+    requires { ⌜ Countable (now s) start count moves ⌝ }
+    ensures { λ r. ⌜ ((f : Fields) → Listed moves (now (s .entry)) start f → fieldCount f ≡ count → r ≡ among f) ⌝ }
+{
+    let mut at = start;
+    let mut types = 0u64;
+    let mut left = count;
+    while 0 < left {
+        types += types_at(s, at);
+        at = next_type(s, at, moves);
+        left -= 1;
+    }
+    types
 }

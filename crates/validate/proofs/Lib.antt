@@ -4,3 +4,4 @@ mod CallLaws
 mod PlacesLaws
 mod PlanLaws
 mod CopyLaws
+mod WalkLaws

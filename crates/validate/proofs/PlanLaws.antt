@@ -1,6 +1,7 @@
 -- What a spec's scalar asks of a type's: one law for each way out of a function that plans it.
 use Prim.Native.Nat.{ℕ, zero, suc, _+_, _*_, _≤_, _<_, max}
 use native.Mathlib.Nat.{mul-le-mul}
+use native.Mathlib.Numerals.{add-one}
 use native.Mathlib.Omega.{arith}
 use mathlib.Core.Bool.{Bool, true, false, not, _&&_, cond}
 use mathlib.Core.List.{List, [], _∷_, _++_}
@@ -214,9 +215,9 @@ module _ {s : List ℕ} {i : ℕ} {t : List ℕ} {j o a : ℕ} (w : Pair s i t j
           type-scalar = y .scalar;
           spec-placed = x .placed;
           type-placed = y .placed;
-          limits = all-begun o a (y .shape) (y .scalar) (rw (y .is) at (w .limits));
+          limits = rw (add-one o, add-one a) (all-begun o a (y .shape) (y .scalar) (rw (y .is) at (w .limits)));
         };
-        is = all-is ∙ ap (onAll (checkScalar (x .scalar)) (x .shape) (x .scalar) (fits o a)) (y .is) ∙ on-all-all o a (x .shape) (y .shape) (x .scalar) (y .scalar);
+        is = all-is ∙ ap (onAll (checkScalar (x .scalar)) (x .shape) (x .scalar) (fits o a)) (y .is) ∙ rw (add-one o, add-one a) (on-all-all o a (x .shape) (y .shape) (x .scalar) (y .scalar));
       }
 
       pub all-pairs : {n f m : ℕ} {b : Bool} → SeenDef t (w .type-scalar) n b f m → PairsAre s t o a (scalarOf o a w) (w .spec-scalar) (w .type-scalar) c m false f m true false n false
@@ -232,9 +233,9 @@ module _ {s : List ℕ} {i : ℕ} {t : List ℕ} {j o a : ℕ} (w : Pair s i t j
           spec-count = count-copies m (ty (x .shape) (x .scalar));
           type-listed = y .listed;
           type-count = sym (y .counted);
-          limits = def-begun o a (y .name) (y .held) (rw (y .is) at (w .limits));
+          limits = rw (add-one o, add-one a) (def-begun o a (y .name) (y .held) (rw (y .is) at (w .limits)));
         };
-        is = all-is ∙ ap (onAll (checkScalar (x .scalar)) (x .shape) (x .scalar) (fits o a)) (y .is) ∙ on-all-def o a (x .shape) (x .scalar) (y .name) (y .held) ∙ ap (mapped (boxDef (y .name))) (each-copies (x .shape) (x .scalar) (y .held) m (fieldsFit (suc o) (suc a)) (sym (y .counted)));
+        is = all-is ∙ ap (onAll (checkScalar (x .scalar)) (x .shape) (x .scalar) (fits o a)) (y .is) ∙ on-all-def o a (x .shape) (x .scalar) (y .name) (y .held) ∙ ap (mapped (boxDef (y .name))) (each-copies (x .shape) (x .scalar) (y .held) m (fieldsFit (suc o) (suc a)) (sym (y .counted))) ∙ rw (add-one o, add-one a);
       }
 
     -- ---- a Def spec
@@ -257,9 +258,9 @@ module _ {s : List ℕ} {i : ℕ} {t : List ℕ} {j o a : ℕ} (w : Pair s i t j
           spec-count = sym (x .counted);
           type-listed = y .listed;
           type-count = sym (y .counted);
-          limits = def-begun o a (y .name) (y .held) (rw (y .is) at (w .limits));
+          limits = rw (add-one o, add-one a) (def-begun o a (y .name) (y .held) (rw (y .is) at (w .limits)));
         };
-        is = is;
+        is = is ∙ rw (add-one o, add-one a);
       }
 
       -- ---- without a name
@@ -338,9 +339,9 @@ module _ {s : List ℕ} {i : ℕ} {t : List ℕ} {j o a : ℕ} (w : Pair s i t j
               spec-count = sym (x .counted);
               type-listed = listed-copies (cond fresh anyBytes t) other placed n;
               type-count = count-copies n (ty p q);
-              limits = def-begun o a (some title) (copies n (ty p q)) h;
+              limits = rw (add-one o, add-one a) (def-begun o a (some title) (copies n (ty p q)) h);
             };
-            is = copies-are ∙ rw (h, e) (on-def-def o a (some title) (some title) (x .held) (copies n (ty p q)));
+            is = copies-are ∙ rw (h, e, add-one o, add-one a) (on-def-def o a (some title) (some title) (x .held) (copies n (ty p q)));
           }
 
         pub holds-plain : {d : ℕ} → SeenPlain (w .type-scalar) d → d ≡ 9 → named (fits o a) title (fieldsFor (w .type-shape) ct) (asBox (w .type-scalar)) ≡ copied (fits o a) title (fieldsFor (w .type-shape) ct) anyTy

@@ -58,16 +58,16 @@ fieldsOf o a w = checkFields (w .spec-fields) (fieldsFit o a) (w .type-fields)
 
 module _ (s t : List ℕ) (o a : ℕ) (outcome : Outcome Scalar) (k l : Scalar) where
   pub record InsideIs (content other : ℕ) : Type 0 where
-    pub inner : Pair s content t other (suc o) (suc a)
-    pub is : outcome ≡ mapped boxOf (inTurn (scalarOf (suc o) (suc a) inner) (shapeOf inner))
+    pub inner : Pair s content t other (o + 1) (a + 1)
+    pub is : outcome ≡ mapped boxOf (inTurn (scalarOf (o + 1) (a + 1) inner) (shapeOf inner))
 
   pub record PairsAre (content limit : ℕ) (moves : Bool) (other count : ℕ) (steps fresh : Bool) (name : ℕ) (borrowed : Bool) : Type 0 where
     pub label : Option (List ℕ)
     pub labelled : Stands (cond borrowed s t) name (countOf label ∷ listOf label)
     pub short : length (listOf label) ≤ maxName
     pub few : count ≤ maxFields
-    pub inner : Lists s content limit moves (cond fresh anyBytes t) other count steps (suc o) (suc a)
-    pub is : outcome ≡ mapped (boxDef label) (fieldsOf (suc o) (suc a) inner)
+    pub inner : Lists s content limit moves (cond fresh anyBytes t) other count steps (o + 1) (a + 1)
+    pub is : outcome ≡ mapped (boxDef label) (fieldsOf (o + 1) (a + 1) inner)
 
   -- A plan for the outcome of the spec's scalar k on the type's scalar l.
   abbrev pub Plans : Plan → Type 0

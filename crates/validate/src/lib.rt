@@ -6,6 +6,7 @@ mod dims;
 mod places;
 mod plans;
 mod shapes;
+mod walk;
 
 pub use calls::check_shape;
 use record::DynShape;

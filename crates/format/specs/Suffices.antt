@@ -14,10 +14,10 @@ use Rattle.format.specs.Reader.{bytesOf}
 use Rattle.format.specs.Records.{dimNumber, writeDims, countOf, listOf, writeShape, boxStart, writeScalar, writeFields, writeTy}
 
 -- the bytes of a shape's record, and of a box's with its name
-abbrev shapeBytes : ℕ
+abbrev pub shapeBytes : ℕ
 shapeBytes = 132
 
-abbrev boxBytes : ℕ
+abbrev pub boxBytes : ℕ
 boxBytes = 24
 
 pub length-bytesOf : (k n : ℕ) → length (bytesOf k n) ≡ k
@@ -37,20 +37,20 @@ name-most : (n : Option (List ℕ)) → Each NameWithin n → length (listOf n) 
 name-most none h = omega arith
 name-most (some n) h = h .0
 
-shape-suffices : (s : Shape) → ShapeWithin s → length (writeShape s) ≤ shapeBytes
+pub shape-suffices : (s : Shape) → ShapeWithin s → length (writeShape s) ≤ shapeBytes
 unfolding writeShape
 shape-suffices (shape o c) h = simp length-append (omega (arith, length-writeDims o, length-writeDims (listOf c), closing-most c (h .1)))
 
 mutual
   unfolding writeScalar inside
 
-  scalar-suffices : (k : Scalar) → ScalarWithin k → length (writeScalar k) ≤ boxBytes + (shapeBytes + boxBytes) * inside k
+  pub scalar-suffices : (k : Scalar) → ScalarWithin k → length (writeScalar k) ≤ boxBytes + (shapeBytes + boxBytes) * inside k
   scalar-suffices (plain k) h = omega arith
   scalar-suffices boxAny h = omega arith
   scalar-suffices (boxAll s k) h = simp length-append (omega (arith, shape-suffices s (h .0), scalar-suffices k (h .1)))
   scalar-suffices (boxDef n f) h = simp length-append (omega (arith, name-most n (h .0), fields-suffice f (h .2)))
 
-  fields-suffice : (f : Fields) → FieldsWithin f → length (writeFields f) ≤ (shapeBytes + boxBytes) * among f
+  pub fields-suffice : (f : Fields) → FieldsWithin f → length (writeFields f) ≤ (shapeBytes + boxBytes) * among f
   fields-suffice noFields h = omega arith
   fields-suffice (field s k f) h = simp length-append (omega (arith, shape-suffices s (h .0), scalar-suffices k (h .1), fields-suffice f (h .2)))
 

@@ -119,10 +119,10 @@ module _ (s : List ℕ) where
       (reads-here (boxFrom s go n) λ q. reads-bind _ (reads-mark boxMark q) (reads-byte q _ (h q))))
 
   -- What the reader of a scalar's contents, at most d deep, owes to a scalar with at most n types inside.
-  abbrev Read-back : Scalar → ℕ → ℕ → Type 0
+  abbrev pub Read-back : Scalar → ℕ → ℕ → Type 0
   Read-back k d n = (p : ℕ) → Reads s (scalarFrom s (readTy s d) n p) (writeScalar k) k
 
-  reads-ty : (t : Shape) (k : Scalar) (d n : ℕ) → ShapeWithin t → below k < d → inside k < n → ((d′ n′ : ℕ) → below k ≤ d′ → inside k ≤ n′ → Read-back k d′ n′) → Reads s (readTy s d n) (writeShape t ++ writeScalar k) (ty t k)
+  pub reads-ty : (t : Shape) (k : Scalar) (d n : ℕ) → ShapeWithin t → below k < d → inside k < n → ((d′ n′ : ℕ) → below k ≤ d′ → inside k ≤ n′ → Read-back k d′ n′) → Reads s (readTy s d n) (writeShape t ++ writeScalar k) (ty t k)
   unfolding readTy
   reads-ty t k zero n o h c g = absurd (omega arith)
   reads-ty t k (suc d) zero o h c g = absurd (omega arith)
@@ -133,7 +133,7 @@ module _ (s : List ℕ) where
   mutual
     unfolding writeScalar inside below scalarFrom boxFrom defFrom readFields
 
-    reads-scalar : (k : Scalar) → ScalarWithin k → (d n : ℕ) → below k ≤ d → inside k ≤ n → Read-back k d n
+    pub reads-scalar : (k : Scalar) → ScalarWithin k → (d n : ℕ) → below k ≤ d → inside k ≤ n → Read-back k d n
     reads-scalar (plain k) o d n h c p =
         reads-bind _ (reads-mark scalarMark p) (reads-byte p _ (rw (code-unboxed k, kind-code k) reads-give))
     reads-scalar boxAny o d n h c p = rw append-nil at (box-start (readTy s d) n p 0 λ q. reads-give)
@@ -148,7 +148,7 @@ module _ (s : List ℕ) where
         (reads-judged (isCount maxFields) q _ (le-leb (fieldCount f) maxFields (o .1))
         (reads-last _ (reads-fields f (o .2) d n (omega arith) (omega arith)) (ap (λ x. boxDef x f) (optional-ok maxName (lit< tt) m few)))))
 
-    reads-fields : (f : Fields) → FieldsWithin f → (d n : ℕ) → deepest f ≤ d → among f ≤ n → Reads s (readFields s (readTy s d) (fieldCount f) n) (writeFields f) f
+    pub reads-fields : (f : Fields) → FieldsWithin f → (d n : ℕ) → deepest f ≤ d → among f ≤ n → Reads s (readFields s (readTy s d) (fieldCount f) n) (writeFields f) f
     reads-fields noFields o d n h c = reads-give
     reads-fields (field t k f) o d n h c =
         reads-bind _ (reads-ty t k d n (o .0) (omega arith) (omega arith) (λ d′ n′ h′ c′ p. reads-scalar k (o .1) d′ n′ h′ c′ p))

@@ -1,0 +1,80 @@
+-- The public calls: what the two types that a call reads come to, and what it hands over.
+use Prim.Native.Nat.{ℕ, _+_, _-_, _≤_}
+use native.Mathlib.Omega.{arith}
+use native.Mathlib.Nat.{zero-add}
+use mathlib.Core.Bool.{Bool, true, false, cond}
+use mathlib.Core.List.{List, _++_}
+use mathlib.Core.Path.{_≡_, refl, sym, _∙_, ap}
+use lib.ListN.{length, take, drop, length-append, length-drop}
+use lib.Seq.{take-length}
+use Rattle.model.specs.Refusals.{wrongShape}
+use Rattle.model.specs.Types.{Shape, Scalar, Ty, ty, shapeOf}
+use Rattle.format.specs.Records.{writeShape, writeScalar, writeTy}
+use Rattle.format.specs.Outcome.{Outcome, accepted, refused, mapped, bound, both, scalarRecord}
+use Rattle.lent.specs.Over.{over, over-over}
+use Rattle.record.specs.Answers.{nothing, nothings, shapeFor}
+use Rattle.validation.specs.CheckShape.{Side, checkShape}
+use Rattle.validation.specs.Validate.{checkShapeOnly}
+use Rattle.validate.specs.Answers.{checkedOf}
+use Rattle.validate.specs.declared.Checked.{Checked}
+
+-- ---- two types
+
+module _ {A B : Type 0} (x : Outcome A) (y : Outcome B) where
+  pub both-refused : {C : Type 0} (f : A → B → Outcome C) {k p : ℕ} → both nothings x y ≡ refused k p → both f x y ≡ refused k p
+  both-refused {C} f {k} {p} e = go x y e
+    where
+      go : (x : Outcome A) (y : Outcome B) → both nothings x y ≡ refused k p → both f x y ≡ refused k p
+      go (accepted a) (accepted b) e = let z : _≡_ {A = ℕ} 0 1 = cc in absurd (omega arith)
+      go (accepted a) (refused j q) e = let u : j ≡ k = cc in let v : q ≡ p = cc in rw (u, v)
+      go (refused j q) y e = let u : j ≡ k = cc in let v : q ≡ p = cc in rw (u, v)
+
+  pub both-accepted : both nothings x y ≡ accepted 0 → (mapped nothing x ≡ accepted 0) × (mapped nothing y ≡ accepted 0)
+  both-accepted e = go x y e
+    where
+      go : (x : Outcome A) (y : Outcome B) → both nothings x y ≡ accepted 0 → (mapped nothing x ≡ accepted 0) × (mapped nothing y ≡ accepted 0)
+      go (accepted a) (accepted b) e = (refl, refl)
+      go (accepted a) (refused j q) e = let z : _≡_ {A = ℕ} 0 1 = cc in absurd (omega arith)
+      go (refused j q) y e = let z : _≡_ {A = ℕ} 0 1 = cc in absurd (omega arith)
+
+-- ---- `check_shape`
+
+module _ (side : Side) (x y : Outcome Ty) {s t : Shape} {w : List ℕ} (first : mapped shapeOf x ≡ accepted s) (second : mapped shapeOf y ≡ accepted t) (rest : mapped scalarRecord y ≡ accepted w) where
+  shape-only : both (λ a b. mapped writeTy (checkShapeOnly side a b)) x y ≡ mapped (λ u. writeShape u ++ w) (checkShape side s t)
+  unfolding checkShapeOnly writeTy
+  shape-only = go x y first second rest
+    where
+      out : (o : Outcome Shape) (l : Scalar) → mapped writeTy (mapped (λ u. ty u l) o) ≡ mapped (λ u. writeShape u ++ writeScalar l) o
+      out (accepted u) l = refl
+      out (refused k p) l = refl
+
+      go : (x y : Outcome Ty) → mapped shapeOf x ≡ accepted s → mapped shapeOf y ≡ accepted t → mapped scalarRecord y ≡ accepted w → both (λ a b. mapped writeTy (checkShapeOnly side a b)) x y ≡ mapped (λ u. writeShape u ++ w) (checkShape side s t)
+      go (accepted (ty a k)) (accepted (ty b l)) e f g =
+          let i : a ≡ s = cc in
+          let j : b ≡ t = cc in
+          let h : writeScalar l ≡ w = cc in
+          rw (← i, ← j, ← h) (out (checkShape side a b) l)
+      go (accepted (ty a k)) (refused j q) e f g = let z : _≡_ {A = ℕ} 0 1 = cc in absurd (omega arith)
+      go (refused j q) y e f g = let z : _≡_ {A = ℕ} 0 1 = cc in absurd (omega arith)
+
+  pub shape-merged : (r : Checked) → checkedOf r ≡ checkShape side s t → r .clash ≡ false → both (λ a b. mapped writeTy (checkShapeOnly side a b)) x y ≡ accepted (writeShape (shapeFor (r .shape)) ++ w)
+  shape-merged r checked e = shape-only ∙ ap (mapped (λ u. writeShape u ++ w)) (sym checked) ∙ rw e
+
+-- the type's scalar is not looked at
+pub shape-clash : (side : Side) (x y : Outcome Ty) {s t : Shape} → mapped shapeOf x ≡ accepted s → mapped shapeOf y ≡ accepted t → (r : Checked) → checkedOf r ≡ checkShape side s t → r .clash ≡ true → both (λ a b. mapped writeTy (checkShapeOnly side a b)) x y ≡ refused wrongShape 0
+shape-clash side x (accepted (ty b l)) first second r checked e = shape-only side x (accepted (ty b l)) first second refl ∙ ap (mapped (λ u. writeShape u ++ writeScalar l)) (sym checked) ∙ rw e
+shape-clash side x (refused k p) first second r checked e = let z : _≡_ {A = ℕ} 0 1 = cc in absurd (omega arith)
+
+-- the rest of a list, as a part of a slice has it
+pub rest-is : (s : List ℕ) (n : ℕ) → take (length s - n) (drop n s) ≡ drop n s
+rest-is s n = ap (λ k. take k (drop n s)) (sym (length-drop n s)) ∙ take-length (drop n s)
+
+-- ---- one stretch after another at the front of a result
+
+pub two-laid : (d : List ℕ) (w v : List ℕ) {n : ℕ} {one two : List ℕ} → n ≡ length w → n + length v ≤ length d → one ≡ over d 0 w → two ≡ over one n v → two ≡ over d 0 (w ++ v)
+two-laid d w v {n} {one} {two} e fits laid then =
+    let k : n ≡ 0 + length w = omega arith in
+    then ∙ ap (λ x. over x n v) laid ∙ ap (λ j. over (over d 0 w) j v) k ∙ over-over d 0 w (omega arith) v
+
+pub two-long : (w v : List ℕ) {n : ℕ} → n ≡ length w → n + length v ≡ length (w ++ v)
+two-long w v e = simp length-append (omega arith)

@@ -1,0 +1,91 @@
+-- The tests of two lists of sizes, index by index: what is left at an index decides.
+use Prim.Native.Nat.{ℕ, zero, suc, _+_, _-_, _≤_, _<_}
+use native.Mathlib.Omega.{arith}
+use native.Mathlib.Numerals.{add-one}
+use mathlib.Core.Bool.{Bool, true, false, not, _&&_, cond}
+use mathlib.Core.List.{List, [], _∷_, _++_, map, reverse}
+use mathlib.Core.Path.{_≡_, refl, sym, _∙_, ap}
+use lib.ListN.{length, take, drop, getD, length-append, length-reverse, List·getD-eq-default, List·getD-append}
+use lib.Dec.{eqb}
+use borrow.Author.Tests.{eqb-true, eqb-false, eq-eqb, ne-eqb, not-true, not-false}
+use Rattle.model.specs.Limits.{ones}
+use Rattle.model.specs.Types.{Dim, static, unknown}
+use Rattle.format.specs.Records.{dimOf}
+use Rattle.record.specs.Answers.{dimsOf}
+use Rattle.record.specs.declared.Dims.{Dims}
+use Rattle.rules.specs.Sizes.{compatible}
+use Rattle.rules.specs.Lists.{getD-reverse}
+use Rattle.validation.specs.CheckShape.{agree, equalDim, equalDims}
+use Rattle.validation.specs.CheckShapeLaws.{equalDims-true}
+use Rattle.validation.specs.CheckShapeSteps.{agree-step, equal-step}
+
+-- ---- what stands at an index
+
+at-index : (count : ℕ) (sizes : List ℕ) (i : ℕ) → i < length (map dimOf (take count sizes)) → dimOf (getD sizes i 0) ≡ getD (map dimOf (take count sizes)) i unknown
+at-index zero sizes i h = absurd (omega arith)
+at-index (suc count) [] i h = absurd (omega arith)
+at-index (suc count) (n ∷ sizes) zero h = refl
+at-index (suc count) (n ∷ sizes) (suc i) h = at-index count sizes i (omega arith)
+
+pub size-at : (d : Dims) (i : ℕ) → i < length (dimsOf d) → dimOf (getD (d .sizes) i 0) ≡ getD (dimsOf d) i unknown
+size-at d i h = at-index (d .count) (d .sizes) i h
+
+pub size-from-end : (d : Dims) (i : ℕ) {n : ℕ} → n ≡ length (dimsOf d) → i < n → dimOf (getD (d .sizes) (n - 1 - i) 0) ≡ getD (reverse (dimsOf d)) i unknown
+size-from-end d i {n} e h = size-at d (n - 1 - i) (omega arith) ∙ sym (getD-reverse (dimsOf d) i (n - 1 - i) unknown (omega arith))
+
+getD-behind : (l m : List Dim) (i : ℕ) → getD (l ++ m) (length l + i) unknown ≡ getD m i unknown
+getD-behind [] m i = let e : 0 + i ≡ i = omega arith in rw e
+getD-behind (d ∷ l) m i = let e : suc (length l) + i ≡ suc (length l + i) = omega arith in rw e (getD-behind l m i)
+
+module _ (a b : Dims) (i : ℕ) {m : ℕ} (e : m ≡ length (dimsOf a)) where
+  pub size-in-first : i < m → dimOf (getD (a .sizes) i 0) ≡ getD (dimsOf a ++ dimsOf b) i unknown
+  size-in-first h = size-at a i (omega arith) ∙ sym (List·getD-append (dimsOf a) (dimsOf b) unknown i (omega arith))
+
+  pub size-in-second : m ≤ i → i - m < length (dimsOf b) → dimOf (getD (b .sizes) (i - m) 0) ≡ getD (dimsOf a ++ dimsOf b) i unknown
+  size-in-second h k =
+      let p : length (dimsOf a) + (i - m) ≡ i = omega arith in
+      size-at b (i - m) k ∙ rw p at (sym (getD-behind (dimsOf a) (dimsOf b) (i - m)))
+
+  pub size-in-neither : m ≤ i → length (dimsOf b) ≤ i - m → unknown ≡ getD (dimsOf a ++ dimsOf b) i unknown
+  size-in-neither h k = sym (List·getD-eq-default (dimsOf a ++ dimsOf b) unknown {n = i} (omega (arith, length-append (dimsOf a) (dimsOf b))))
+
+-- ---- compatible sizes
+
+module _ (o p : List Dim) (i : ℕ) (m : i < length o) (n : i < length p) {x y : Dim} {t : Bool} (e : x ≡ getD o i unknown) (f : y ≡ getD p i unknown) (w : t ≡ compatible x y) where
+  both-agree : agree (drop i o) (drop i p) ≡ (t && agree (drop (i + 1) o) (drop (i + 1) p))
+  both-agree = agree-step i o p unknown m n ∙ rw (w, e, f, add-one)
+
+  pub agree-more : not t ≡ false → agree (drop i o) (drop i p) ≡ agree (drop (i + 1) o) (drop (i + 1) p)
+  agree-more u = rw (not-false t u) at both-agree
+
+  pub agree-stop : not t ≡ true → agree (drop i o) (drop i p) ≡ false
+  agree-stop u = rw (not-true t u) at both-agree
+
+-- ---- equal sizes
+
+equal-numbers : (x y : ℕ) → equalDim (dimOf x) (dimOf y) ≡ eqb x y
+unfolding equalDim
+equal-numbers x y = go (eqb x ones) (eqb y ones) refl refl
+  where
+    go : (s t : Bool) → eqb x ones ≡ s → eqb y ones ≡ t → equalDim (cond s unknown (static x)) (cond t unknown (static y)) ≡ eqb x y
+    go true true e f = sym (eq-eqb x y (eqb-true x ones e ∙ sym (eqb-true y ones f)))
+    go true false e f = sym (ne-eqb x y (λ q. eqb-false y ones f (sym q ∙ eqb-true x ones e)))
+    go false true e f = sym (ne-eqb x y (λ q. eqb-false x ones e (q ∙ eqb-true y ones f)))
+    go false false e f = refl
+
+module _ (o p : List Dim) (i : ℕ) (m : i < length o) (n : i < length p) (x y : ℕ) (e : dimOf x ≡ getD o i unknown) (f : dimOf y ≡ getD p i unknown) where
+  both-equal : equalDims (drop i o) (drop i p) ≡ (eqb x y && equalDims (drop (i + 1) o) (drop (i + 1) p))
+  both-equal = equal-step i o p unknown m n ∙ rw (← e, ← f, equal-numbers x y, add-one)
+
+  pub equal-more : x ≡ y → equalDims (drop i o) (drop i p) ≡ equalDims (drop (i + 1) o) (drop (i + 1) p)
+  equal-more u = rw (eq-eqb x y u) at both-equal
+
+  pub equal-stop : (x ≡ y → ⊥) → equalDims (drop i o) (drop i p) ≡ false
+  equal-stop u = rw (ne-eqb x y u) at both-equal
+
+pub equal-uneven : (o p : List Dim) → (length o ≡ length p → ⊥) → equalDims o p ≡ false
+equal-uneven o p h = go (equalDims o p) refl
+  where
+    go : (t : Bool) → equalDims o p ≡ t → t ≡ false
+    go true e = absurd (h (ap length (equalDims-true o p e)))
+    go false e = refl

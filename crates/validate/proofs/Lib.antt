@@ -1,0 +1,7 @@
+mod DimsLaws
+mod ShapesLaws
+mod CallLaws
+mod PlacesLaws
+mod PlanLaws
+mod CopyLaws
+mod WalkLaws

@@ -1,0 +1,79 @@
+use borrow.Author.Needs.{needs}
+use native.Mathlib.Omega.{arith}
+use mathlib.Core.Path.{_≡_, refl, sym, ap, _∙_}
+use lib.ListN.{length, take}
+use Rattle.model.specs.Types.{Fields, fieldCount}
+use Rattle.validate.specs.Places.{Listed}
+use Rattle.validate.specs.Walk.{Going}
+use Rattle.validate.proofs.CopyLaws.{going-start, going-first, going-room, going-next, going-end, done-known, not-refused}
+use Rattle.validate.proofs.copies.copy_fields.Statement.{statement}
+use Rattle.validate.proofs.copies.copy_fields.Tie as tie
+use Rattle.validate.proofs.copies.copy_fields.Reads as reads
+use Rattle.validate.proofs.copies.copy_fields.Lts as lts
+use Rattle.validate.proofs.copies.copy_type.Reads as copy-type-reads
+use Rattle.validate.proofs.places.next_type.Reads as next-type-reads
+
+abbrev Inv-loop : tie.InvT-loop
+Inv-loop s start count moves out₀ to at₀ end₀ types₀ left₀ out at end types left = (length out ≡ length out₀) × ((f : Fields) → Listed moves s start f → fieldCount f ≡ count → Going s f (take to out₀) to moves at left (take end out) end types)
+
+abbrev μ-loop : tie.MeasureT-loop
+μ-loop s start count moves out₀ to at₀ end₀ types₀ left₀ out at end types left = left
+
+loop-holds : tie.Need-loop-holds Inv-loop μ-loop
+loop-holds c = (refl, λ f h n. going-start (c .before .before .args .s .now) f (c .before .before .args .moves) (c .before .before .args .start) (c .before .before .args .count) (c .before .before .args .out .now) (c .before .before .args .to) h n)
+
+copy-type-requires : tie.Need-copy-type-requires Inv-loop μ-loop
+copy-type-requires c κs = going-room (c .before .before .loop .inv .1 (c .before .before .before .before .before .pre .fields) (c .before .before .before .before .before .pre .there) (c .before .before .before .before .before .pre .counted)) (c .before .loop-test .taken) (omega (arith, c .before .before .before .before .before .pre .fits, c .before .before .loop .inv .0))
+
+enum-known-w : tie.Need-enum-known-w Inv-loop μ-loop
+enum-known-w c = search needs
+
+enum-told : tie.Need-enum-told Inv-loop μ-loop
+enum-told c = search needs
+
+same-length : tie.Need-same-length Inv-loop μ-loop
+same-length c = c .before .before .before .before .copy-type .kept .1 .1 .0 ∙ c .before .before .before .before .before .before .before .loop .inv .0
+
+returns : tie.Need-returns Inv-loop μ-loop
+returns c = λ f h n fits. going-first (c .before .before .before .before .before .before .before .loop .inv .1 f h n) (c .before .before .before .before .before .before .loop-test .taken) λ p k r e placed. not-refused (c .before .before .before .before .copy-type .last .1 .1 .0) _ (c .before .before .before .before .copy-type .ensures p k placed .0) (c .enum-told .given .1)
+
+next-type-requires : tie.Need-next-type-requires Inv-loop μ-loop
+next-type-requires c κs = search needs
+
+add-types : tie.Need-add-types Inv-loop μ-loop
+add-types c = let g = going-next (c .before .before .before .before .before .before .before .before .before .loop .inv .1 (c .before .before .before .before .before .before .before .before .before .before .before .before .pre .fields) (c .before .before .before .before .before .before .before .before .before .before .before .before .pre .there) (c .before .before .before .before .before .before .before .before .before .before .before .before .pre .counted)) (c .before .before .before .before .before .before .copy-type .last .1 .1 .0) (c .before .before .before .before .before .before .before .before .loop-test .taken) (λ p k h. done-known (c .before .before .before .before .before .before .copy-type .last .1 .1 .0) _ (c .before .before .before .before .before .before .before .before .before .loop .end) (c .before .before .w .given .1) (c .before .before .before .before .before .before .copy-type .ensures p k h)) (λ p k h. c .next-type .ensures p k h) in omega (arith, g .number, c .before .before .before .before .before .before .before .before .before .before .before .before .pre .few)
+
+sub-left : tie.Need-sub-left Inv-loop μ-loop
+sub-left c = search needs
+
+loop-less : tie.Need-loop-less Inv-loop μ-loop
+loop-less c = search needs
+
+loop-again : tie.Need-loop-again Inv-loop μ-loop
+loop-again c = (c .before .before .before .before .before .before .copy-type .kept .1 .1 .0 ∙ c .before .before .before .before .before .before .before .before .before .loop .inv .0, λ f h n. going-next (c .before .before .before .before .before .before .before .before .before .loop .inv .1 f h n) (c .before .before .before .before .before .before .copy-type .last .1 .1 .0) (c .before .before .before .before .before .before .before .before .loop-test .taken) (λ p k h. done-known (c .before .before .before .before .before .before .copy-type .last .1 .1 .0) _ (c .before .before .before .before .before .before .before .before .before .loop .end) (c .before .before .w .given .1) (c .before .before .before .before .before .before .copy-type .ensures p k h)) (λ p k h. c .next-type .ensures p k h))
+
+same-length-2 : tie.Need-same-length-2 Inv-loop μ-loop
+same-length-2 c = c .before .loop .inv .0
+
+returns-2 : tie.Need-returns-2 Inv-loop μ-loop
+returns-2 c = λ f h n fits. going-end (c .before .loop .out) (c .before .loop .inv .1 f h n) (omega (arith, c .loop-test .left))
+
+pub copy-fields-spec : {M : Type 1} → statement M
+copy-fields-spec =
+    tie.close
+    (tie.spec
+    Inv-loop
+    μ-loop
+    loop-holds
+    copy-type-requires
+    enum-known-w
+    enum-told
+    same-length
+    returns
+    next-type-requires
+    add-types
+    sub-left
+    loop-less
+    loop-again
+    same-length-2
+    returns-2)

@@ -1,0 +1,29 @@
+use borrow.Author.Needs.{needs}
+use Rattle.validate.proofs.copies.put_name.Statement.{statement}
+use Rattle.validate.proofs.copies.put_name.Tie as tie
+use Rattle.validate.proofs.copies.put_name.Reads as reads
+use Rattle.validate.proofs.copies.put_name.Lts as lts
+use Rattle.validate.proofs.copies.put_def.Reads as put-def-reads
+
+put-def-requires : tie.Need-put-def-requires
+put-def-requires c κs = rw (c .before .if1 .taken) at (c .before .before .before .before .before .pre)
+
+same-length : tie.Need-same-length
+same-length c = search needs
+
+returns : tie.Need-returns
+returns c = λ label st sh. c .before .before .put-def .ensures label (rw (c .before .before .before .before .if1 .taken) at st) sh
+
+put-def-requires-2 : tie.Need-put-def-requires-2
+put-def-requires-2 c κs = rw (c .before .if1 .left) at (c .before .before .before .before .before .pre)
+
+same-length-2 : tie.Need-same-length-2
+same-length-2 c = search needs
+
+returns-2 : tie.Need-returns-2
+returns-2 c = λ label st sh. c .before .before .put-def2 .ensures label (rw (c .before .before .before .before .if1 .left) at st) sh
+
+pub put-name-spec : {M : Type 1} → statement M
+put-name-spec =
+    tie.close
+    (tie.spec put-def-requires same-length returns put-def-requires-2 same-length-2 returns-2)

@@ -1,0 +1,85 @@
+use borrow.Author.Needs.{needs}
+use mathlib.Core.Path.{_≡_, refl, sym, ap, _∙_}
+use native.Mathlib.Omega.{arith}
+use Prim.Native.Nat.{_-_, _≤_}
+use mathlib.Core.List.{_++_}
+use lib.ListN.{drop, length-append}
+use Rattle.record.specs.Answers.{dimsOf}
+use Rattle.validation.specs.CheckShape.{equalDims}
+use Rattle.validation.specs.CheckShapeSteps.{equal-end}
+use Rattle.validate.proofs.DimsLaws.{size-at, equal-more, equal-stop, equal-uneven}
+use Rattle.validate.proofs.dims.equal_dims.Statement.{statement}
+use Rattle.validate.proofs.dims.equal_dims.Tie as tie
+use Rattle.validate.proofs.dims.equal_dims.Reads as reads
+use Rattle.validate.proofs.dims.equal_dims.Lts as lts
+use Rattle.validate.proofs.dims.size_in.Reads as size-in-reads
+use Rattle.writer.proofs.size_count.Reads as size-count-reads
+
+abbrev Inv-loop : tie.InvT-loop
+Inv-loop a b c count i₀ i = (i ≤ count) × (equalDims (dimsOf a ++ dimsOf b) (dimsOf c) ≡ equalDims (drop i (dimsOf a ++ dimsOf b)) (drop i (dimsOf c)))
+
+abbrev μ-loop : tie.MeasureT-loop
+μ-loop a b c count i₀ i = count - i
+
+size-count-requires : tie.Need-size-count-requires Inv-loop μ-loop
+size-count-requires c κs = search needs
+
+size-count-requires-2 : tie.Need-size-count-requires-2 Inv-loop μ-loop
+size-count-requires-2 c κs = search needs
+
+size-count-requires-3 : tie.Need-size-count-requires-3 Inv-loop μ-loop
+size-count-requires-3 c κs = search needs
+
+add-if1 : tie.Need-add-if1 Inv-loop μ-loop
+add-if1 c = search needs
+
+returns : tie.Need-returns Inv-loop μ-loop
+returns c = sym (equal-uneven ((dimsOf (c .before .before .before .before .args .a)) ++ (dimsOf (c .before .before .before .before .args .b))) (dimsOf (c .before .before .before .before .args .t3)) (λ e. c .if1 .taken (omega (arith, e, c .before .before .before .size-count .ensures .0, c .before .before .size-count2 .ensures .0, c .before .size-count3 .ensures .0, length-append (dimsOf (c .before .before .before .before .args .a)) (dimsOf (c .before .before .before .before .args .b))))))
+
+loop-holds : tie.Need-loop-holds Inv-loop μ-loop
+loop-holds c = (search needs, refl)
+
+size-in-requires : tie.Need-size-in-requires Inv-loop μ-loop
+size-in-requires c κs = search needs
+
+mul-if2 : tie.Need-mul-if2 Inv-loop μ-loop
+mul-if2 c = search needs
+
+element-copy-out-if2 : tie.Need-element-copy-out-if2 Inv-loop μ-loop
+element-copy-out-if2 c = search needs
+
+returns-2 : tie.Need-returns-2 Inv-loop μ-loop
+returns-2 c = sym (c .before .before .before .before .loop .inv .1 ∙ equal-stop ((dimsOf (c .before .before .before .before .before .before .before .before .before .args .a)) ++ (dimsOf (c .before .before .before .before .before .before .before .before .before .args .b))) (dimsOf (c .before .before .before .before .before .before .before .before .before .args .t3)) (c .before .before .before .before .loop .i) (omega (arith, c .before .before .before .before .before .if1 .left, c .before .before .before .before .before .before .before .before .size-count .ensures .0, c .before .before .before .before .before .before .before .size-count2 .ensures .0, c .before .before .before .before .before .before .size-count3 .ensures .0, length-append (dimsOf (c .before .before .before .before .before .before .before .before .before .args .a)) (dimsOf (c .before .before .before .before .before .before .before .before .before .args .b)))) (omega (arith, c .before .before .before .before .before .before .before .before .size-count .ensures .0)) (c .before .before .size-in .result) _ (c .before .before .size-in .ensures) (size-at (c .before .before .before .before .before .before .before .before .before .args .t3) (c .before .before .before .before .loop .i) (omega (arith, c .before .before .before .before .before .before .before .before .size-count .ensures .0))) (c .if2 .taken))
+
+add-i : tie.Need-add-i Inv-loop μ-loop
+add-i c = search needs
+
+loop-less : tie.Need-loop-less Inv-loop μ-loop
+loop-less c = search needs
+
+loop-again : tie.Need-loop-again Inv-loop μ-loop
+loop-again c = (omega arith, c .before .before .before .before .loop .inv .1 ∙ equal-more ((dimsOf (c .before .before .before .before .before .before .before .before .before .args .a)) ++ (dimsOf (c .before .before .before .before .before .before .before .before .before .args .b))) (dimsOf (c .before .before .before .before .before .before .before .before .before .args .t3)) (c .before .before .before .before .loop .i) (omega (arith, c .before .before .before .before .before .if1 .left, c .before .before .before .before .before .before .before .before .size-count .ensures .0, c .before .before .before .before .before .before .before .size-count2 .ensures .0, c .before .before .before .before .before .before .size-count3 .ensures .0, length-append (dimsOf (c .before .before .before .before .before .before .before .before .before .args .a)) (dimsOf (c .before .before .before .before .before .before .before .before .before .args .b)))) (omega (arith, c .before .before .before .before .before .before .before .before .size-count .ensures .0)) (c .before .before .size-in .result) _ (c .before .before .size-in .ensures) (size-at (c .before .before .before .before .before .before .before .before .before .args .t3) (c .before .before .before .before .loop .i) (omega (arith, c .before .before .before .before .before .before .before .before .size-count .ensures .0))) (c .if2 .left))
+
+returns-3 : tie.Need-returns-3 Inv-loop μ-loop
+returns-3 c = sym (c .before .loop .inv .1 ∙ equal-end (c .before .loop .i) ((dimsOf (c .before .before .before .before .before .before .args .a)) ++ (dimsOf (c .before .before .before .before .before .before .args .b))) (dimsOf (c .before .before .before .before .before .before .args .t3)) (omega (arith, c .before .before .if1 .left, c .before .before .before .before .before .size-count .ensures .0, c .before .before .before .before .size-count2 .ensures .0, c .before .before .before .size-count3 .ensures .0, length-append (dimsOf (c .before .before .before .before .before .before .args .a)) (dimsOf (c .before .before .before .before .before .before .args .b)))) (omega (arith, c .before .before .before .before .before .size-count .ensures .0)))
+
+pub equal-dims-spec : {M : Type 1} → statement M
+equal-dims-spec =
+    tie.close
+    (tie.spec
+    Inv-loop
+    μ-loop
+    size-count-requires
+    size-count-requires-2
+    size-count-requires-3
+    add-if1
+    returns
+    loop-holds
+    size-in-requires
+    mul-if2
+    element-copy-out-if2
+    returns-2
+    add-i
+    loop-less
+    loop-again
+    returns-3)

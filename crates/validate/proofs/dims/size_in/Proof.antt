@@ -1,0 +1,49 @@
+use Rattle.validate.proofs.DimsLaws.{size-in-first, size-in-second, size-in-neither}
+use native.Mathlib.Omega.{arith}
+use borrow.Author.Needs.{needs}
+use Rattle.validate.proofs.dims.size_in.Statement.{statement}
+use Rattle.validate.proofs.dims.size_in.Tie as tie
+use Rattle.validate.proofs.dims.size_in.Reads as reads
+use Rattle.validate.proofs.dims.size_in.Lts as lts
+use Rattle.writer.proofs.size_count.Reads as size-count-reads
+
+size-count-requires : tie.Need-size-count-requires
+size-count-requires c κs = search needs
+
+mul-result : tie.Need-mul-result
+mul-result c = search needs
+
+element-copy-out-result : tie.Need-element-copy-out-result
+element-copy-out-result c = search needs
+
+returns : tie.Need-returns
+returns c = size-in-first (c .before .before .before .args .t1) (c .before .before .before .args .t2) (c .before .before .before .args .i) (c .before .before .size-count .ensures .0) (c .before .if1 .taken)
+
+size-count-requires-2 : tie.Need-size-count-requires-2
+size-count-requires-2 c κs = search needs
+
+mul-result-2 : tie.Need-mul-result-2
+mul-result-2 c = search needs
+
+element-copy-out-result-2 : tie.Need-element-copy-out-result-2
+element-copy-out-result-2 c = search needs
+
+returns-2 : tie.Need-returns-2
+returns-2 c = size-in-second (c .before .before .before .before .before .args .t1) (c .before .before .before .before .before .args .t2) (c .before .before .before .before .before .args .i) (c .before .before .before .before .size-count .ensures .0) (c .before .before .before .if1 .left) (omega (arith, c .before .before .size-count2 .ensures .0))
+
+returns-3 : tie.Need-returns-3
+returns-3 c = size-in-neither (c .before .before .before .before .args .t1) (c .before .before .before .before .args .t2) (c .before .before .before .before .args .i) (c .before .before .before .size-count .ensures .0) (c .before .before .if1 .left) (omega (arith, c .before .size-count2 .ensures .0))
+
+pub size-in-spec : {M : Type 1} → statement M
+size-in-spec =
+    tie.close
+    (tie.spec
+    size-count-requires
+    mul-result
+    element-copy-out-result
+    returns
+    size-count-requires-2
+    mul-result-2
+    element-copy-out-result-2
+    returns-2
+    returns-3)

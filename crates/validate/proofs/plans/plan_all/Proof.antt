@@ -1,0 +1,59 @@
+use Rattle.validate.specs.Plans.{scalarOf}
+use Rattle.validate.proofs.PlanLaws.{as-plain, as-box-any, as-box-all, as-box-def, tested, all-plain, all-any, all-inside, all-pairs}
+use borrow.Author.Needs.{needs}
+use Rattle.validate.proofs.plans.plan_all.Statement.{statement}
+use Rattle.validate.proofs.plans.plan_all.Tie as tie
+use Rattle.validate.proofs.plans.plan_all.Reads as reads
+use Rattle.validate.proofs.plans.plan_all.Lts as lts
+use Rattle.scalar.proofs.superset_codes.Reads as superset-codes-reads
+use Rattle.validate.proofs.plans.keep_if.Reads as keep-if-reads
+use Rattle.validate.proofs.plans.take_if.Reads as take-if-reads
+
+enum-known-v : tie.Need-enum-known-v
+enum-known-v c = search needs
+
+superset-codes-requires : tie.Need-superset-codes-requires
+superset-codes-requires c κs = search needs
+
+keep-if-requires : tie.Need-keep-if-requires
+keep-if-requires c κs = search needs
+
+enum-told : tie.Need-enum-told
+enum-told c = search needs
+
+take-if-requires : tie.Need-take-if-requires
+take-if-requires c κs = search needs
+
+enum-known-v-2 : tie.Need-enum-known-v-2
+enum-known-v-2 c = search needs
+
+enum-known-v-3 : tie.Need-enum-known-v-3
+enum-known-v-3 c = search needs
+
+returns : tie.Need-returns
+returns c = λ j w z x y. c .keep-if .ensures (c .before .before .before .before .before .before .before .args .spec .now) (c .before .before .before .before .before .before .before .args .ty .now) (c .before .before .before .before .before .before .before .args .others) (c .before .before .before .before .before .before .before .args .above) (scalarOf (c .before .before .before .before .before .before .before .args .others) (c .before .before .before .before .before .before .before .args .above) w) (w .spec-scalar) (w .type-scalar) (tested (scalarOf (c .before .before .before .before .before .before .before .args .others) (c .before .before .before .before .before .before .before .args .above) w) (w .type-scalar) (all-plain w z x (as-plain (c .before .before .before .before .before .before .before .args .ty .now) (w .type-scalar) (c .before .before .before .before .before .before .before .args .v) y (c .before .before .before .v .given .1))) (c .before .superset-codes .ensures))
+
+returns-2 : tie.Need-returns-2
+returns-2 c = λ j w z x y. c .take-if .ensures (c .before .before .before .before .before .args .ty .now) (scalarOf (c .before .before .before .before .before .args .others) (c .before .before .before .before .before .args .above) w) (w .spec-shape) (w .spec-scalar) (w .type-scalar) (w .spec-placed) (all-any w z x (as-box-any (c .before .before .before .before .before .args .ty .now) (w .type-scalar) (c .before .before .before .before .before .args .v) y (c .before .enum-told .given .1)))
+
+returns-3 : tie.Need-returns-3
+returns-3 c = λ j w z x y. all-inside w z x (as-box-all (c .before .before .before .before .before .args .ty .now) (w .type-scalar) (c .before .before .before .before .before .args .v) y (c .before .v2 .given .1))
+
+returns-4 : tie.Need-returns-4
+returns-4 c = λ j w z x y. all-pairs w z x (as-box-def (c .before .before .before .before .before .args .ty .now) (w .type-scalar) (c .before .before .before .before .before .args .v) y (c .before .v3 .given .1))
+
+pub plan-all-spec : {M : Type 1} → statement M
+plan-all-spec =
+    tie.close
+    (tie.spec
+    enum-known-v
+    superset-codes-requires
+    keep-if-requires
+    enum-told
+    take-if-requires
+    enum-known-v-2
+    enum-known-v-3
+    returns
+    returns-2
+    returns-3
+    returns-4)

@@ -1,0 +1,122 @@
+use mathlib.Core.Path.{_≡_, refl, sym, ap, _∙_}
+use native.Mathlib.Omega.{arith}
+use Rattle.model.specs.Types.{ty}
+use Rattle.model.specs.Limits.{maxDepth}
+use Rattle.validate.specs.Plans.{scalarOf}
+use Rattle.validate.proofs.PlanLaws.{as-plain, as-box-any, as-box-all, as-box-def, tested, def-flag, any-shape, type-at, plan-any, plan-plain, plan-box-any, some-left}
+use borrow.Author.Needs.{needs}
+use Rattle.validate.proofs.plans.plan_scalar.Statement.{statement}
+use Rattle.validate.proofs.plans.plan_scalar.Tie as tie
+use Rattle.validate.proofs.plans.plan_scalar.Reads as reads
+use Rattle.validate.proofs.plans.plan_scalar.Lts as lts
+use Rattle.scalar.proofs.superset_codes.Reads as superset-codes-reads
+use Rattle.scalar.proofs.shape_at.Reads as shape-at-reads
+use Rattle.validate.proofs.places.look.Reads as look-reads
+use Rattle.validate.proofs.plans.code_of.Reads as code-of-reads
+use Rattle.validate.proofs.plans.keep_if.Reads as keep-if-reads
+use Rattle.validate.proofs.plans.plan_all.Reads as plan-all-reads
+use Rattle.validate.proofs.plans.plan_named.Reads as plan-named-reads
+use Rattle.validate.proofs.plans.plan_unnamed.Reads as plan-unnamed-reads
+use Rattle.validate.proofs.plans.take_if.Reads as take-if-reads
+use Rattle.validate.proofs.plans.wholly_any.Reads as wholly-any-reads
+
+look-requires : tie.Need-look-requires
+look-requires c κs = search needs
+
+look-requires-2 : tie.Need-look-requires-2
+look-requires-2 c κs = search needs
+
+shape-at-requires : tie.Need-shape-at-requires
+shape-at-requires c κs = search needs
+
+wholly-any-requires : tie.Need-wholly-any-requires
+wholly-any-requires c κs = search needs
+
+take-if-requires : tie.Need-take-if-requires
+take-if-requires c κs = let r = some-left (c .before .before .before .before .before .before .before .args .others) (c .before .before .before .before .before .before .before .args .above) (c .before .before .before .before .before .before .before .pre .type-scalar) (c .before .before .before .before .before .before .before .pre .limits) in (omega (arith, r .0), omega (arith, r .1))
+
+returns : tie.Need-returns
+returns c = λ w. c .take-if .ensures (c .before .before .before .before .before .before .before .before .args .ty .now) (scalarOf (c .before .before .before .before .before .before .before .before .args .others) (c .before .before .before .before .before .before .before .before .args .above) w) (w .spec-shape) (w .spec-scalar) (w .type-scalar) (w .spec-placed) (plan-any w (any-shape (w .type-scalar) (c .before .before .wholly-any .ensures (c .before .before .before .before .before .before .before .before .args .ty .now) (w .type-scalar) (c .before .before .before .before .look2 .ensures (w .type-shape) (w .type-scalar) (w .type-placed))) (c .before .before .before .shape-at .ensures maxDepth (ty (w .type-shape) (w .type-scalar)) (type-at (w .type-placed))) ∙ c .before .if1 .taken))
+
+enum-known-a : tie.Need-enum-known-a
+enum-known-a c = search needs
+
+code-of-requires : tie.Need-code-of-requires
+code-of-requires c κs = search needs
+
+superset-codes-requires : tie.Need-superset-codes-requires
+superset-codes-requires c κs = search needs
+
+keep-if-requires : tie.Need-keep-if-requires
+keep-if-requires c κs = search needs
+
+enum-told : tie.Need-enum-told
+enum-told c = search needs
+
+code-of-requires-2 : tie.Need-code-of-requires-2
+code-of-requires-2 c κs = search needs
+
+superset-codes-requires-2 : tie.Need-superset-codes-requires-2
+superset-codes-requires-2 c κs = search needs
+
+keep-if-requires-2 : tie.Need-keep-if-requires-2
+keep-if-requires-2 c κs = search needs
+
+enum-known-a-2 : tie.Need-enum-known-a-2
+enum-known-a-2 c = search needs
+
+plan-all-requires : tie.Need-plan-all-requires
+plan-all-requires c κs = let r = some-left (c .before .before .before .before .before .before .before .before .before .before .args .others) (c .before .before .before .before .before .before .before .before .before .before .args .above) (c .before .before .before .before .before .before .before .before .before .before .pre .type-scalar) (c .before .before .before .before .before .before .before .before .before .before .pre .limits) in (omega (arith, r .0), omega (arith, r .1))
+
+enum-known-a-3 : tie.Need-enum-known-a-3
+enum-known-a-3 c = search needs
+
+plan-named-requires : tie.Need-plan-named-requires
+plan-named-requires c κs = let r = some-left (c .before .before .before .before .before .before .before .before .before .before .before .args .others) (c .before .before .before .before .before .before .before .before .before .before .before .args .above) (c .before .before .before .before .before .before .before .before .before .before .before .pre .type-scalar) (c .before .before .before .before .before .before .before .before .before .before .before .pre .limits) in (omega (arith, r .0), omega (arith, r .1))
+
+returns-2 : tie.Need-returns-2
+returns-2 c = λ w. c .plan-named .ensures (c .before .before .before .before .before .before .before .before .before .before .before .before .args .j) w (any-shape (w .type-scalar) (c .before .before .before .before .before .before .wholly-any .ensures (c .before .before .before .before .before .before .before .before .before .before .before .before .args .ty .now) (w .type-scalar) (c .before .before .before .before .before .before .before .before .look2 .ensures (w .type-shape) (w .type-scalar) (w .type-placed))) (c .before .before .before .before .before .before .before .shape-at .ensures maxDepth (ty (w .type-shape) (w .type-scalar)) (type-at (w .type-placed))) ∙ c .before .before .before .before .before .if1 .left) (c .before .before .before .before .before .before .before .shape-at .ensures maxDepth (ty (w .type-shape) (w .type-scalar)) (type-at (w .type-placed))) (def-flag (as-box-def (c .before .before .before .before .before .before .before .before .before .before .before .before .args .spec .now) (w .spec-scalar) (c .before .before .before .before .before .before .before .before .before .look .result) (c .before .before .before .before .before .before .before .before .before .look .ensures (w .spec-shape) (w .spec-scalar) (w .spec-placed)) (c .before .before .before .a3 .given .1)) (c .before .if2 .taken)) (c .before .before .before .before .before .before .before .before .look2 .ensures (w .type-shape) (w .type-scalar) (w .type-placed))
+
+plan-unnamed-requires : tie.Need-plan-unnamed-requires
+plan-unnamed-requires c κs = let r = some-left (c .before .before .before .before .before .before .before .before .before .before .before .args .others) (c .before .before .before .before .before .before .before .before .before .before .before .args .above) (c .before .before .before .before .before .before .before .before .before .before .before .pre .type-scalar) (c .before .before .before .before .before .before .before .before .before .before .before .pre .limits) in (omega (arith, r .0), omega (arith, r .1))
+
+returns-3 : tie.Need-returns-3
+returns-3 c = λ w. c .keep-if .ensures (c .before .before .before .before .before .before .before .before .before .before .before .before .before .args .spec .now) (c .before .before .before .before .before .before .before .before .before .before .before .before .before .args .ty .now) (c .before .before .before .before .before .before .before .before .before .before .before .before .before .args .others) (c .before .before .before .before .before .before .before .before .before .before .before .before .before .args .above) (scalarOf (c .before .before .before .before .before .before .before .before .before .before .before .before .before .args .others) (c .before .before .before .before .before .before .before .before .before .before .before .before .before .args .above) w) (w .spec-scalar) (w .type-scalar) (tested (scalarOf (c .before .before .before .before .before .before .before .before .before .before .before .before .before .args .others) (c .before .before .before .before .before .before .before .before .before .before .before .before .before .args .above) w) (w .type-scalar) (plan-plain w (any-shape (w .type-scalar) (c .before .before .before .before .before .before .before .wholly-any .ensures (c .before .before .before .before .before .before .before .before .before .before .before .before .before .args .ty .now) (w .type-scalar) (c .before .before .before .before .before .before .before .before .before .look2 .ensures (w .type-shape) (w .type-scalar) (w .type-placed))) (c .before .before .before .before .before .before .before .before .shape-at .ensures maxDepth (ty (w .type-shape) (w .type-scalar)) (type-at (w .type-placed))) ∙ c .before .before .before .before .before .before .if1 .left) (as-plain (c .before .before .before .before .before .before .before .before .before .before .before .before .before .args .spec .now) (w .spec-scalar) (c .before .before .before .before .before .before .before .before .before .before .look .result) (c .before .before .before .before .before .before .before .before .before .before .look .ensures (w .spec-shape) (w .spec-scalar) (w .spec-placed)) (c .before .before .before .before .a .given .1)) (c .before .before .code-of .ensures (c .before .before .before .before .before .before .before .before .before .before .before .before .before .args .ty .now) (w .type-scalar) (c .before .before .before .before .before .before .before .before .before .look2 .ensures (w .type-shape) (w .type-scalar) (w .type-placed)))) (c .before .superset-codes .ensures))
+
+returns-4 : tie.Need-returns-4
+returns-4 c = λ w. c .keep-if2 .ensures (c .before .before .before .before .before .before .before .before .before .before .before .before .args .spec .now) (c .before .before .before .before .before .before .before .before .before .before .before .before .args .ty .now) (c .before .before .before .before .before .before .before .before .before .before .before .before .args .others) (c .before .before .before .before .before .before .before .before .before .before .before .before .args .above) (scalarOf (c .before .before .before .before .before .before .before .before .before .before .before .before .args .others) (c .before .before .before .before .before .before .before .before .before .before .before .before .args .above) w) (w .spec-scalar) (w .type-scalar) (tested (scalarOf (c .before .before .before .before .before .before .before .before .before .before .before .before .args .others) (c .before .before .before .before .before .before .before .before .before .before .before .before .args .above) w) (w .type-scalar) (plan-box-any w (any-shape (w .type-scalar) (c .before .before .before .before .before .before .wholly-any .ensures (c .before .before .before .before .before .before .before .before .before .before .before .before .args .ty .now) (w .type-scalar) (c .before .before .before .before .before .before .before .before .look2 .ensures (w .type-shape) (w .type-scalar) (w .type-placed))) (c .before .before .before .before .before .before .before .shape-at .ensures maxDepth (ty (w .type-shape) (w .type-scalar)) (type-at (w .type-placed))) ∙ c .before .before .before .before .before .if1 .left) (as-box-any (c .before .before .before .before .before .before .before .before .before .before .before .before .args .spec .now) (w .spec-scalar) (c .before .before .before .before .before .before .before .before .before .look .result) (c .before .before .before .before .before .before .before .before .before .look .ensures (w .spec-shape) (w .spec-scalar) (w .spec-placed)) (c .before .before .before .enum-told .given .1)) (c .before .before .code-of2 .ensures (c .before .before .before .before .before .before .before .before .before .before .before .before .args .ty .now) (w .type-scalar) (c .before .before .before .before .before .before .before .before .look2 .ensures (w .type-shape) (w .type-scalar) (w .type-placed)))) (c .before .superset-codes2 .ensures))
+
+returns-5 : tie.Need-returns-5
+returns-5 c = λ w. c .plan-all .ensures (c .before .before .before .before .before .before .before .before .before .before .before .args .j) w (any-shape (w .type-scalar) (c .before .before .before .before .before .wholly-any .ensures (c .before .before .before .before .before .before .before .before .before .before .before .args .ty .now) (w .type-scalar) (c .before .before .before .before .before .before .before .look2 .ensures (w .type-shape) (w .type-scalar) (w .type-placed))) (c .before .before .before .before .before .before .shape-at .ensures maxDepth (ty (w .type-shape) (w .type-scalar)) (type-at (w .type-placed))) ∙ c .before .before .before .before .if1 .left) (as-box-all (c .before .before .before .before .before .before .before .before .before .before .before .args .spec .now) (w .spec-scalar) (c .before .before .before .before .before .before .before .before .look .result) (c .before .before .before .before .before .before .before .before .look .ensures (w .spec-shape) (w .spec-scalar) (w .spec-placed)) (c .before .before .a2 .given .1)) (c .before .before .before .before .before .before .before .look2 .ensures (w .type-shape) (w .type-scalar) (w .type-placed))
+
+returns-6 : tie.Need-returns-6
+returns-6 c = λ w. c .plan-unnamed .ensures (c .before .before .before .before .before .before .before .before .before .before .before .before .args .j) w (any-shape (w .type-scalar) (c .before .before .before .before .before .before .wholly-any .ensures (c .before .before .before .before .before .before .before .before .before .before .before .before .args .ty .now) (w .type-scalar) (c .before .before .before .before .before .before .before .before .look2 .ensures (w .type-shape) (w .type-scalar) (w .type-placed))) (c .before .before .before .before .before .before .before .shape-at .ensures maxDepth (ty (w .type-shape) (w .type-scalar)) (type-at (w .type-placed))) ∙ c .before .before .before .before .before .if1 .left) (def-flag (as-box-def (c .before .before .before .before .before .before .before .before .before .before .before .before .args .spec .now) (w .spec-scalar) (c .before .before .before .before .before .before .before .before .before .look .result) (c .before .before .before .before .before .before .before .before .before .look .ensures (w .spec-shape) (w .spec-scalar) (w .spec-placed)) (c .before .before .before .a3 .given .1)) (c .before .if2 .left)) (c .before .before .before .before .before .before .before .before .look2 .ensures (w .type-shape) (w .type-scalar) (w .type-placed))
+
+pub plan-scalar-spec : {M : Type 1} → statement M
+plan-scalar-spec =
+    tie.close
+    (tie.spec
+    look-requires
+    look-requires-2
+    shape-at-requires
+    wholly-any-requires
+    take-if-requires
+    returns
+    enum-known-a
+    code-of-requires
+    superset-codes-requires
+    keep-if-requires
+    enum-told
+    code-of-requires-2
+    superset-codes-requires-2
+    keep-if-requires-2
+    enum-known-a-2
+    plan-all-requires
+    enum-known-a-3
+    plan-named-requires
+    returns-2
+    plan-unnamed-requires
+    returns-3
+    returns-4
+    returns-5
+    returns-6)

@@ -1,0 +1,44 @@
+use mathlib.Core.Path.{_≡_, refl, sym, ap, _∙_}
+use Rattle.record.specs.Answers.{dimsOf}
+use Rattle.validate.proofs.ShapesLaws.{unsided-uneven, unsided-even, unsided-open}
+use borrow.Author.Needs.{needs}
+use Rattle.validate.proofs.shapes.mismatch_unsided.Statement.{statement}
+use Rattle.validate.proofs.shapes.mismatch_unsided.Tie as tie
+use Rattle.validate.proofs.shapes.mismatch_unsided.Reads as reads
+use Rattle.validate.proofs.shapes.mismatch_unsided.Lts as lts
+use Rattle.validate.proofs.dims.agree.Reads as agree-reads
+use Rattle.validate.proofs.dims.equal_dims.Reads as equal-dims-reads
+use Rattle.writer.proofs.size_count.Reads as size-count-reads
+
+size-count-requires : tie.Need-size-count-requires
+size-count-requires c κs = search needs
+
+size-count-requires-2 : tie.Need-size-count-requires-2
+size-count-requires-2 c κs = search needs
+
+returns : tie.Need-returns
+returns c = unsided-uneven (dimsOf (c .before .before .before .before .before .args .o)) (c .before .before .before .before .before .args .t) (c .before .before .before .if1 .taken) (λ e. c .if2 .taken (c .before .before .size-count .ensures .0 ∙ (e ∙ sym (c .before .size-count2 .ensures .0))))
+
+agree-requires : tie.Need-agree-requires
+agree-requires c κs = search needs
+
+returns-2 : tie.Need-returns-2
+returns-2 c = unsided-even (dimsOf (c .before .before .before .before .before .before .args .o)) (c .before .before .before .before .before .before .args .t) (c .before .before .before .before .if1 .taken) (sym (c .before .before .before .size-count .ensures .0) ∙ (c .before .if2 .left ∙ c .before .before .size-count2 .ensures .0)) (c .agree .ensures)
+
+equal-dims-requires : tie.Need-equal-dims-requires
+equal-dims-requires c κs = search needs
+
+returns-3 : tie.Need-returns-3
+returns-3 c = unsided-open (dimsOf (c .before .before .before .before .args .o)) (c .before .before .before .before .args .t) (c .before .before .if1 .left) (c .equal-dims .ensures)
+
+pub mismatch-unsided-spec : {M : Type 1} → statement M
+mismatch-unsided-spec =
+    tie.close
+    (tie.spec
+    size-count-requires
+    size-count-requires-2
+    returns
+    agree-requires
+    returns-2
+    equal-dims-requires
+    returns-3)

@@ -1,0 +1,1381 @@
+use mathlib.Core.Path.{_≡_, refl, sym, ap, _∙_}
+use native.Mathlib.Omega.{arith}
+use borrow.Author.Needs.{needs}
+use lib.ListN.{length, take}
+use Rattle.model.specs.Limits.{maxDepth}
+use Rattle.model.specs.Types.{ty, fieldCount, among}
+use Rattle.format.specs.Outcome.{accepted, mapped}
+use Rattle.format.specs.Records.{boxStart, writeShape}
+use Rattle.record.specs.Answers.{shapeFor}
+use Rattle.validation.specs.CheckShape as rules
+use Rattle.validation.specs.CheckScalar.{inTurn}
+use Rattle.validate.specs.Plans.{Pair, scalarOf, shapeOf, Lists, fieldsOf}
+use Rattle.validate.specs.Walk.{wroteOf, scalarPiece, fieldsPiece, defHead}
+use Rattle.validate.proofs.PlanLaws.{type-at, some-left}
+use Rattle.validate.proofs.CopyLaws.{not-refused}
+use Rattle.validate.proofs.WalkLaws.{roomy-more, type-refused, type-clash, type-done, keep-copyable, take-copyable, Pacing, pacing-start, firsts, pacing-few, first-rest, first-types, pacing-pair, pacing-stop, pacing-next, pacing-ended, pacing-rest, pacing-fits, pacing-listable, lists-countable, done-number, checked-clash, checked-fits, roomy-done, laid-behind, scalar-few, plan-refuse, plan-keep, plan-take, plan-inside, plan-pairs, fresh-lists, own-lists, inside-done, pairs-done}
+use Prim.Native.Nat.{ℕ, _<_, _≤_, _+_, _-_, _*_}
+use borrow.Fn.Kinds.{In}
+use borrow.Fn.PlainCycle.{Measures, is, falls, and}
+use Rattle.validate.proofs.walk.check_fields.Reads as check-fields
+use Rattle.validate.proofs.walk.check_fields.Kinds as check-fields-kinds
+use Rattle.validate.proofs.walk.+check_fields+check_scalar_at+check_type.Lts-check_fields as check-fields-lts
+use Rattle.validate.proofs.walk.check_scalar_at.Reads as check-scalar-at
+use Rattle.validate.proofs.walk.check_scalar_at.Kinds as check-scalar-at-kinds
+use Rattle.validate.proofs.walk.+check_fields+check_scalar_at+check_type.Lts-check_scalar_at as check-scalar-at-lts
+use Rattle.validate.proofs.walk.check_type.Reads as check-type
+use Rattle.validate.proofs.walk.check_type.Kinds as check-type-kinds
+use Rattle.validate.proofs.walk.+check_fields+check_scalar_at+check_type.Lts-check_type as check-type-lts
+use Rattle.scalar.proofs.shape_at.Reads as shape-at-reads
+use Rattle.validate.proofs.copies.copy_fields.Reads as copy-fields-reads
+use Rattle.validate.proofs.copies.copy_scalar.Reads as copy-scalar-reads
+use Rattle.validate.proofs.copies.put_box.Reads as put-box-reads
+use Rattle.validate.proofs.copies.put_name.Reads as put-name-reads
+use Rattle.validate.proofs.places.next_type.Reads as next-type-reads
+use Rattle.validate.proofs.places.types_at.Reads as types-at-reads
+use Rattle.validate.proofs.places.types_in.Reads as types-in-reads
+use Rattle.validate.proofs.plans.plan_scalar.Reads as plan-scalar-reads
+use Rattle.validate.proofs.shapes.check_shapes.Reads as check-shapes-reads
+use Rattle.writer.proofs.put_shape.Reads as put-shape-reads
+use Rattle.writer.proofs.shape_length.Reads as shape-length-reads
+use Rattle.validate.proofs.walk.+check_fields+check_scalar_at+check_type.{statement}
+use Rattle.validate.proofs.walk.+check_fields+check_scalar_at+check_type.Tie.{close}
+
+abbrev μ-check-fields : Measures 3 check-fields-kinds.ps ℕ
+μ-check-fields κs a = 3 * (8 - a .1 .1 .1 .1 .1 .1 .1 .1 .1 .0) + 2
+
+abbrev μ-check-scalar-at : Measures 3 check-scalar-at-kinds.ps ℕ
+μ-check-scalar-at κs a = 3 * (8 - a .1 .1 .1 .1 .1 .0)
+
+abbrev μ-check-type : Measures 3 check-type-kinds.ps ℕ
+μ-check-type κs a = 3 * (8 - a .1 .1 .1 .1 .1 .0) + 1
+
+abbrev check-fields-at : ℕ → In 3 check-fields-kinds.ps
+check-fields-at t =
+    and 3 check-fields-kinds.ps (is 3 check-fields-kinds.ps μ-check-fields t) check-fields.Pre
+
+abbrev check-fields-below : ℕ → In 3 check-fields-kinds.ps
+check-fields-below t =
+    and
+    3
+    check-fields-kinds.ps
+    (falls 3 check-fields-kinds.ps _<_ μ-check-fields t)
+    check-fields.Pre
+
+abbrev check-scalar-at-at : ℕ → In 3 check-scalar-at-kinds.ps
+check-scalar-at-at t =
+    and
+    3
+    check-scalar-at-kinds.ps
+    (is 3 check-scalar-at-kinds.ps μ-check-scalar-at t)
+    check-scalar-at.Pre
+
+abbrev check-scalar-at-below : ℕ → In 3 check-scalar-at-kinds.ps
+check-scalar-at-below t =
+    and
+    3
+    check-scalar-at-kinds.ps
+    (falls 3 check-scalar-at-kinds.ps _<_ μ-check-scalar-at t)
+    check-scalar-at.Pre
+
+abbrev check-type-at : ℕ → In 3 check-type-kinds.ps
+check-type-at t =
+    and 3 check-type-kinds.ps (is 3 check-type-kinds.ps μ-check-type t) check-type.Pre
+
+abbrev check-type-below : ℕ → In 3 check-type-kinds.ps
+check-type-below t =
+    and 3 check-type-kinds.ps (falls 3 check-type-kinds.ps _<_ μ-check-type t) check-type.Pre
+
+abbrev check-fields-Inv-loop : check-fields-lts.InvT-loop
+check-fields-Inv-loop spec first limit moves source second count steps others above out₀ to i₀ j₀ end₀ before₀ rest₀ left₀ todo₀ out i j end before rest left todo =
+    (length out ≡ length out₀) × ((w : Lists spec first limit moves source second count steps others above) → Pacing spec moves source steps others above (mapped (fieldsPiece (take to out₀) 0) (fieldsOf others above w)) to i j todo left before rest (take end out) end)
+
+abbrev check-fields-μ-loop : check-fields-lts.MeasureT-loop
+check-fields-μ-loop spec first limit moves source second count steps others above out₀ to i₀ j₀ end₀ before₀ rest₀ left₀ todo₀ out i j end before rest left todo = todo
+
+check-fields-types-in-requires : (t : ℕ) → check-fields-lts.Need-types-in-requires (
+  types-in-reads.Asked,
+  types-in-reads.Learnt,
+  types-at-reads.Asked,
+  types-at-reads.Learnt,
+  check-type-below t,
+  check-type.Post,
+  next-type-reads.Asked,
+  next-type-reads.Learnt,
+  copy-fields-reads.Asked,
+  copy-fields-reads.Learnt,
+) (check-fields-at t) check-fields.Post check-fields-Inv-loop check-fields-μ-loop
+check-fields-types-in-requires t c κs = lists-countable (c .before .before .before .pre .1 .0)
+
+check-fields-loop-holds : (t : ℕ) → check-fields-lts.Need-loop-holds (
+  types-in-reads.Asked,
+  types-in-reads.Learnt,
+  types-at-reads.Asked,
+  types-at-reads.Learnt,
+  check-type-below t,
+  check-type.Post,
+  next-type-reads.Asked,
+  next-type-reads.Learnt,
+  copy-fields-reads.Asked,
+  copy-fields-reads.Learnt,
+) (check-fields-at t) check-fields.Post check-fields-Inv-loop check-fields-μ-loop
+check-fields-loop-holds t c = (refl, λ w. pacing-start w (take (c .before .before .before .before .args .to) (c .before .before .before .before .args .out .now)) (c .before .before .before .before .args .to) (c .types-in .ensures (w .type-fields) (w .type-listed) (w .type-count)))
+
+check-fields-sub-t27 : (t : ℕ) → check-fields-lts.Need-sub-t27 (
+  types-in-reads.Asked,
+  types-in-reads.Learnt,
+  types-at-reads.Asked,
+  types-at-reads.Learnt,
+  check-type-below t,
+  check-type.Post,
+  next-type-reads.Asked,
+  next-type-reads.Learnt,
+  copy-fields-reads.Asked,
+  copy-fields-reads.Learnt,
+) (check-fields-at t) check-fields.Post check-fields-Inv-loop check-fields-μ-loop
+check-fields-sub-t27 t c = omega (arith, (c .before .before .loop .inv .1 (c .before .before .before .before .before .before .before .pre .1 .0)) .ahead)
+
+check-fields-same-length : (t : ℕ) → check-fields-lts.Need-same-length (
+  types-in-reads.Asked,
+  types-in-reads.Learnt,
+  types-at-reads.Asked,
+  types-at-reads.Learnt,
+  check-type-below t,
+  check-type.Post,
+  next-type-reads.Asked,
+  next-type-reads.Learnt,
+  copy-fields-reads.Asked,
+  copy-fields-reads.Learnt,
+) (check-fields-at t) check-fields.Post check-fields-Inv-loop check-fields-μ-loop
+check-fields-same-length t c = c .before .before .loop .inv .0
+
+check-fields-returns : (t : ℕ) → check-fields-lts.Need-returns (
+  types-in-reads.Asked,
+  types-in-reads.Learnt,
+  types-at-reads.Asked,
+  types-at-reads.Learnt,
+  check-type-below t,
+  check-type.Post,
+  next-type-reads.Asked,
+  next-type-reads.Learnt,
+  copy-fields-reads.Asked,
+  copy-fields-reads.Learnt,
+) (check-fields-at t) check-fields.Post check-fields-Inv-loop check-fields-μ-loop
+check-fields-returns t c = λ w. pacing-ended (c .before .before .loop .out) (c .before .before .loop .inv .1 w) (c .if1 .taken)
+
+check-fields-types-at-requires : (t : ℕ) → check-fields-lts.Need-types-at-requires (
+  types-in-reads.Asked,
+  types-in-reads.Learnt,
+  types-at-reads.Asked,
+  types-at-reads.Learnt,
+  check-type-below t,
+  check-type.Post,
+  next-type-reads.Asked,
+  next-type-reads.Learnt,
+  copy-fields-reads.Asked,
+  copy-fields-reads.Learnt,
+) (check-fields-at t) check-fields.Post check-fields-Inv-loop check-fields-μ-loop
+check-fields-types-at-requires t c κs = search needs
+
+check-fields-sub-rest : (t : ℕ) → check-fields-lts.Need-sub-rest (
+  types-in-reads.Asked,
+  types-in-reads.Learnt,
+  types-at-reads.Asked,
+  types-at-reads.Learnt,
+  check-type-below t,
+  check-type.Post,
+  next-type-reads.Asked,
+  next-type-reads.Learnt,
+  copy-fields-reads.Asked,
+  copy-fields-reads.Learnt,
+) (check-fields-at t) check-fields.Post check-fields-Inv-loop check-fields-μ-loop
+check-fields-sub-rest t c = omega (arith, first-types (c .before .before .before .loop .inv .1 (c .before .before .before .before .before .before .before .before .pre .1 .0)) (c .before .before .loop-test .taken) (c .before .if1 .left), (c .types-at .ensures .1 ((firsts (c .before .before .before .loop .inv .1 (c .before .before .before .before .before .before .before .before .pre .1 .0)) (c .before .before .loop-test .taken) (c .before .if1 .left)) .q) ((firsts (c .before .before .before .loop .inv .1 (c .before .before .before .before .before .before .before .before .pre .1 .0)) (c .before .before .loop-test .taken) (c .before .if1 .left)) .l) ((firsts (c .before .before .before .loop .inv .1 (c .before .before .before .before .before .before .before .before .pre .1 .0)) (c .before .before .loop-test .taken) (c .before .if1 .left)) .type-placed)))
+
+check-fields-add-check-type : (t : ℕ) → check-fields-lts.Need-add-check-type (
+  types-in-reads.Asked,
+  types-in-reads.Learnt,
+  types-at-reads.Asked,
+  types-at-reads.Learnt,
+  check-type-below t,
+  check-type.Post,
+  next-type-reads.Asked,
+  next-type-reads.Learnt,
+  copy-fields-reads.Asked,
+  copy-fields-reads.Learnt,
+) (check-fields-at t) check-fields.Post check-fields-Inv-loop check-fields-μ-loop
+check-fields-add-check-type t c = omega (arith, pacing-few (c .before .before .before .loop .inv .1 (c .before .before .before .before .before .before .before .before .pre .1 .0)))
+
+check-fields-check-type-requires : (t : ℕ) → check-fields-lts.Need-check-type-requires (
+  types-in-reads.Asked,
+  types-in-reads.Learnt,
+  types-at-reads.Asked,
+  types-at-reads.Learnt,
+  check-type-below t,
+  check-type.Post,
+  next-type-reads.Asked,
+  next-type-reads.Learnt,
+  copy-fields-reads.Asked,
+  copy-fields-reads.Learnt,
+) (check-fields-at t) check-fields.Post check-fields-Inv-loop check-fields-μ-loop
+check-fields-check-type-requires t c κs = (omega (arith, c .before .before .before .before .before .before .before .before .before .pre .0), ((pacing-pair (c .before .before .before .before .loop .inv .1 (c .before .before .before .before .before .before .before .before .before .pre .1 .0)) (c .before .before .before .loop-test .taken) (c .before .before .if1 .left) (first-rest (c .before .before .before .before .loop .inv .1 (c .before .before .before .before .before .before .before .before .before .pre .1 .0)) (c .before .before .before .loop-test .taken) (c .before .before .if1 .left) (c .before .types-at .ensures .1 ((firsts (c .before .before .before .before .loop .inv .1 (c .before .before .before .before .before .before .before .before .before .pre .1 .0)) (c .before .before .before .loop-test .taken) (c .before .before .if1 .left)) .q) ((firsts (c .before .before .before .before .loop .inv .1 (c .before .before .before .before .before .before .before .before .before .pre .1 .0)) (c .before .before .before .loop-test .taken) (c .before .before .if1 .left)) .l) ((firsts (c .before .before .before .before .loop .inv .1 (c .before .before .before .before .before .before .before .before .before .pre .1 .0)) (c .before .before .before .loop-test .taken) (c .before .before .if1 .left)) .type-placed)))), omega (arith, (c .before .before .before .before .loop .inv .1 (c .before .before .before .before .before .before .before .before .before .pre .1 .0)) .room, (c .before .before .before .before .loop .inv .1 (c .before .before .before .before .before .before .before .before .before .pre .1 .0)) .ahead, pacing-few (c .before .before .before .before .loop .inv .1 (c .before .before .before .before .before .before .before .before .before .pre .1 .0)), c .before .before .before .before .before .before .before .before .before .pre .1 .1, c .before .before .before .before .loop .inv .0)))
+
+check-fields-enum-known-w : (t : ℕ) → check-fields-lts.Need-enum-known-w (
+  types-in-reads.Asked,
+  types-in-reads.Learnt,
+  types-at-reads.Asked,
+  types-at-reads.Learnt,
+  check-type-below t,
+  check-type.Post,
+  next-type-reads.Asked,
+  next-type-reads.Learnt,
+  copy-fields-reads.Asked,
+  copy-fields-reads.Learnt,
+) (check-fields-at t) check-fields.Post check-fields-Inv-loop check-fields-μ-loop
+check-fields-enum-known-w t c = search needs
+
+check-fields-enum-told : (t : ℕ) → check-fields-lts.Need-enum-told (
+  types-in-reads.Asked,
+  types-in-reads.Learnt,
+  types-at-reads.Asked,
+  types-at-reads.Learnt,
+  check-type-below t,
+  check-type.Post,
+  next-type-reads.Asked,
+  next-type-reads.Learnt,
+  copy-fields-reads.Asked,
+  copy-fields-reads.Learnt,
+) (check-fields-at t) check-fields.Post check-fields-Inv-loop check-fields-μ-loop
+check-fields-enum-told t c = search needs
+
+check-fields-same-length-2 : (t : ℕ) → check-fields-lts.Need-same-length-2 (
+  types-in-reads.Asked,
+  types-in-reads.Learnt,
+  types-at-reads.Asked,
+  types-at-reads.Learnt,
+  check-type-below t,
+  check-type.Post,
+  next-type-reads.Asked,
+  next-type-reads.Learnt,
+  copy-fields-reads.Asked,
+  copy-fields-reads.Learnt,
+) (check-fields-at t) check-fields.Post check-fields-Inv-loop check-fields-μ-loop
+check-fields-same-length-2 t c = c .before .before .before .before .check-type .kept .1 .1 .1 .1 .1 .1 .0 ∙ c .before .before .before .before .before .before .before .before .before .loop .inv .0
+
+check-fields-returns-2 : (t : ℕ) → check-fields-lts.Need-returns-2 (
+  types-in-reads.Asked,
+  types-in-reads.Learnt,
+  types-at-reads.Asked,
+  types-at-reads.Learnt,
+  check-type-below t,
+  check-type.Post,
+  next-type-reads.Asked,
+  next-type-reads.Learnt,
+  copy-fields-reads.Asked,
+  copy-fields-reads.Learnt,
+) (check-fields-at t) check-fields.Post check-fields-Inv-loop check-fields-μ-loop
+check-fields-returns-2 t c = λ w. pacing-stop (c .before .before .before .before .before .before .before .before .before .loop .inv .1 w) (c .before .before .before .before .before .before .before .before .loop-test .taken) (c .before .before .before .before .before .before .before .if1 .left) (first-rest (c .before .before .before .before .before .before .before .before .before .loop .inv .1 w) (c .before .before .before .before .before .before .before .before .loop-test .taken) (c .before .before .before .before .before .before .before .if1 .left) (c .before .before .before .before .before .before .types-at .ensures .1 ((firsts (c .before .before .before .before .before .before .before .before .before .loop .inv .1 w) (c .before .before .before .before .before .before .before .before .loop-test .taken) (c .before .before .before .before .before .before .before .if1 .left)) .q) ((firsts (c .before .before .before .before .before .before .before .before .before .loop .inv .1 w) (c .before .before .before .before .before .before .before .before .loop-test .taken) (c .before .before .before .before .before .before .before .if1 .left)) .l) ((firsts (c .before .before .before .before .before .before .before .before .before .loop .inv .1 w) (c .before .before .before .before .before .before .before .before .loop-test .taken) (c .before .before .before .before .before .before .before .if1 .left)) .type-placed))) (c .before .before .before .before .check-type .last .1 .1 .1 .1 .1 .1 .0) (c .enum-told .given .1) (c .before .before .before .before .check-type .ensures (pacing-pair (c .before .before .before .before .before .before .before .before .before .loop .inv .1 w) (c .before .before .before .before .before .before .before .before .loop-test .taken) (c .before .before .before .before .before .before .before .if1 .left) (first-rest (c .before .before .before .before .before .before .before .before .before .loop .inv .1 w) (c .before .before .before .before .before .before .before .before .loop-test .taken) (c .before .before .before .before .before .before .before .if1 .left) (c .before .before .before .before .before .before .types-at .ensures .1 ((firsts (c .before .before .before .before .before .before .before .before .before .loop .inv .1 w) (c .before .before .before .before .before .before .before .before .loop-test .taken) (c .before .before .before .before .before .before .before .if1 .left)) .q) ((firsts (c .before .before .before .before .before .before .before .before .before .loop .inv .1 w) (c .before .before .before .before .before .before .before .before .loop-test .taken) (c .before .before .before .before .before .before .before .if1 .left)) .l) ((firsts (c .before .before .before .before .before .before .before .before .before .loop .inv .1 w) (c .before .before .before .before .before .before .before .before .loop-test .taken) (c .before .before .before .before .before .before .before .if1 .left)) .type-placed)))) .0)
+
+check-fields-next-type-requires : (t : ℕ) → check-fields-lts.Need-next-type-requires (
+  types-in-reads.Asked,
+  types-in-reads.Learnt,
+  types-at-reads.Asked,
+  types-at-reads.Learnt,
+  check-type-below t,
+  check-type.Post,
+  next-type-reads.Asked,
+  next-type-reads.Learnt,
+  copy-fields-reads.Asked,
+  copy-fields-reads.Learnt,
+) (check-fields-at t) check-fields.Post check-fields-Inv-loop check-fields-μ-loop
+check-fields-next-type-requires t c κs = search needs
+
+check-fields-next-type-requires-2 : (t : ℕ) → check-fields-lts.Need-next-type-requires-2 (
+  types-in-reads.Asked,
+  types-in-reads.Learnt,
+  types-at-reads.Asked,
+  types-at-reads.Learnt,
+  check-type-below t,
+  check-type.Post,
+  next-type-reads.Asked,
+  next-type-reads.Learnt,
+  copy-fields-reads.Asked,
+  copy-fields-reads.Learnt,
+) (check-fields-at t) check-fields.Post check-fields-Inv-loop check-fields-μ-loop
+check-fields-next-type-requires-2 t c κs = search needs
+
+check-fields-add-before : (t : ℕ) → check-fields-lts.Need-add-before (
+  types-in-reads.Asked,
+  types-in-reads.Learnt,
+  types-at-reads.Asked,
+  types-at-reads.Learnt,
+  check-type-below t,
+  check-type.Post,
+  next-type-reads.Asked,
+  next-type-reads.Learnt,
+  copy-fields-reads.Asked,
+  copy-fields-reads.Learnt,
+) (check-fields-at t) check-fields.Post check-fields-Inv-loop check-fields-μ-loop
+check-fields-add-before t c = omega (arith, pacing-few (pacing-next (c .before .before .before .before .before .before .before .before .before .before .before .before .loop .inv .1 (c .before .before .before .before .before .before .before .before .before .before .before .before .before .before .before .before .before .pre .1 .0)) (c .before .before .before .before .before .before .before .before .before .before .before .loop-test .taken) (c .before .before .before .before .before .before .before .before .before .before .if1 .left) (first-rest (c .before .before .before .before .before .before .before .before .before .before .before .before .loop .inv .1 (c .before .before .before .before .before .before .before .before .before .before .before .before .before .before .before .before .before .pre .1 .0)) (c .before .before .before .before .before .before .before .before .before .before .before .loop-test .taken) (c .before .before .before .before .before .before .before .before .before .before .if1 .left) (c .before .before .before .before .before .before .before .before .before .types-at .ensures .1 ((firsts (c .before .before .before .before .before .before .before .before .before .before .before .before .loop .inv .1 (c .before .before .before .before .before .before .before .before .before .before .before .before .before .before .before .before .before .pre .1 .0)) (c .before .before .before .before .before .before .before .before .before .before .before .loop-test .taken) (c .before .before .before .before .before .before .before .before .before .before .if1 .left)) .q) ((firsts (c .before .before .before .before .before .before .before .before .before .before .before .before .loop .inv .1 (c .before .before .before .before .before .before .before .before .before .before .before .before .before .before .before .before .before .pre .1 .0)) (c .before .before .before .before .before .before .before .before .before .before .before .loop-test .taken) (c .before .before .before .before .before .before .before .before .before .before .if1 .left)) .l) ((firsts (c .before .before .before .before .before .before .before .before .before .before .before .before .loop .inv .1 (c .before .before .before .before .before .before .before .before .before .before .before .before .before .before .before .before .before .pre .1 .0)) (c .before .before .before .before .before .before .before .before .before .before .before .loop-test .taken) (c .before .before .before .before .before .before .before .before .before .before .if1 .left)) .type-placed))) (c .before .before .before .before .before .before .before .check-type .last .1 .1 .1 .1 .1 .1 .0) (c .before .before .before .w .given .1) (c .before .before .before .before .before .before .before .check-type .ensures (pacing-pair (c .before .before .before .before .before .before .before .before .before .before .before .before .loop .inv .1 (c .before .before .before .before .before .before .before .before .before .before .before .before .before .before .before .before .before .pre .1 .0)) (c .before .before .before .before .before .before .before .before .before .before .before .loop-test .taken) (c .before .before .before .before .before .before .before .before .before .before .if1 .left) (first-rest (c .before .before .before .before .before .before .before .before .before .before .before .before .loop .inv .1 (c .before .before .before .before .before .before .before .before .before .before .before .before .before .before .before .before .before .pre .1 .0)) (c .before .before .before .before .before .before .before .before .before .before .before .loop-test .taken) (c .before .before .before .before .before .before .before .before .before .before .if1 .left) (c .before .before .before .before .before .before .before .before .before .types-at .ensures .1 ((firsts (c .before .before .before .before .before .before .before .before .before .before .before .before .loop .inv .1 (c .before .before .before .before .before .before .before .before .before .before .before .before .before .before .before .before .before .pre .1 .0)) (c .before .before .before .before .before .before .before .before .before .before .before .loop-test .taken) (c .before .before .before .before .before .before .before .before .before .before .if1 .left)) .q) ((firsts (c .before .before .before .before .before .before .before .before .before .before .before .before .loop .inv .1 (c .before .before .before .before .before .before .before .before .before .before .before .before .before .before .before .before .before .pre .1 .0)) (c .before .before .before .before .before .before .before .before .before .before .before .loop-test .taken) (c .before .before .before .before .before .before .before .before .before .before .if1 .left)) .l) ((firsts (c .before .before .before .before .before .before .before .before .before .before .before .before .loop .inv .1 (c .before .before .before .before .before .before .before .before .before .before .before .before .before .before .before .before .before .pre .1 .0)) (c .before .before .before .before .before .before .before .before .before .before .before .loop-test .taken) (c .before .before .before .before .before .before .before .before .before .before .if1 .left)) .type-placed))))) (c .before .next-type .ensures ((firsts (c .before .before .before .before .before .before .before .before .before .before .before .before .loop .inv .1 (c .before .before .before .before .before .before .before .before .before .before .before .before .before .before .before .before .before .pre .1 .0)) (c .before .before .before .before .before .before .before .before .before .before .before .loop-test .taken) (c .before .before .before .before .before .before .before .before .before .before .if1 .left)) .p) ((firsts (c .before .before .before .before .before .before .before .before .before .before .before .before .loop .inv .1 (c .before .before .before .before .before .before .before .before .before .before .before .before .before .before .before .before .before .pre .1 .0)) (c .before .before .before .before .before .before .before .before .before .before .before .loop-test .taken) (c .before .before .before .before .before .before .before .before .before .before .if1 .left)) .k) ((firsts (c .before .before .before .before .before .before .before .before .before .before .before .before .loop .inv .1 (c .before .before .before .before .before .before .before .before .before .before .before .before .before .before .before .before .before .pre .1 .0)) (c .before .before .before .before .before .before .before .before .before .before .before .loop-test .taken) (c .before .before .before .before .before .before .before .before .before .before .if1 .left)) .spec-placed)) (c .next-type2 .ensures ((firsts (c .before .before .before .before .before .before .before .before .before .before .before .before .loop .inv .1 (c .before .before .before .before .before .before .before .before .before .before .before .before .before .before .before .before .before .pre .1 .0)) (c .before .before .before .before .before .before .before .before .before .before .before .loop-test .taken) (c .before .before .before .before .before .before .before .before .before .before .if1 .left)) .q) ((firsts (c .before .before .before .before .before .before .before .before .before .before .before .before .loop .inv .1 (c .before .before .before .before .before .before .before .before .before .before .before .before .before .before .before .before .before .pre .1 .0)) (c .before .before .before .before .before .before .before .before .before .before .before .loop-test .taken) (c .before .before .before .before .before .before .before .before .before .before .if1 .left)) .l) ((firsts (c .before .before .before .before .before .before .before .before .before .before .before .before .loop .inv .1 (c .before .before .before .before .before .before .before .before .before .before .before .before .before .before .before .before .before .pre .1 .0)) (c .before .before .before .before .before .before .before .before .before .before .before .loop-test .taken) (c .before .before .before .before .before .before .before .before .before .before .if1 .left)) .type-placed))))
+
+check-fields-sub-left : (t : ℕ) → check-fields-lts.Need-sub-left (
+  types-in-reads.Asked,
+  types-in-reads.Learnt,
+  types-at-reads.Asked,
+  types-at-reads.Learnt,
+  check-type-below t,
+  check-type.Post,
+  next-type-reads.Asked,
+  next-type-reads.Learnt,
+  copy-fields-reads.Asked,
+  copy-fields-reads.Learnt,
+) (check-fields-at t) check-fields.Post check-fields-Inv-loop check-fields-μ-loop
+check-fields-sub-left t c = search needs
+
+check-fields-sub-todo : (t : ℕ) → check-fields-lts.Need-sub-todo (
+  types-in-reads.Asked,
+  types-in-reads.Learnt,
+  types-at-reads.Asked,
+  types-at-reads.Learnt,
+  check-type-below t,
+  check-type.Post,
+  next-type-reads.Asked,
+  next-type-reads.Learnt,
+  copy-fields-reads.Asked,
+  copy-fields-reads.Learnt,
+) (check-fields-at t) check-fields.Post check-fields-Inv-loop check-fields-μ-loop
+check-fields-sub-todo t c = search needs
+
+check-fields-loop-less : (t : ℕ) → check-fields-lts.Need-loop-less (
+  types-in-reads.Asked,
+  types-in-reads.Learnt,
+  types-at-reads.Asked,
+  types-at-reads.Learnt,
+  check-type-below t,
+  check-type.Post,
+  next-type-reads.Asked,
+  next-type-reads.Learnt,
+  copy-fields-reads.Asked,
+  copy-fields-reads.Learnt,
+) (check-fields-at t) check-fields.Post check-fields-Inv-loop check-fields-μ-loop
+check-fields-loop-less t c = search needs
+
+check-fields-loop-again : (t : ℕ) → check-fields-lts.Need-loop-again (
+  types-in-reads.Asked,
+  types-in-reads.Learnt,
+  types-at-reads.Asked,
+  types-at-reads.Learnt,
+  check-type-below t,
+  check-type.Post,
+  next-type-reads.Asked,
+  next-type-reads.Learnt,
+  copy-fields-reads.Asked,
+  copy-fields-reads.Learnt,
+) (check-fields-at t) check-fields.Post check-fields-Inv-loop check-fields-μ-loop
+check-fields-loop-again t c = (c .before .before .before .before .before .before .before .check-type .kept .1 .1 .1 .1 .1 .1 .0 ∙ c .before .before .before .before .before .before .before .before .before .before .before .before .loop .inv .0, λ w. pacing-next (c .before .before .before .before .before .before .before .before .before .before .before .before .loop .inv .1 w) (c .before .before .before .before .before .before .before .before .before .before .before .loop-test .taken) (c .before .before .before .before .before .before .before .before .before .before .if1 .left) (first-rest (c .before .before .before .before .before .before .before .before .before .before .before .before .loop .inv .1 w) (c .before .before .before .before .before .before .before .before .before .before .before .loop-test .taken) (c .before .before .before .before .before .before .before .before .before .before .if1 .left) (c .before .before .before .before .before .before .before .before .before .types-at .ensures .1 ((firsts (c .before .before .before .before .before .before .before .before .before .before .before .before .loop .inv .1 w) (c .before .before .before .before .before .before .before .before .before .before .before .loop-test .taken) (c .before .before .before .before .before .before .before .before .before .before .if1 .left)) .q) ((firsts (c .before .before .before .before .before .before .before .before .before .before .before .before .loop .inv .1 w) (c .before .before .before .before .before .before .before .before .before .before .before .loop-test .taken) (c .before .before .before .before .before .before .before .before .before .before .if1 .left)) .l) ((firsts (c .before .before .before .before .before .before .before .before .before .before .before .before .loop .inv .1 w) (c .before .before .before .before .before .before .before .before .before .before .before .loop-test .taken) (c .before .before .before .before .before .before .before .before .before .before .if1 .left)) .type-placed))) (c .before .before .before .before .before .before .before .check-type .last .1 .1 .1 .1 .1 .1 .0) (c .before .before .before .w .given .1) (c .before .before .before .before .before .before .before .check-type .ensures (pacing-pair (c .before .before .before .before .before .before .before .before .before .before .before .before .loop .inv .1 w) (c .before .before .before .before .before .before .before .before .before .before .before .loop-test .taken) (c .before .before .before .before .before .before .before .before .before .before .if1 .left) (first-rest (c .before .before .before .before .before .before .before .before .before .before .before .before .loop .inv .1 w) (c .before .before .before .before .before .before .before .before .before .before .before .loop-test .taken) (c .before .before .before .before .before .before .before .before .before .before .if1 .left) (c .before .before .before .before .before .before .before .before .before .types-at .ensures .1 ((firsts (c .before .before .before .before .before .before .before .before .before .before .before .before .loop .inv .1 w) (c .before .before .before .before .before .before .before .before .before .before .before .loop-test .taken) (c .before .before .before .before .before .before .before .before .before .before .if1 .left)) .q) ((firsts (c .before .before .before .before .before .before .before .before .before .before .before .before .loop .inv .1 w) (c .before .before .before .before .before .before .before .before .before .before .before .loop-test .taken) (c .before .before .before .before .before .before .before .before .before .before .if1 .left)) .l) ((firsts (c .before .before .before .before .before .before .before .before .before .before .before .before .loop .inv .1 w) (c .before .before .before .before .before .before .before .before .before .before .before .loop-test .taken) (c .before .before .before .before .before .before .before .before .before .before .if1 .left)) .type-placed))))) (c .before .next-type .ensures ((firsts (c .before .before .before .before .before .before .before .before .before .before .before .before .loop .inv .1 w) (c .before .before .before .before .before .before .before .before .before .before .before .loop-test .taken) (c .before .before .before .before .before .before .before .before .before .before .if1 .left)) .p) ((firsts (c .before .before .before .before .before .before .before .before .before .before .before .before .loop .inv .1 w) (c .before .before .before .before .before .before .before .before .before .before .before .loop-test .taken) (c .before .before .before .before .before .before .before .before .before .before .if1 .left)) .k) ((firsts (c .before .before .before .before .before .before .before .before .before .before .before .before .loop .inv .1 w) (c .before .before .before .before .before .before .before .before .before .before .before .loop-test .taken) (c .before .before .before .before .before .before .before .before .before .before .if1 .left)) .spec-placed)) (c .next-type2 .ensures ((firsts (c .before .before .before .before .before .before .before .before .before .before .before .before .loop .inv .1 w) (c .before .before .before .before .before .before .before .before .before .before .before .loop-test .taken) (c .before .before .before .before .before .before .before .before .before .before .if1 .left)) .q) ((firsts (c .before .before .before .before .before .before .before .before .before .before .before .before .loop .inv .1 w) (c .before .before .before .before .before .before .before .before .before .before .before .loop-test .taken) (c .before .before .before .before .before .before .before .before .before .before .if1 .left)) .l) ((firsts (c .before .before .before .before .before .before .before .before .before .before .before .before .loop .inv .1 w) (c .before .before .before .before .before .before .before .before .before .before .before .loop-test .taken) (c .before .before .before .before .before .before .before .before .before .before .if1 .left)) .type-placed)))
+
+check-fields-copy-fields-requires : (t : ℕ) → check-fields-lts.Need-copy-fields-requires (
+  types-in-reads.Asked,
+  types-in-reads.Learnt,
+  types-at-reads.Asked,
+  types-at-reads.Learnt,
+  check-type-below t,
+  check-type.Post,
+  next-type-reads.Asked,
+  next-type-reads.Learnt,
+  copy-fields-reads.Asked,
+  copy-fields-reads.Learnt,
+) (check-fields-at t) check-fields.Post check-fields-Inv-loop check-fields-μ-loop
+check-fields-copy-fields-requires t c κs = pacing-listable (c .before .before .loop .inv .1 (c .before .before .before .before .before .before .before .pre .1 .0)) (omega (arith, c .before .before .before .before .before .before .before .pre .1 .1, c .before .before .loop .inv .0))
+
+check-fields-enum-known-w-2 : (t : ℕ) → check-fields-lts.Need-enum-known-w-2 (
+  types-in-reads.Asked,
+  types-in-reads.Learnt,
+  types-at-reads.Asked,
+  types-at-reads.Learnt,
+  check-type-below t,
+  check-type.Post,
+  next-type-reads.Asked,
+  next-type-reads.Learnt,
+  copy-fields-reads.Asked,
+  copy-fields-reads.Learnt,
+) (check-fields-at t) check-fields.Post check-fields-Inv-loop check-fields-μ-loop
+check-fields-enum-known-w-2 t c = search needs
+
+check-fields-enum-told-2 : (t : ℕ) → check-fields-lts.Need-enum-told-2 (
+  types-in-reads.Asked,
+  types-in-reads.Learnt,
+  types-at-reads.Asked,
+  types-at-reads.Learnt,
+  check-type-below t,
+  check-type.Post,
+  next-type-reads.Asked,
+  next-type-reads.Learnt,
+  copy-fields-reads.Asked,
+  copy-fields-reads.Learnt,
+) (check-fields-at t) check-fields.Post check-fields-Inv-loop check-fields-μ-loop
+check-fields-enum-told-2 t c = search needs
+
+check-fields-same-length-3 : (t : ℕ) → check-fields-lts.Need-same-length-3 (
+  types-in-reads.Asked,
+  types-in-reads.Learnt,
+  types-at-reads.Asked,
+  types-at-reads.Learnt,
+  check-type-below t,
+  check-type.Post,
+  next-type-reads.Asked,
+  next-type-reads.Learnt,
+  copy-fields-reads.Asked,
+  copy-fields-reads.Learnt,
+) (check-fields-at t) check-fields.Post check-fields-Inv-loop check-fields-μ-loop
+check-fields-same-length-3 t c = c .before .before .before .before .copy-fields .kept .1 .1 .1 .1 .0 ∙ c .before .before .before .before .before .before .before .loop .inv .0
+
+check-fields-returns-3 : (t : ℕ) → check-fields-lts.Need-returns-3 (
+  types-in-reads.Asked,
+  types-in-reads.Learnt,
+  types-at-reads.Asked,
+  types-at-reads.Learnt,
+  check-type-below t,
+  check-type.Post,
+  next-type-reads.Asked,
+  next-type-reads.Learnt,
+  copy-fields-reads.Asked,
+  copy-fields-reads.Learnt,
+) (check-fields-at t) check-fields.Post check-fields-Inv-loop check-fields-μ-loop
+check-fields-returns-3 t c = λ w. not-refused (c .before .before .before .before .copy-fields .last .1 .1 .1 .1 .0) _ ((c .before .before .before .before .copy-fields .ensures ((c .before .before .before .before .before .before .before .loop .inv .1 w) .lists .type-fields) ((c .before .before .before .before .before .before .before .loop .inv .1 w) .lists .type-listed) ((c .before .before .before .before .before .before .before .loop .inv .1 w) .lists .type-count) (pacing-fits (c .before .before .before .before .before .before .before .loop .inv .1 w) (omega (arith, c .before .before .before .before .before .before .before .before .before .before .before .before .pre .1 .1, c .before .before .before .before .before .before .before .loop .inv .0)))) .0) (c .enum-told2 .given .1)
+
+check-fields-sub-t33 : (t : ℕ) → check-fields-lts.Need-sub-t33 (
+  types-in-reads.Asked,
+  types-in-reads.Learnt,
+  types-at-reads.Asked,
+  types-at-reads.Learnt,
+  check-type-below t,
+  check-type.Post,
+  next-type-reads.Asked,
+  next-type-reads.Learnt,
+  copy-fields-reads.Asked,
+  copy-fields-reads.Learnt,
+) (check-fields-at t) check-fields.Post check-fields-Inv-loop check-fields-μ-loop
+check-fields-sub-t33 t c = omega (arith, (c .before .before .before .before .before .before .before .before .loop .inv .1 (c .before .before .before .before .before .before .before .before .before .before .before .before .before .pre .1 .0)) .ahead)
+
+check-fields-add-t34 : (t : ℕ) → check-fields-lts.Need-add-t34 (
+  types-in-reads.Asked,
+  types-in-reads.Learnt,
+  types-at-reads.Asked,
+  types-at-reads.Learnt,
+  check-type-below t,
+  check-type.Post,
+  next-type-reads.Asked,
+  next-type-reads.Learnt,
+  copy-fields-reads.Asked,
+  copy-fields-reads.Learnt,
+) (check-fields-at t) check-fields.Post check-fields-Inv-loop check-fields-μ-loop
+check-fields-add-t34 t c = let q = done-number (c .before .before .before .before .before .copy-fields .last .1 .1 .1 .1 .0) (take (c .before .before .before .before .before .before .before .before .loop .end) (c .before .before .before .before .before .before .before .before .loop .out)) ((c .before .before .before .before .before .before .before .before .loop .inv .1 (c .before .before .before .before .before .before .before .before .before .before .before .before .before .pre .1 .0)) .lists .type-fields) (c .before .w2 .given .1) ((c .before .before .before .before .before .copy-fields .ensures ((c .before .before .before .before .before .before .before .before .loop .inv .1 (c .before .before .before .before .before .before .before .before .before .before .before .before .before .pre .1 .0)) .lists .type-fields) ((c .before .before .before .before .before .before .before .before .loop .inv .1 (c .before .before .before .before .before .before .before .before .before .before .before .before .before .pre .1 .0)) .lists .type-listed) ((c .before .before .before .before .before .before .before .before .loop .inv .1 (c .before .before .before .before .before .before .before .before .before .before .before .before .before .pre .1 .0)) .lists .type-count) (pacing-fits (c .before .before .before .before .before .before .before .before .loop .inv .1 (c .before .before .before .before .before .before .before .before .before .before .before .before .before .pre .1 .0)) (omega (arith, c .before .before .before .before .before .before .before .before .before .before .before .before .before .pre .1 .1, c .before .before .before .before .before .before .before .before .loop .inv .0)))) .0) in omega (arith, q, (c .before .before .before .before .before .before .before .before .loop .inv .1 (c .before .before .before .before .before .before .before .before .before .before .before .before .before .pre .1 .0)) .ahead, (c .before .before .before .before .before .before .before .before .loop .inv .1 (c .before .before .before .before .before .before .before .before .before .before .before .before .before .pre .1 .0)) .number, pacing-few (c .before .before .before .before .before .before .before .before .loop .inv .1 (c .before .before .before .before .before .before .before .before .before .before .before .before .before .pre .1 .0)))
+
+check-fields-same-length-4 : (t : ℕ) → check-fields-lts.Need-same-length-4 (
+  types-in-reads.Asked,
+  types-in-reads.Learnt,
+  types-at-reads.Asked,
+  types-at-reads.Learnt,
+  check-type-below t,
+  check-type.Post,
+  next-type-reads.Asked,
+  next-type-reads.Learnt,
+  copy-fields-reads.Asked,
+  copy-fields-reads.Learnt,
+) (check-fields-at t) check-fields.Post check-fields-Inv-loop check-fields-μ-loop
+check-fields-same-length-4 t c = c .before .before .before .before .before .copy-fields .kept .1 .1 .1 .1 .0 ∙ c .before .before .before .before .before .before .before .before .loop .inv .0
+
+check-fields-returns-4 : (t : ℕ) → check-fields-lts.Need-returns-4 (
+  types-in-reads.Asked,
+  types-in-reads.Learnt,
+  types-at-reads.Asked,
+  types-at-reads.Learnt,
+  check-type-below t,
+  check-type.Post,
+  next-type-reads.Asked,
+  next-type-reads.Learnt,
+  copy-fields-reads.Asked,
+  copy-fields-reads.Learnt,
+) (check-fields-at t) check-fields.Post check-fields-Inv-loop check-fields-μ-loop
+check-fields-returns-4 t c = λ w. pacing-rest (c .before .before .before .before .before .before .before .before .loop .out) (c .before .before .before .before .before .before .before .before .loop .inv .1 w) (c .before .before .before .before .before .copy-fields .last .1 .1 .1 .1 .0) (omega (arith, c .before .before .before .before .before .before .before .loop-test .left)) (c .before .w2 .given .1) (c .before .before .before .before .before .copy-fields .ensures ((c .before .before .before .before .before .before .before .before .loop .inv .1 w) .lists .type-fields) ((c .before .before .before .before .before .before .before .before .loop .inv .1 w) .lists .type-listed) ((c .before .before .before .before .before .before .before .before .loop .inv .1 w) .lists .type-count) (pacing-fits (c .before .before .before .before .before .before .before .before .loop .inv .1 w) (omega (arith, c .before .before .before .before .before .before .before .before .before .before .before .before .before .pre .1 .1, c .before .before .before .before .before .before .before .before .loop .inv .0))))
+
+check-scalar-at-plan-scalar-requires : (t : ℕ) → check-scalar-at-lts.Need-plan-scalar-requires (
+  plan-scalar-reads.Asked,
+  plan-scalar-reads.Learnt,
+  copy-scalar-reads.Asked,
+  copy-scalar-reads.Learnt,
+  put-box-reads.Asked,
+  put-box-reads.Learnt,
+  check-type-below t,
+  check-type.Post,
+  put-name-reads.Asked,
+  put-name-reads.Learnt,
+  check-fields-below t,
+  check-fields.Post,
+) (check-scalar-at-at t) check-scalar-at.Post
+check-scalar-at-plan-scalar-requires t c κs = (c .before .before .before .pre .1 .0)
+
+check-scalar-at-enum-known-plan : (t : ℕ) → check-scalar-at-lts.Need-enum-known-plan (
+  plan-scalar-reads.Asked,
+  plan-scalar-reads.Learnt,
+  copy-scalar-reads.Asked,
+  copy-scalar-reads.Learnt,
+  put-box-reads.Asked,
+  put-box-reads.Learnt,
+  check-type-below t,
+  check-type.Post,
+  put-name-reads.Asked,
+  put-name-reads.Learnt,
+  check-fields-below t,
+  check-fields.Post,
+) (check-scalar-at-at t) check-scalar-at.Post
+check-scalar-at-enum-known-plan t c = search needs
+
+check-scalar-at-enum-told : (t : ℕ) → check-scalar-at-lts.Need-enum-told (
+  plan-scalar-reads.Asked,
+  plan-scalar-reads.Learnt,
+  copy-scalar-reads.Asked,
+  copy-scalar-reads.Learnt,
+  put-box-reads.Asked,
+  put-box-reads.Learnt,
+  check-type-below t,
+  check-type.Post,
+  put-name-reads.Asked,
+  put-name-reads.Learnt,
+  check-fields-below t,
+  check-fields.Post,
+) (check-scalar-at-at t) check-scalar-at.Post
+check-scalar-at-enum-told t c = search needs
+
+check-scalar-at-copy-scalar-requires : (t : ℕ) → check-scalar-at-lts.Need-copy-scalar-requires (
+  plan-scalar-reads.Asked,
+  plan-scalar-reads.Learnt,
+  copy-scalar-reads.Asked,
+  copy-scalar-reads.Learnt,
+  put-box-reads.Asked,
+  put-box-reads.Learnt,
+  check-type-below t,
+  check-type.Post,
+  put-name-reads.Asked,
+  put-name-reads.Learnt,
+  check-fields-below t,
+  check-fields.Post,
+) (check-scalar-at-at t) check-scalar-at.Post
+check-scalar-at-copy-scalar-requires t c κs = keep-copyable (c .before .before .before .before .before .before .before .pre .1 .0) (c .before .before .before .before .before .before .before .args .to) (c .before .before .before .before .before .before .before .pre .1 .1)
+
+check-scalar-at-enum-told-2 : (t : ℕ) → check-scalar-at-lts.Need-enum-told-2 (
+  plan-scalar-reads.Asked,
+  plan-scalar-reads.Learnt,
+  copy-scalar-reads.Asked,
+  copy-scalar-reads.Learnt,
+  put-box-reads.Asked,
+  put-box-reads.Learnt,
+  check-type-below t,
+  check-type.Post,
+  put-name-reads.Asked,
+  put-name-reads.Learnt,
+  check-fields-below t,
+  check-fields.Post,
+) (check-scalar-at-at t) check-scalar-at.Post
+check-scalar-at-enum-told-2 t c = search needs
+
+check-scalar-at-copy-scalar-requires-2 : (t : ℕ) → check-scalar-at-lts.Need-copy-scalar-requires-2 (
+  plan-scalar-reads.Asked,
+  plan-scalar-reads.Learnt,
+  copy-scalar-reads.Asked,
+  copy-scalar-reads.Learnt,
+  put-box-reads.Asked,
+  put-box-reads.Learnt,
+  check-type-below t,
+  check-type.Post,
+  put-name-reads.Asked,
+  put-name-reads.Learnt,
+  check-fields-below t,
+  check-fields.Post,
+) (check-scalar-at-at t) check-scalar-at.Post
+check-scalar-at-copy-scalar-requires-2 t c κs = take-copyable (c .before .before .before .before .before .before .before .pre .1 .0) (c .before .before .before .before .before .before .before .args .to) (plan-take (c .before .before .before .before .before .before .before .pre .1 .0) (c .before .before .before .plan-scalar .result) (c .before .before .before .plan-scalar .ensures (c .before .before .before .before .before .before .before .pre .1 .0)) (c .before .enum-told2 .given .1)) (c .before .before .before .before .before .before .before .pre .1 .1)
+
+check-scalar-at-enum-known-plan-2 : (t : ℕ) → check-scalar-at-lts.Need-enum-known-plan-2 (
+  plan-scalar-reads.Asked,
+  plan-scalar-reads.Learnt,
+  copy-scalar-reads.Asked,
+  copy-scalar-reads.Learnt,
+  put-box-reads.Asked,
+  put-box-reads.Learnt,
+  check-type-below t,
+  check-type.Post,
+  put-name-reads.Asked,
+  put-name-reads.Learnt,
+  check-fields-below t,
+  check-fields.Post,
+) (check-scalar-at-at t) check-scalar-at.Post
+check-scalar-at-enum-known-plan-2 t c = search needs
+
+check-scalar-at-put-box-requires : (t : ℕ) → check-scalar-at-lts.Need-put-box-requires (
+  plan-scalar-reads.Asked,
+  plan-scalar-reads.Learnt,
+  copy-scalar-reads.Asked,
+  copy-scalar-reads.Learnt,
+  put-box-reads.Asked,
+  put-box-reads.Learnt,
+  check-type-below t,
+  check-type.Post,
+  put-name-reads.Asked,
+  put-name-reads.Learnt,
+  check-fields-below t,
+  check-fields.Post,
+) (check-scalar-at-at t) check-scalar-at.Post
+check-scalar-at-put-box-requires t c κs = omega (arith, c .before .before .before .before .before .before .before .before .pre .1 .1)
+
+check-scalar-at-add-check-type : (t : ℕ) → check-scalar-at-lts.Need-add-check-type (
+  plan-scalar-reads.Asked,
+  plan-scalar-reads.Learnt,
+  copy-scalar-reads.Asked,
+  copy-scalar-reads.Learnt,
+  put-box-reads.Asked,
+  put-box-reads.Learnt,
+  check-type-below t,
+  check-type.Post,
+  put-name-reads.Asked,
+  put-name-reads.Learnt,
+  check-fields-below t,
+  check-fields.Post,
+) (check-scalar-at-at t) check-scalar-at.Post
+check-scalar-at-add-check-type t c = let r = some-left (c .before .before .before .before .before .before .before .before .before .before .before .args .others) (c .before .before .before .before .before .before .before .before .before .before .before .args .above) ((c .before .before .before .before .before .before .before .before .before .before .before .pre .1 .0) .type-scalar) ((c .before .before .before .before .before .before .before .before .before .before .before .pre .1 .0) .limits) in search needs
+
+check-scalar-at-add-check-type-2 : (t : ℕ) → check-scalar-at-lts.Need-add-check-type-2 (
+  plan-scalar-reads.Asked,
+  plan-scalar-reads.Learnt,
+  copy-scalar-reads.Asked,
+  copy-scalar-reads.Learnt,
+  put-box-reads.Asked,
+  put-box-reads.Learnt,
+  check-type-below t,
+  check-type.Post,
+  put-name-reads.Asked,
+  put-name-reads.Learnt,
+  check-fields-below t,
+  check-fields.Post,
+) (check-scalar-at-at t) check-scalar-at.Post
+check-scalar-at-add-check-type-2 t c = let r = some-left (c .before .before .before .before .before .before .before .before .before .before .before .args .others) (c .before .before .before .before .before .before .before .before .before .before .before .args .above) ((c .before .before .before .before .before .before .before .before .before .before .before .pre .1 .0) .type-scalar) ((c .before .before .before .before .before .before .before .before .before .before .before .pre .1 .0) .limits) in search needs
+
+check-scalar-at-add-check-type-3 : (t : ℕ) → check-scalar-at-lts.Need-add-check-type-3 (
+  plan-scalar-reads.Asked,
+  plan-scalar-reads.Learnt,
+  copy-scalar-reads.Asked,
+  copy-scalar-reads.Learnt,
+  put-box-reads.Asked,
+  put-box-reads.Learnt,
+  check-type-below t,
+  check-type.Post,
+  put-name-reads.Asked,
+  put-name-reads.Learnt,
+  check-fields-below t,
+  check-fields.Post,
+) (check-scalar-at-at t) check-scalar-at.Post
+check-scalar-at-add-check-type-3 t c = let b : c .before .before .before .before .before .before .before .before .before .before .before .before .args .to + 6 ≤ length (c .before .before .before .before .before .before .before .before .before .before .before .before .args .out .now) = omega (arith, c .before .before .before .before .before .before .before .before .before .before .before .before .pre .1 .1) in search needs
+
+check-scalar-at-check-type-requires : (t : ℕ) → check-scalar-at-lts.Need-check-type-requires (
+  plan-scalar-reads.Asked,
+  plan-scalar-reads.Learnt,
+  copy-scalar-reads.Asked,
+  copy-scalar-reads.Learnt,
+  put-box-reads.Asked,
+  put-box-reads.Learnt,
+  check-type-below t,
+  check-type.Post,
+  put-name-reads.Asked,
+  put-name-reads.Learnt,
+  check-fields-below t,
+  check-fields.Post,
+) (check-scalar-at-at t) check-scalar-at.Post
+check-scalar-at-check-type-requires t c κs = let r = some-left (c .before .before .before .before .before .before .before .before .before .before .before .before .args .others) (c .before .before .before .before .before .before .before .before .before .before .before .before .args .above) ((c .before .before .before .before .before .before .before .before .before .before .before .before .pre .1 .0) .type-scalar) ((c .before .before .before .before .before .before .before .before .before .before .before .before .pre .1 .0) .limits) in (omega (arith, c .before .before .before .before .before .before .before .before .before .before .before .before .pre .0, r .1), ((plan-inside (c .before .before .before .before .before .before .before .before .before .before .before .before .pre .1 .0) (c .before .before .before .before .before .before .before .before .plan-scalar .result) (c .before .before .before .before .before .before .before .before .plan-scalar .ensures (c .before .before .before .before .before .before .before .before .before .before .before .before .pre .1 .0)) (c .before .before .before .before .before .before .plan2 .given .1)) .inner, omega (arith, c .before .before .before .before .before .before .before .before .before .before .before .before .pre .1 .1, r .0, c .before .before .before .put-box .kept .0)))
+
+check-scalar-at-enum-known-plan-3 : (t : ℕ) → check-scalar-at-lts.Need-enum-known-plan-3 (
+  plan-scalar-reads.Asked,
+  plan-scalar-reads.Learnt,
+  copy-scalar-reads.Asked,
+  copy-scalar-reads.Learnt,
+  put-box-reads.Asked,
+  put-box-reads.Learnt,
+  check-type-below t,
+  check-type.Post,
+  put-name-reads.Asked,
+  put-name-reads.Learnt,
+  check-fields-below t,
+  check-fields.Post,
+) (check-scalar-at-at t) check-scalar-at.Post
+check-scalar-at-enum-known-plan-3 t c = search needs
+
+check-scalar-at-cast-put-name : (t : ℕ) → check-scalar-at-lts.Need-cast-put-name (
+  plan-scalar-reads.Asked,
+  plan-scalar-reads.Learnt,
+  copy-scalar-reads.Asked,
+  copy-scalar-reads.Learnt,
+  put-box-reads.Asked,
+  put-box-reads.Learnt,
+  check-type-below t,
+  check-type.Post,
+  put-name-reads.Asked,
+  put-name-reads.Learnt,
+  check-fields-below t,
+  check-fields.Post,
+) (check-scalar-at-at t) check-scalar-at.Post
+check-scalar-at-cast-put-name t c = let v = (plan-pairs (c .before .before .before .before .before .before .before .pre .1 .0) (c .before .before .before .plan-scalar .result) (c .before .before .before .plan-scalar .ensures (c .before .before .before .before .before .before .before .pre .1 .0)) (c .before .plan3 .given .1)) in omega (arith, v .few)
+
+check-scalar-at-put-name-requires : (t : ℕ) → check-scalar-at-lts.Need-put-name-requires (
+  plan-scalar-reads.Asked,
+  plan-scalar-reads.Learnt,
+  copy-scalar-reads.Asked,
+  copy-scalar-reads.Learnt,
+  put-box-reads.Asked,
+  put-box-reads.Learnt,
+  check-type-below t,
+  check-type.Post,
+  put-name-reads.Asked,
+  put-name-reads.Learnt,
+  check-fields-below t,
+  check-fields.Post,
+) (check-scalar-at-at t) check-scalar-at.Post
+check-scalar-at-put-name-requires t c κs = let v = (plan-pairs (c .before .before .before .before .before .before .before .before .pre .1 .0) (c .before .before .before .before .plan-scalar .result) (c .before .before .before .before .plan-scalar .ensures (c .before .before .before .before .before .before .before .before .pre .1 .0)) (c .before .before .plan3 .given .1)) in record { label = v .label; there = v .labelled; short = v .short; fits = omega (arith, c .before .before .before .before .before .before .before .before .pre .1 .1) }
+
+check-scalar-at-slice-aggregate-check-fields :
+    (t : ℕ) → check-scalar-at-lts.Need-slice-aggregate-check-fields (
+      plan-scalar-reads.Asked,
+      plan-scalar-reads.Learnt,
+      copy-scalar-reads.Asked,
+      copy-scalar-reads.Learnt,
+      put-box-reads.Asked,
+      put-box-reads.Learnt,
+      check-type-below t,
+      check-type.Post,
+      put-name-reads.Asked,
+      put-name-reads.Learnt,
+      check-fields-below t,
+      check-fields.Post,
+    ) (check-scalar-at-at t) check-scalar-at.Post
+check-scalar-at-slice-aggregate-check-fields t c = search needs
+
+check-scalar-at-add-check-fields : (t : ℕ) → check-scalar-at-lts.Need-add-check-fields (
+  plan-scalar-reads.Asked,
+  plan-scalar-reads.Learnt,
+  copy-scalar-reads.Asked,
+  copy-scalar-reads.Learnt,
+  put-box-reads.Asked,
+  put-box-reads.Learnt,
+  check-type-below t,
+  check-type.Post,
+  put-name-reads.Asked,
+  put-name-reads.Learnt,
+  check-fields-below t,
+  check-fields.Post,
+) (check-scalar-at-at t) check-scalar-at.Post
+check-scalar-at-add-check-fields t c = let r = some-left (c .before .before .before .before .before .before .before .before .before .before .before .before .before .args .others) (c .before .before .before .before .before .before .before .before .before .before .before .before .before .args .above) ((c .before .before .before .before .before .before .before .before .before .before .before .before .before .pre .1 .0) .type-scalar) ((c .before .before .before .before .before .before .before .before .before .before .before .before .before .pre .1 .0) .limits) in search needs
+
+check-scalar-at-add-check-fields-2 : (t : ℕ) → check-scalar-at-lts.Need-add-check-fields-2 (
+  plan-scalar-reads.Asked,
+  plan-scalar-reads.Learnt,
+  copy-scalar-reads.Asked,
+  copy-scalar-reads.Learnt,
+  put-box-reads.Asked,
+  put-box-reads.Learnt,
+  check-type-below t,
+  check-type.Post,
+  put-name-reads.Asked,
+  put-name-reads.Learnt,
+  check-fields-below t,
+  check-fields.Post,
+) (check-scalar-at-at t) check-scalar-at.Post
+check-scalar-at-add-check-fields-2 t c = let r = some-left (c .before .before .before .before .before .before .before .before .before .before .before .before .before .args .others) (c .before .before .before .before .before .before .before .before .before .before .before .before .before .args .above) ((c .before .before .before .before .before .before .before .before .before .before .before .before .before .pre .1 .0) .type-scalar) ((c .before .before .before .before .before .before .before .before .before .before .before .before .before .pre .1 .0) .limits) in search needs
+
+check-scalar-at-check-fields-requires : (t : ℕ) → check-scalar-at-lts.Need-check-fields-requires (
+  plan-scalar-reads.Asked,
+  plan-scalar-reads.Learnt,
+  copy-scalar-reads.Asked,
+  copy-scalar-reads.Learnt,
+  put-box-reads.Asked,
+  put-box-reads.Learnt,
+  check-type-below t,
+  check-type.Post,
+  put-name-reads.Asked,
+  put-name-reads.Learnt,
+  check-fields-below t,
+  check-fields.Post,
+) (check-scalar-at-at t) check-scalar-at.Post
+check-scalar-at-check-fields-requires t c κs = let r = some-left (c .before .before .before .before .before .before .before .before .before .before .before .before .before .before .args .others) (c .before .before .before .before .before .before .before .before .before .before .before .before .before .before .args .above) ((c .before .before .before .before .before .before .before .before .before .before .before .before .before .before .pre .1 .0) .type-scalar) ((c .before .before .before .before .before .before .before .before .before .before .before .before .before .before .pre .1 .0) .limits) in let v = (plan-pairs (c .before .before .before .before .before .before .before .before .before .before .before .before .before .before .pre .1 .0) (c .before .before .before .before .before .before .before .before .before .before .plan-scalar .result) (c .before .before .before .before .before .before .before .before .before .before .plan-scalar .ensures (c .before .before .before .before .before .before .before .before .before .before .before .before .before .before .pre .1 .0)) (c .before .before .before .before .before .before .before .before .plan3 .given .1)) in let n = c .before .before .before .before .before .put-name .ensures (v .label) (v .labelled) (v .short) in (omega (arith, c .before .before .before .before .before .before .before .before .before .before .before .before .before .before .pre .0, r .1), (fresh-lists (c .before .before .before .before .before .before .before .before .before .before .before .before .before .before .args .ty .now) _ (v .inner) (c .before .before .if1 .taken), omega (arith, c .before .before .before .before .before .before .before .before .before .before .before .before .before .before .pre .1 .1, r .0, n .1, c .before .before .before .before .before .put-name .kept .1 .1 .1 .1 .1 .0)))
+
+check-scalar-at-same-length : (t : ℕ) → check-scalar-at-lts.Need-same-length (
+  plan-scalar-reads.Asked,
+  plan-scalar-reads.Learnt,
+  copy-scalar-reads.Asked,
+  copy-scalar-reads.Learnt,
+  put-box-reads.Asked,
+  put-box-reads.Learnt,
+  check-type-below t,
+  check-type.Post,
+  put-name-reads.Asked,
+  put-name-reads.Learnt,
+  check-fields-below t,
+  check-fields.Post,
+) (check-scalar-at-at t) check-scalar-at.Post
+check-scalar-at-same-length t c = c .before .before .check-fields .kept .1 .1 .1 .1 .1 .1 .1 .1 .1 .1 .0 ∙ c .before .before .before .before .before .before .before .before .put-name .kept .1 .1 .1 .1 .1 .0
+
+check-scalar-at-returns : (t : ℕ) → check-scalar-at-lts.Need-returns (
+  plan-scalar-reads.Asked,
+  plan-scalar-reads.Learnt,
+  copy-scalar-reads.Asked,
+  copy-scalar-reads.Learnt,
+  put-box-reads.Asked,
+  put-box-reads.Learnt,
+  check-type-below t,
+  check-type.Post,
+  put-name-reads.Asked,
+  put-name-reads.Learnt,
+  check-fields-below t,
+  check-fields.Post,
+) (check-scalar-at-at t) check-scalar-at.Post
+check-scalar-at-returns t c = λ w. let v = (plan-pairs w (c .before .before .before .before .before .before .before .before .before .before .before .before .before .plan-scalar .result) (c .before .before .before .before .before .before .before .before .before .before .before .before .before .plan-scalar .ensures w) (c .before .before .before .before .before .before .before .before .before .before .before .plan3 .given .1)) in let n = c .before .before .before .before .before .before .before .before .put-name .ensures (v .label) (v .labelled) (v .short) in pairs-done (take (c .before .before .before .before .before .before .before .before .before .before .before .before .before .before .before .before .before .args .to) (c .before .before .before .before .before .before .before .before .before .before .before .before .before .before .before .before .before .args .out .now)) (take (c .before .before .before .before .before .before .before .before .put-name .result) (c .before .before .before .before .before .before .before .before .put-name .last .1 .1 .1 .1 .1 .0)) (c .before .before .check-fields .last .1 .1 .1 .1 .1 .1 .1 .1 .1 .1 .0) (v .label) _ ((c .before .before .before .before .before .before .before .before .before .before .before .before .before .before .before .before .before .args .others) + 1) ((c .before .before .before .before .before .before .before .before .before .before .before .before .before .before .before .before .before .args .above) + 1) (v .inner .spec-fields) (v .inner .type-fields) (scalarOf (c .before .before .before .before .before .before .before .before .before .before .before .before .before .before .before .before .before .args .others) (c .before .before .before .before .before .before .before .before .before .before .before .before .before .before .before .before .before .args .above) w) (c .before .before .check-fields .result) (c .before .before .before .before .before .before .before .before .put-name .result) (c .before .before .before .before .before .before .before .before .before .before .before .before .before .before .before .before .before .args .to + 24) (c .before .before .check-fields .ensures (fresh-lists (c .before .before .before .before .before .before .before .before .before .before .before .before .before .before .before .before .before .args .ty .now) _ (v .inner) (c .before .before .before .before .before .if1 .taken))) (laid-behind (c .before .before .before .before .before .before .before .before .before .before .before .before .before .before .before .before .before .args .out .now) (defHead (v .label) _) (c .before .before .before .before .before .before .before .before .before .before .before .before .before .before .before .before .before .args .to) (n .0) (omega (arith, n .1, c .before .before .before .before .before .before .before .before .before .before .before .before .before .before .before .before .before .pre .1 .1)) (n .2)) (v .is) (v .inner .type-count) (n .1)
+
+check-scalar-at-add-check-fields-3 : (t : ℕ) → check-scalar-at-lts.Need-add-check-fields-3 (
+  plan-scalar-reads.Asked,
+  plan-scalar-reads.Learnt,
+  copy-scalar-reads.Asked,
+  copy-scalar-reads.Learnt,
+  put-box-reads.Asked,
+  put-box-reads.Learnt,
+  check-type-below t,
+  check-type.Post,
+  put-name-reads.Asked,
+  put-name-reads.Learnt,
+  check-fields-below t,
+  check-fields.Post,
+) (check-scalar-at-at t) check-scalar-at.Post
+check-scalar-at-add-check-fields-3 t c = let r = some-left (c .before .before .before .before .before .before .before .before .before .before .before .before .args .others) (c .before .before .before .before .before .before .before .before .before .before .before .before .args .above) ((c .before .before .before .before .before .before .before .before .before .before .before .before .pre .1 .0) .type-scalar) ((c .before .before .before .before .before .before .before .before .before .before .before .before .pre .1 .0) .limits) in search needs
+
+check-scalar-at-add-check-fields-4 : (t : ℕ) → check-scalar-at-lts.Need-add-check-fields-4 (
+  plan-scalar-reads.Asked,
+  plan-scalar-reads.Learnt,
+  copy-scalar-reads.Asked,
+  copy-scalar-reads.Learnt,
+  put-box-reads.Asked,
+  put-box-reads.Learnt,
+  check-type-below t,
+  check-type.Post,
+  put-name-reads.Asked,
+  put-name-reads.Learnt,
+  check-fields-below t,
+  check-fields.Post,
+) (check-scalar-at-at t) check-scalar-at.Post
+check-scalar-at-add-check-fields-4 t c = let r = some-left (c .before .before .before .before .before .before .before .before .before .before .before .before .args .others) (c .before .before .before .before .before .before .before .before .before .before .before .before .args .above) ((c .before .before .before .before .before .before .before .before .before .before .before .before .pre .1 .0) .type-scalar) ((c .before .before .before .before .before .before .before .before .before .before .before .before .pre .1 .0) .limits) in search needs
+
+check-scalar-at-check-fields-requires-2 :
+    (t : ℕ) → check-scalar-at-lts.Need-check-fields-requires-2 (
+      plan-scalar-reads.Asked,
+      plan-scalar-reads.Learnt,
+      copy-scalar-reads.Asked,
+      copy-scalar-reads.Learnt,
+      put-box-reads.Asked,
+      put-box-reads.Learnt,
+      check-type-below t,
+      check-type.Post,
+      put-name-reads.Asked,
+      put-name-reads.Learnt,
+      check-fields-below t,
+      check-fields.Post,
+    ) (check-scalar-at-at t) check-scalar-at.Post
+check-scalar-at-check-fields-requires-2 t c κs = let r = some-left (c .before .before .before .before .before .before .before .before .before .before .before .before .before .args .others) (c .before .before .before .before .before .before .before .before .before .before .before .before .before .args .above) ((c .before .before .before .before .before .before .before .before .before .before .before .before .before .pre .1 .0) .type-scalar) ((c .before .before .before .before .before .before .before .before .before .before .before .before .before .pre .1 .0) .limits) in let v = (plan-pairs (c .before .before .before .before .before .before .before .before .before .before .before .before .before .pre .1 .0) (c .before .before .before .before .before .before .before .before .before .plan-scalar .result) (c .before .before .before .before .before .before .before .before .before .plan-scalar .ensures (c .before .before .before .before .before .before .before .before .before .before .before .before .before .pre .1 .0)) (c .before .before .before .before .before .before .before .plan3 .given .1)) in let n = c .before .before .before .before .put-name .ensures (v .label) (v .labelled) (v .short) in (omega (arith, c .before .before .before .before .before .before .before .before .before .before .before .before .before .pre .0, r .1), (own-lists (c .before .before .before .before .before .before .before .before .before .before .before .before .before .args .ty .now) _ (v .inner) (c .before .if1 .left), omega (arith, c .before .before .before .before .before .before .before .before .before .before .before .before .before .pre .1 .1, r .0, n .1, c .before .before .before .before .put-name .kept .1 .1 .1 .1 .1 .0)))
+
+check-scalar-at-returns-2 : (t : ℕ) → check-scalar-at-lts.Need-returns-2 (
+  plan-scalar-reads.Asked,
+  plan-scalar-reads.Learnt,
+  copy-scalar-reads.Asked,
+  copy-scalar-reads.Learnt,
+  put-box-reads.Asked,
+  put-box-reads.Learnt,
+  check-type-below t,
+  check-type.Post,
+  put-name-reads.Asked,
+  put-name-reads.Learnt,
+  check-fields-below t,
+  check-fields.Post,
+) (check-scalar-at-at t) check-scalar-at.Post
+check-scalar-at-returns-2 t c = λ w. (ap (mapped (scalarPiece (take (c .before .before .before .before .before .before .before .args .to) (c .before .before .before .before .before .before .before .args .out .now)))) (sym (plan-refuse w (c .before .before .before .plan-scalar .result) (c .before .before .before .plan-scalar .ensures w) (c .before .plan .given .1))), tt)
+
+check-scalar-at-same-length-2 : (t : ℕ) → check-scalar-at-lts.Need-same-length-2 (
+  plan-scalar-reads.Asked,
+  plan-scalar-reads.Learnt,
+  copy-scalar-reads.Asked,
+  copy-scalar-reads.Learnt,
+  put-box-reads.Asked,
+  put-box-reads.Learnt,
+  check-type-below t,
+  check-type.Post,
+  put-name-reads.Asked,
+  put-name-reads.Learnt,
+  check-fields-below t,
+  check-fields.Post,
+) (check-scalar-at-at t) check-scalar-at.Post
+check-scalar-at-same-length-2 t c = search needs
+
+check-scalar-at-returns-3 : (t : ℕ) → check-scalar-at-lts.Need-returns-3 (
+  plan-scalar-reads.Asked,
+  plan-scalar-reads.Learnt,
+  copy-scalar-reads.Asked,
+  copy-scalar-reads.Learnt,
+  put-box-reads.Asked,
+  put-box-reads.Learnt,
+  check-type-below t,
+  check-type.Post,
+  put-name-reads.Asked,
+  put-name-reads.Learnt,
+  check-fields-below t,
+  check-fields.Post,
+) (check-scalar-at-at t) check-scalar-at.Post
+check-scalar-at-returns-3 t c = λ w. let e = c .before .before .copy-scalar .ensures (w .type-shape) (w .type-scalar) (w .type-placed) in (e .0 ∙ ap (mapped (scalarPiece (take (c .before .before .before .before .before .before .before .before .before .before .args .to) (c .before .before .before .before .before .before .before .before .before .before .args .out .now)))) (sym (plan-keep w (c .before .before .before .before .before .before .plan-scalar .result) (c .before .before .before .before .before .before .plan-scalar .ensures w) (c .before .before .before .before .enum-told .given .1))), e .1)
+
+check-scalar-at-same-length-3 : (t : ℕ) → check-scalar-at-lts.Need-same-length-3 (
+  plan-scalar-reads.Asked,
+  plan-scalar-reads.Learnt,
+  copy-scalar-reads.Asked,
+  copy-scalar-reads.Learnt,
+  put-box-reads.Asked,
+  put-box-reads.Learnt,
+  check-type-below t,
+  check-type.Post,
+  put-name-reads.Asked,
+  put-name-reads.Learnt,
+  check-fields-below t,
+  check-fields.Post,
+) (check-scalar-at-at t) check-scalar-at.Post
+check-scalar-at-same-length-3 t c = search needs
+
+check-scalar-at-returns-4 : (t : ℕ) → check-scalar-at-lts.Need-returns-4 (
+  plan-scalar-reads.Asked,
+  plan-scalar-reads.Learnt,
+  copy-scalar-reads.Asked,
+  copy-scalar-reads.Learnt,
+  put-box-reads.Asked,
+  put-box-reads.Learnt,
+  check-type-below t,
+  check-type.Post,
+  put-name-reads.Asked,
+  put-name-reads.Learnt,
+  check-fields-below t,
+  check-fields.Post,
+) (check-scalar-at-at t) check-scalar-at.Post
+check-scalar-at-returns-4 t c = λ w. let e = c .before .before .copy-scalar2 .ensures (w .spec-shape) (w .spec-scalar) (w .spec-placed) in (e .0 ∙ ap (mapped (scalarPiece (take (c .before .before .before .before .before .before .before .before .before .before .args .to) (c .before .before .before .before .before .before .before .before .before .before .args .out .now)))) (sym (plan-take w (c .before .before .before .before .before .before .plan-scalar .result) (c .before .before .before .before .before .before .plan-scalar .ensures w) (c .before .before .before .before .enum-told2 .given .1))), e .1)
+
+check-scalar-at-same-length-4 : (t : ℕ) → check-scalar-at-lts.Need-same-length-4 (
+  plan-scalar-reads.Asked,
+  plan-scalar-reads.Learnt,
+  copy-scalar-reads.Asked,
+  copy-scalar-reads.Learnt,
+  put-box-reads.Asked,
+  put-box-reads.Learnt,
+  check-type-below t,
+  check-type.Post,
+  put-name-reads.Asked,
+  put-name-reads.Learnt,
+  check-fields-below t,
+  check-fields.Post,
+) (check-scalar-at-at t) check-scalar-at.Post
+check-scalar-at-same-length-4 t c = c .before .before .check-type .kept .1 .1 .1 .1 .1 .1 .0 ∙ c .before .before .before .before .before .before .put-box .kept .0
+
+check-scalar-at-returns-5 : (t : ℕ) → check-scalar-at-lts.Need-returns-5 (
+  plan-scalar-reads.Asked,
+  plan-scalar-reads.Learnt,
+  copy-scalar-reads.Asked,
+  copy-scalar-reads.Learnt,
+  put-box-reads.Asked,
+  put-box-reads.Learnt,
+  check-type-below t,
+  check-type.Post,
+  put-name-reads.Asked,
+  put-name-reads.Learnt,
+  check-fields-below t,
+  check-fields.Post,
+) (check-scalar-at-at t) check-scalar-at.Post
+check-scalar-at-returns-5 t c = λ w. let v = (plan-inside w (c .before .before .before .before .before .before .before .before .before .before .before .plan-scalar .result) (c .before .before .before .before .before .before .before .before .before .before .before .plan-scalar .ensures w) (c .before .before .before .before .before .before .before .before .before .plan2 .given .1)) in inside-done (take (c .before .before .before .before .before .before .before .before .before .before .before .before .before .before .before .args .to) (c .before .before .before .before .before .before .before .before .before .before .before .before .before .before .before .args .out .now)) (take (c .before .before .before .before .before .before .before .before .before .before .before .before .before .before .before .args .to + 6) (c .before .before .before .before .before .before .put-box .last .0)) (c .before .before .check-type .last .1 .1 .1 .1 .1 .1 .0) (inTurn (scalarOf ((c .before .before .before .before .before .before .before .before .before .before .before .before .before .before .before .args .others) + 1) ((c .before .before .before .before .before .before .before .before .before .before .before .before .before .before .before .args .above) + 1) (v .inner)) (shapeOf (v .inner))) (scalarOf (c .before .before .before .before .before .before .before .before .before .before .before .before .before .before .before .args .others) (c .before .before .before .before .before .before .before .before .before .before .before .before .before .before .before .args .above) w) (c .before .before .check-type .result) (c .before .before .before .before .before .before .before .before .before .before .before .before .before .before .before .args .to + 6) (c .before .before .before .before .before .before .before .before .before .before .before .before .before .before .before .args .to + 24) (c .before .before .check-type .ensures (v .inner)) (laid-behind (c .before .before .before .before .before .before .before .before .before .before .before .before .before .before .before .args .out .now) (boxStart 1) (c .before .before .before .before .before .before .before .before .before .before .before .before .before .before .before .args .to) refl (omega (arith, c .before .before .before .before .before .before .before .before .before .before .before .before .before .before .before .pre .1 .1)) (c .before .before .before .before .before .before .put-box .ensures)) (v .is) (omega arith)
+
+check-scalar-at-same-length-5 : (t : ℕ) → check-scalar-at-lts.Need-same-length-5 (
+  plan-scalar-reads.Asked,
+  plan-scalar-reads.Learnt,
+  copy-scalar-reads.Asked,
+  copy-scalar-reads.Learnt,
+  put-box-reads.Asked,
+  put-box-reads.Learnt,
+  check-type-below t,
+  check-type.Post,
+  put-name-reads.Asked,
+  put-name-reads.Learnt,
+  check-fields-below t,
+  check-fields.Post,
+) (check-scalar-at-at t) check-scalar-at.Post
+check-scalar-at-same-length-5 t c = c .before .before .check-fields2 .kept .1 .1 .1 .1 .1 .1 .1 .1 .1 .1 .0 ∙ c .before .before .before .before .before .before .before .put-name .kept .1 .1 .1 .1 .1 .0
+
+check-scalar-at-returns-6 : (t : ℕ) → check-scalar-at-lts.Need-returns-6 (
+  plan-scalar-reads.Asked,
+  plan-scalar-reads.Learnt,
+  copy-scalar-reads.Asked,
+  copy-scalar-reads.Learnt,
+  put-box-reads.Asked,
+  put-box-reads.Learnt,
+  check-type-below t,
+  check-type.Post,
+  put-name-reads.Asked,
+  put-name-reads.Learnt,
+  check-fields-below t,
+  check-fields.Post,
+) (check-scalar-at-at t) check-scalar-at.Post
+check-scalar-at-returns-6 t c = λ w. let v = (plan-pairs w (c .before .before .before .before .before .before .before .before .before .before .before .before .plan-scalar .result) (c .before .before .before .before .before .before .before .before .before .before .before .before .plan-scalar .ensures w) (c .before .before .before .before .before .before .before .before .before .before .plan3 .given .1)) in let n = c .before .before .before .before .before .before .before .put-name .ensures (v .label) (v .labelled) (v .short) in pairs-done (take (c .before .before .before .before .before .before .before .before .before .before .before .before .before .before .before .before .args .to) (c .before .before .before .before .before .before .before .before .before .before .before .before .before .before .before .before .args .out .now)) (take (c .before .before .before .before .before .before .before .put-name .result) (c .before .before .before .before .before .before .before .put-name .last .1 .1 .1 .1 .1 .0)) (c .before .before .check-fields2 .last .1 .1 .1 .1 .1 .1 .1 .1 .1 .1 .0) (v .label) _ ((c .before .before .before .before .before .before .before .before .before .before .before .before .before .before .before .before .args .others) + 1) ((c .before .before .before .before .before .before .before .before .before .before .before .before .before .before .before .before .args .above) + 1) (v .inner .spec-fields) (v .inner .type-fields) (scalarOf (c .before .before .before .before .before .before .before .before .before .before .before .before .before .before .before .before .args .others) (c .before .before .before .before .before .before .before .before .before .before .before .before .before .before .before .before .args .above) w) (c .before .before .check-fields2 .result) (c .before .before .before .before .before .before .before .put-name .result) (c .before .before .before .before .before .before .before .before .before .before .before .before .before .before .before .before .args .to + 24) (c .before .before .check-fields2 .ensures (own-lists (c .before .before .before .before .before .before .before .before .before .before .before .before .before .before .before .before .args .ty .now) _ (v .inner) (c .before .before .before .before .if1 .left))) (laid-behind (c .before .before .before .before .before .before .before .before .before .before .before .before .before .before .before .before .args .out .now) (defHead (v .label) _) (c .before .before .before .before .before .before .before .before .before .before .before .before .before .before .before .before .args .to) (n .0) (omega (arith, n .1, c .before .before .before .before .before .before .before .before .before .before .before .before .before .before .before .before .pre .1 .1)) (n .2)) (v .is) (v .inner .type-count) (n .1)
+
+check-type-shape-at-requires : (t : ℕ) → check-type-lts.Need-shape-at-requires (
+  shape-at-reads.Asked,
+  shape-at-reads.Learnt,
+  check-shapes-reads.Asked,
+  check-shapes-reads.Learnt,
+  shape-length-reads.Asked,
+  shape-length-reads.Learnt,
+  put-shape-reads.Asked,
+  put-shape-reads.Learnt,
+  check-scalar-at-below t,
+  check-scalar-at.Post,
+) (check-type-at t) check-type.Post
+check-type-shape-at-requires t c κs = search needs
+
+check-type-shape-at-requires-2 : (t : ℕ) → check-type-lts.Need-shape-at-requires-2 (
+  shape-at-reads.Asked,
+  shape-at-reads.Learnt,
+  check-shapes-reads.Asked,
+  check-shapes-reads.Learnt,
+  shape-length-reads.Asked,
+  shape-length-reads.Learnt,
+  put-shape-reads.Asked,
+  put-shape-reads.Learnt,
+  check-scalar-at-below t,
+  check-scalar-at.Post,
+) (check-type-at t) check-type.Post
+check-type-shape-at-requires-2 t c κs = search needs
+
+check-type-check-shapes-requires : (t : ℕ) → check-type-lts.Need-check-shapes-requires (
+  shape-at-reads.Asked,
+  shape-at-reads.Learnt,
+  check-shapes-reads.Asked,
+  check-shapes-reads.Learnt,
+  shape-length-reads.Asked,
+  shape-length-reads.Learnt,
+  put-shape-reads.Asked,
+  put-shape-reads.Learnt,
+  check-scalar-at-below t,
+  check-scalar-at.Post,
+) (check-type-at t) check-type.Post
+check-type-check-shapes-requires t c κs = search needs
+
+check-type-shape-length-requires : (t : ℕ) → check-type-lts.Need-shape-length-requires (
+  shape-at-reads.Asked,
+  shape-at-reads.Learnt,
+  check-shapes-reads.Asked,
+  check-shapes-reads.Learnt,
+  shape-length-reads.Asked,
+  shape-length-reads.Learnt,
+  put-shape-reads.Asked,
+  put-shape-reads.Learnt,
+  check-scalar-at-below t,
+  check-scalar-at.Post,
+) (check-type-at t) check-type.Post
+check-type-shape-length-requires t c κs = search needs
+
+check-type-put-shape-requires : (t : ℕ) → check-type-lts.Need-put-shape-requires (
+  shape-at-reads.Asked,
+  shape-at-reads.Learnt,
+  check-shapes-reads.Asked,
+  check-shapes-reads.Learnt,
+  shape-length-reads.Asked,
+  shape-length-reads.Learnt,
+  put-shape-reads.Asked,
+  put-shape-reads.Learnt,
+  check-scalar-at-below t,
+  check-scalar-at.Post,
+) (check-type-at t) check-type.Post
+check-type-put-shape-requires t c κs = let r = some-left (c .before .before .before .before .before .before .before .before .before .args .others) (c .before .before .before .before .before .before .before .before .before .args .above) ((c .before .before .before .before .before .before .before .before .before .pre .1 .0) .type-scalar) ((c .before .before .before .before .before .before .before .before .before .pre .1 .0) .limits) in omega (arith, c .before .shape-length .ensures .0, c .before .shape-length .ensures .1, c .before .before .before .before .before .before .before .before .before .pre .1 .1, r .0)
+
+check-type-add-check-scalar-at : (t : ℕ) → check-type-lts.Need-add-check-scalar-at (
+  shape-at-reads.Asked,
+  shape-at-reads.Learnt,
+  check-shapes-reads.Asked,
+  check-shapes-reads.Learnt,
+  shape-length-reads.Asked,
+  shape-length-reads.Learnt,
+  put-shape-reads.Asked,
+  put-shape-reads.Learnt,
+  check-scalar-at-below t,
+  check-scalar-at.Post,
+) (check-type-at t) check-type.Post
+check-type-add-check-scalar-at t c = let r = some-left (c .before .before .before .before .before .before .before .before .before .before .before .before .before .args .others) (c .before .before .before .before .before .before .before .before .before .before .before .before .before .args .above) ((c .before .before .before .before .before .before .before .before .before .before .before .before .before .pre .1 .0) .type-scalar) ((c .before .before .before .before .before .before .before .before .before .before .before .before .before .pre .1 .0) .limits) in let b : (c .before .before .before .before .before .before .before .before .before .before .before .before .before .args .to + c .before .before .before .before .before .shape-length .result) ≤ length (c .before .before .before .before .before .before .before .before .before .before .before .before .before .args .out .now) = omega (arith, c .before .before .before .before .before .shape-length .ensures .0, c .before .before .before .before .before .shape-length .ensures .1, c .before .before .before .before .before .before .before .before .before .before .before .before .before .pre .1 .1, r .0) in search needs
+
+check-type-check-scalar-at-requires : (t : ℕ) → check-type-lts.Need-check-scalar-at-requires (
+  shape-at-reads.Asked,
+  shape-at-reads.Learnt,
+  check-shapes-reads.Asked,
+  check-shapes-reads.Learnt,
+  shape-length-reads.Asked,
+  shape-length-reads.Learnt,
+  put-shape-reads.Asked,
+  put-shape-reads.Learnt,
+  check-scalar-at-below t,
+  check-scalar-at.Post,
+) (check-type-at t) check-type.Post
+check-type-check-scalar-at-requires t c κs = let r = some-left (c .before .before .before .before .before .before .before .before .before .before .before .before .before .args .others) (c .before .before .before .before .before .before .before .before .before .before .before .before .before .args .above) ((c .before .before .before .before .before .before .before .before .before .before .before .before .before .pre .1 .0) .type-scalar) ((c .before .before .before .before .before .before .before .before .before .before .before .before .before .pre .1 .0) .limits) in (omega (arith, c .before .before .before .before .before .before .before .before .before .before .before .before .before .pre .0, r .1), ((c .before .before .before .before .before .before .before .before .before .before .before .before .before .pre .1 .0), omega (arith, c .before .before .before .before .before .shape-length .ensures .0, c .before .before .before .before .before .shape-length .ensures .1, c .before .before .before .before .before .before .before .before .before .before .before .before .before .pre .1 .1, r .0, c .before .before .before .put-shape .kept .0)))
+
+check-type-enum-known-w : (t : ℕ) → check-type-lts.Need-enum-known-w (
+  shape-at-reads.Asked,
+  shape-at-reads.Learnt,
+  check-shapes-reads.Asked,
+  check-shapes-reads.Learnt,
+  shape-length-reads.Asked,
+  shape-length-reads.Learnt,
+  put-shape-reads.Asked,
+  put-shape-reads.Learnt,
+  check-scalar-at-below t,
+  check-scalar-at.Post,
+) (check-type-at t) check-type.Post
+check-type-enum-known-w t c = search needs
+
+check-type-enum-told : (t : ℕ) → check-type-lts.Need-enum-told (
+  shape-at-reads.Asked,
+  shape-at-reads.Learnt,
+  check-shapes-reads.Asked,
+  check-shapes-reads.Learnt,
+  shape-length-reads.Asked,
+  shape-length-reads.Learnt,
+  put-shape-reads.Asked,
+  put-shape-reads.Learnt,
+  check-scalar-at-below t,
+  check-scalar-at.Post,
+) (check-type-at t) check-type.Post
+check-type-enum-told t c = search needs
+
+check-type-same-length : (t : ℕ) → check-type-lts.Need-same-length (
+  shape-at-reads.Asked,
+  shape-at-reads.Learnt,
+  check-shapes-reads.Asked,
+  check-shapes-reads.Learnt,
+  shape-length-reads.Asked,
+  shape-length-reads.Learnt,
+  put-shape-reads.Asked,
+  put-shape-reads.Learnt,
+  check-scalar-at-below t,
+  check-scalar-at.Post,
+) (check-type-at t) check-type.Post
+check-type-same-length t c = c .before .before .before .before .check-scalar-at .kept .1 .1 .1 .1 .1 .1 .0 ∙ c .before .before .before .before .before .before .before .before .put-shape .kept .0
+
+check-type-returns : (t : ℕ) → check-type-lts.Need-returns (
+  shape-at-reads.Asked,
+  shape-at-reads.Learnt,
+  check-shapes-reads.Asked,
+  check-shapes-reads.Learnt,
+  shape-length-reads.Asked,
+  shape-length-reads.Learnt,
+  put-shape-reads.Asked,
+  put-shape-reads.Learnt,
+  check-scalar-at-below t,
+  check-scalar-at.Post,
+) (check-type-at t) check-type.Post
+check-type-returns t c = λ w. type-refused (take (c .before .before .before .before .before .before .before .before .before .before .before .before .before .before .before .before .before .before .args .to) (c .before .before .before .before .before .before .before .before .before .before .before .before .before .before .before .before .before .before .args .out .now)) (take (c .before .before .before .before .before .before .before .before .before .before .before .before .before .before .before .before .before .before .args .to + c .before .before .before .before .before .before .before .before .before .before .shape-length .result) (c .before .before .before .before .before .before .before .before .put-shape .last .0)) (c .before .before .before .before .check-scalar-at .last .1 .1 .1 .1 .1 .1 .0) (scalarOf (c .before .before .before .before .before .before .before .before .before .before .before .before .before .before .before .before .before .before .args .others) (c .before .before .before .before .before .before .before .before .before .before .before .before .before .before .before .before .before .before .args .above) w) (shapeOf w) (c .before .before .before .before .check-scalar-at .result) (c .before .before .before .before .check-scalar-at .ensures w .0) (c .before .before .before .before .before .before .before .before .before .before .before .before .before .before .before .before .before .before .args .to) (c .enum-told .given .1)
+
+check-type-same-length-2 : (t : ℕ) → check-type-lts.Need-same-length-2 (
+  shape-at-reads.Asked,
+  shape-at-reads.Learnt,
+  check-shapes-reads.Asked,
+  check-shapes-reads.Learnt,
+  shape-length-reads.Asked,
+  shape-length-reads.Learnt,
+  put-shape-reads.Asked,
+  put-shape-reads.Learnt,
+  check-scalar-at-below t,
+  check-scalar-at.Post,
+) (check-type-at t) check-type.Post
+check-type-same-length-2 t c = c .before .before .before .before .before .before .check-scalar-at .kept .1 .1 .1 .1 .1 .1 .0 ∙ c .before .before .before .before .before .before .before .before .before .before .put-shape .kept .0
+
+check-type-returns-2 : (t : ℕ) → check-type-lts.Need-returns-2 (
+  shape-at-reads.Asked,
+  shape-at-reads.Learnt,
+  check-shapes-reads.Asked,
+  check-shapes-reads.Learnt,
+  shape-length-reads.Asked,
+  shape-length-reads.Learnt,
+  put-shape-reads.Asked,
+  put-shape-reads.Learnt,
+  check-scalar-at-below t,
+  check-scalar-at.Post,
+) (check-type-at t) check-type.Post
+check-type-returns-2 t c = λ w. (type-clash (take (c .before .before .before .before .before .before .before .before .before .before .before .before .before .before .before .before .before .before .before .before .args .to) (c .before .before .before .before .before .before .before .before .before .before .before .before .before .before .before .before .before .before .before .before .args .out .now)) (take (c .before .before .before .before .before .before .before .before .before .before .before .before .before .before .before .before .before .before .before .before .args .to + c .before .before .before .before .before .before .before .before .before .before .before .before .shape-length .result) (c .before .before .before .before .before .before .before .before .before .before .put-shape .last .0)) (c .before .before .before .before .before .before .check-scalar-at .last .1 .1 .1 .1 .1 .1 .0) (scalarOf (c .before .before .before .before .before .before .before .before .before .before .before .before .before .before .before .before .before .before .before .before .args .others) (c .before .before .before .before .before .before .before .before .before .before .before .before .before .before .before .before .before .before .before .before .args .above) w) (shapeOf w) (c .before .before .before .before .before .before .check-scalar-at .result) (c .before .before .before .before .before .before .check-scalar-at .ensures w .0) (c .before .before .w .given .1) (checked-clash (c .before .before .before .before .before .before .before .before .before .before .before .before .before .before .check-shapes .result) (c .before .before .before .before .before .before .before .before .before .before .before .before .before .before .check-shapes .ensures ∙ (ap (λ x. rules.checkShape rules.unsided x (shapeFor (c .before .before .before .before .before .before .before .before .before .before .before .before .before .before .before .shape-at2 .result))) (c .before .before .before .before .before .before .before .before .before .before .before .before .before .before .before .before .shape-at .ensures maxDepth (ty (w .spec-shape) (w .spec-scalar)) (type-at (w .spec-placed))) ∙ ap (rules.checkShape rules.unsided (w .spec-shape)) (c .before .before .before .before .before .before .before .before .before .before .before .before .before .before .before .shape-at2 .ensures maxDepth (ty (w .type-shape) (w .type-scalar)) (type-at (w .type-placed))))) (c .if1 .taken)), tt)
+
+check-type-add-t24 : (t : ℕ) → check-type-lts.Need-add-t24 (
+  shape-at-reads.Asked,
+  shape-at-reads.Learnt,
+  check-shapes-reads.Asked,
+  check-shapes-reads.Learnt,
+  shape-length-reads.Asked,
+  shape-length-reads.Learnt,
+  put-shape-reads.Asked,
+  put-shape-reads.Learnt,
+  check-scalar-at-below t,
+  check-scalar-at.Post,
+) (check-type-at t) check-type.Post
+check-type-add-t24 t c = let b = scalar-few (c .before .before .before .before .before .before .before .before .before .before .before .before .before .before .before .before .before .before .before .before .pre .1 .0) (c .before .before .before .before .before .before .check-scalar-at .last .1 .1 .1 .1 .1 .1 .0) (take (c .before .before .before .before .before .before .before .before .before .before .before .before .before .before .before .before .before .before .before .before .args .to + c .before .before .before .before .before .before .before .before .before .before .before .before .shape-length .result) (c .before .before .before .before .before .before .before .before .before .before .put-shape .last .0)) (c .before .before .w .given .1) (c .before .before .before .before .before .before .check-scalar-at .ensures (c .before .before .before .before .before .before .before .before .before .before .before .before .before .before .before .before .before .before .before .before .pre .1 .0) .0) in omega (arith, b)
+
+check-type-same-length-3 : (t : ℕ) → check-type-lts.Need-same-length-3 (
+  shape-at-reads.Asked,
+  shape-at-reads.Learnt,
+  check-shapes-reads.Asked,
+  check-shapes-reads.Learnt,
+  shape-length-reads.Asked,
+  shape-length-reads.Learnt,
+  put-shape-reads.Asked,
+  put-shape-reads.Learnt,
+  check-scalar-at-below t,
+  check-scalar-at.Post,
+) (check-type-at t) check-type.Post
+check-type-same-length-3 t c = c .before .before .before .before .before .before .check-scalar-at .kept .1 .1 .1 .1 .1 .1 .0 ∙ c .before .before .before .before .before .before .before .before .before .before .put-shape .kept .0
+
+check-type-returns-3 : (t : ℕ) → check-type-lts.Need-returns-3 (
+  shape-at-reads.Asked,
+  shape-at-reads.Learnt,
+  check-shapes-reads.Asked,
+  check-shapes-reads.Learnt,
+  shape-length-reads.Asked,
+  shape-length-reads.Learnt,
+  put-shape-reads.Asked,
+  put-shape-reads.Learnt,
+  check-scalar-at-below t,
+  check-scalar-at.Post,
+) (check-type-at t) check-type.Post
+check-type-returns-3 t c = λ w. (type-done (take (c .before .before .before .before .before .before .before .before .before .before .before .before .before .before .before .before .before .before .before .before .args .to) (c .before .before .before .before .before .before .before .before .before .before .before .before .before .before .before .before .before .before .before .before .args .out .now)) (take (c .before .before .before .before .before .before .before .before .before .before .before .before .before .before .before .before .before .before .before .before .args .to + c .before .before .before .before .before .before .before .before .before .before .before .before .shape-length .result) (c .before .before .before .before .before .before .before .before .before .before .put-shape .last .0)) (c .before .before .before .before .before .before .check-scalar-at .last .1 .1 .1 .1 .1 .1 .0) (scalarOf (c .before .before .before .before .before .before .before .before .before .before .before .before .before .before .before .before .before .before .before .before .args .others) (c .before .before .before .before .before .before .before .before .before .before .before .before .before .before .before .before .before .before .before .before .args .above) w) (shapeOf w) (c .before .before .before .before .before .before .check-scalar-at .result) (c .before .before .before .before .before .before .check-scalar-at .ensures w .0) (c .before .before .w .given .1) (shapeFor (c .before .before .before .before .before .before .before .before .before .before .before .before .before .before .check-shapes .result .shape)) (checked-fits (c .before .before .before .before .before .before .before .before .before .before .before .before .before .before .check-shapes .result) (c .before .before .before .before .before .before .before .before .before .before .before .before .before .before .check-shapes .ensures ∙ (ap (λ x. rules.checkShape rules.unsided x (shapeFor (c .before .before .before .before .before .before .before .before .before .before .before .before .before .before .before .shape-at2 .result))) (c .before .before .before .before .before .before .before .before .before .before .before .before .before .before .before .before .shape-at .ensures maxDepth (ty (w .spec-shape) (w .spec-scalar)) (type-at (w .spec-placed))) ∙ ap (rules.checkShape rules.unsided (w .spec-shape)) (c .before .before .before .before .before .before .before .before .before .before .before .before .before .before .before .shape-at2 .ensures maxDepth (ty (w .type-shape) (w .type-scalar)) (type-at (w .type-placed))))) (c .if1 .left)) (let r = some-left (c .before .before .before .before .before .before .before .before .before .before .before .before .before .before .before .before .before .before .before .before .args .others) (c .before .before .before .before .before .before .before .before .before .before .before .before .before .before .before .before .before .before .before .before .args .above) ((c .before .before .before .before .before .before .before .before .before .before .before .before .before .before .before .before .before .before .before .before .pre .1 .0) .type-scalar) ((c .before .before .before .before .before .before .before .before .before .before .before .before .before .before .before .before .before .before .before .before .pre .1 .0) .limits) in laid-behind (c .before .before .before .before .before .before .before .before .before .before .before .before .before .before .before .before .before .before .before .before .args .out .now) (writeShape (shapeFor (c .before .before .before .before .before .before .before .before .before .before .before .before .before .before .check-shapes .result .shape))) (c .before .before .before .before .before .before .before .before .before .before .before .before .before .before .before .before .before .before .before .before .args .to) {end = (c .before .before .before .before .before .before .before .before .before .before .before .before .before .before .before .before .before .before .before .before .args .to + c .before .before .before .before .before .before .before .before .before .before .before .before .shape-length .result)} (omega (arith, c .before .before .before .before .before .before .before .before .before .before .before .before .shape-length .ensures .0, c .before .before .before .before .before .before .before .before .before .before .before .before .shape-length .ensures .1)) (omega (arith, c .before .before .before .before .before .before .before .before .before .before .before .before .shape-length .ensures .0, c .before .before .before .before .before .before .before .before .before .before .before .before .shape-length .ensures .1, c .before .before .before .before .before .before .before .before .before .before .before .before .before .before .before .before .before .before .before .before .pre .1 .1, r .0)) (c .before .before .before .before .before .before .before .before .before .before .put-shape .ensures .1)), omega (arith, c .before .before .before .before .before .before .before .before .before .before .before .before .shape-length .ensures .0, c .before .before .before .before .before .before .before .before .before .before .before .before .shape-length .ensures .1, roomy-done ((c .before .before .before .before .before .before .before .before .before .before .before .before .before .before .before .before .before .before .before .before .args .to + c .before .before .before .before .before .before .before .before .before .before .before .before .shape-length .result) + 24) (c .before .before .w .given .1) (c .before .before .before .before .before .before .check-scalar-at .ensures w .1)))
+
+pub +check-fields+check-scalar-at+check-type-spec : {M : Type 1} → statement M
++check-fields+check-scalar-at+check-type-spec =
+    close μ-check-fields μ-check-scalar-at μ-check-type (λ t. check-fields-lts.spec (
+      types-in-reads.Asked,
+      types-in-reads.Learnt,
+      types-at-reads.Asked,
+      types-at-reads.Learnt,
+      check-type-below t,
+      check-type.Post,
+      next-type-reads.Asked,
+      next-type-reads.Learnt,
+      copy-fields-reads.Asked,
+      copy-fields-reads.Learnt,
+    )
+    (check-fields-at t)
+    check-fields.Post
+    check-fields-Inv-loop
+    check-fields-μ-loop
+    (check-fields-types-in-requires t)
+    (check-fields-loop-holds t)
+    (check-fields-sub-t27 t)
+    (check-fields-same-length t)
+    (check-fields-returns t)
+    (check-fields-types-at-requires t)
+    (check-fields-sub-rest t)
+    (check-fields-add-check-type t)
+    (check-fields-check-type-requires t)
+    (check-fields-enum-known-w t)
+    (check-fields-enum-told t)
+    (check-fields-same-length-2 t)
+    (check-fields-returns-2 t)
+    (check-fields-next-type-requires t)
+    (check-fields-next-type-requires-2 t)
+    (check-fields-add-before t)
+    (check-fields-sub-left t)
+    (check-fields-sub-todo t)
+    (check-fields-loop-less t)
+    (check-fields-loop-again t)
+    (check-fields-copy-fields-requires t)
+    (check-fields-enum-known-w-2 t)
+    (check-fields-enum-told-2 t)
+    (check-fields-same-length-3 t)
+    (check-fields-returns-3 t)
+    (check-fields-sub-t33 t)
+    (check-fields-add-t34 t)
+    (check-fields-same-length-4 t)
+    (check-fields-returns-4 t))
+    (λ t. check-scalar-at-lts.spec (
+      plan-scalar-reads.Asked,
+      plan-scalar-reads.Learnt,
+      copy-scalar-reads.Asked,
+      copy-scalar-reads.Learnt,
+      put-box-reads.Asked,
+      put-box-reads.Learnt,
+      check-type-below t,
+      check-type.Post,
+      put-name-reads.Asked,
+      put-name-reads.Learnt,
+      check-fields-below t,
+      check-fields.Post,
+    )
+    (check-scalar-at-at t)
+    check-scalar-at.Post
+    (check-scalar-at-plan-scalar-requires t)
+    (check-scalar-at-enum-known-plan t)
+    (check-scalar-at-enum-told t)
+    (check-scalar-at-copy-scalar-requires t)
+    (check-scalar-at-enum-told-2 t)
+    (check-scalar-at-copy-scalar-requires-2 t)
+    (check-scalar-at-enum-known-plan-2 t)
+    (check-scalar-at-put-box-requires t)
+    (check-scalar-at-add-check-type t)
+    (check-scalar-at-add-check-type-2 t)
+    (check-scalar-at-add-check-type-3 t)
+    (check-scalar-at-check-type-requires t)
+    (check-scalar-at-enum-known-plan-3 t)
+    (check-scalar-at-cast-put-name t)
+    (check-scalar-at-put-name-requires t)
+    (check-scalar-at-slice-aggregate-check-fields t)
+    (check-scalar-at-add-check-fields t)
+    (check-scalar-at-add-check-fields-2 t)
+    (check-scalar-at-check-fields-requires t)
+    (check-scalar-at-same-length t)
+    (check-scalar-at-returns t)
+    (check-scalar-at-add-check-fields-3 t)
+    (check-scalar-at-add-check-fields-4 t)
+    (check-scalar-at-check-fields-requires-2 t)
+    (check-scalar-at-returns-2 t)
+    (check-scalar-at-same-length-2 t)
+    (check-scalar-at-returns-3 t)
+    (check-scalar-at-same-length-3 t)
+    (check-scalar-at-returns-4 t)
+    (check-scalar-at-same-length-4 t)
+    (check-scalar-at-returns-5 t)
+    (check-scalar-at-same-length-5 t)
+    (check-scalar-at-returns-6 t))
+    λ t. check-type-lts.spec (
+      shape-at-reads.Asked,
+      shape-at-reads.Learnt,
+      check-shapes-reads.Asked,
+      check-shapes-reads.Learnt,
+      shape-length-reads.Asked,
+      shape-length-reads.Learnt,
+      put-shape-reads.Asked,
+      put-shape-reads.Learnt,
+      check-scalar-at-below t,
+      check-scalar-at.Post,
+    )
+    (check-type-at t)
+    check-type.Post
+    (check-type-shape-at-requires t)
+    (check-type-shape-at-requires-2 t)
+    (check-type-check-shapes-requires t)
+    (check-type-shape-length-requires t)
+    (check-type-put-shape-requires t)
+    (check-type-add-check-scalar-at t)
+    (check-type-check-scalar-at-requires t)
+    (check-type-enum-known-w t)
+    (check-type-enum-told t)
+    (check-type-same-length t)
+    (check-type-returns t)
+    (check-type-same-length-2 t)
+    (check-type-returns-2 t)
+    (check-type-add-t24 t)
+    (check-type-same-length-3 t)
+    (check-type-returns-3 t)

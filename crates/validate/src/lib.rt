@@ -1,0 +1,75 @@
+// Validation (mod.rs): `validate`, `check_scalar` and `check_shape`. Old bytes in, new bytes out, or a refusal and nothing
+// changed.
+mod calls;
+mod copies;
+mod dims;
+mod places;
+mod plans;
+mod shapes;
+mod walk;
+
+pub use calls::check_shape;
+use record::DynShape;
+
+// The side that a validation is for, or none.
+pub enum Side {
+    Unsided,
+    Left,
+    Right,
+}
+
+// Whether a spec's shape clashes with a type's, and the shape that the type has if it does not.
+pub struct Checked {
+    pub clash: bool,
+    pub shape: DynShape,
+}
+
+// What a type's scalar is, and where what it holds begins: an All box's content; a Def's name, its fields and their count.
+pub enum View {
+    Plain {
+        code: u64,
+    },
+    BoxAny,
+    BoxAll {
+        content: usize,
+    },
+    BoxDef {
+        name: usize,
+        named: bool,
+        fields: usize,
+        count: u64,
+    },
+}
+
+// What a spec's scalar asks of a type's: a refusal; the type's scalar as it is; the spec's; the contents of two All boxes, at
+// their places; or a Def whose fields are those of two lists, pair by pair as far as both go.
+pub enum Plan {
+    Refuse {
+        number: u8,
+    },
+    Keep,
+    Take,
+    Inside {
+        content: usize,
+        other: usize,
+    },
+    // The spec's list: its place and count, and whether its types stand one after the other or all at that place. The type's
+    // list likewise, which stands in the type's bytes or is made of [..] Any. The Def's name, in the spec's bytes or the type's.
+    Pairs {
+        content: usize,
+        limit: u64,
+        moves: bool,
+        other: usize,
+        count: u64,
+        steps: bool,
+        fresh: bool,
+        name: usize,
+        borrowed: bool,
+    },
+}
+
+// Where the bytes written end and how many types they are, or the number of a refusal.
+pub enum Wrote {
+    Done { end: usize, types: u64 },
+    Refused { number: u8 },
+}

@@ -15,7 +15,7 @@ use Rattle.model.specs.Refusals.{wrongScalar, tooMany}
 use Rattle.model.specs.Types.{Dim, static, unknown, Shape, shape, Kind, any, Scalar, plain, boxAny, boxAll, boxDef, Fields, noFields, field, Ty, ty, boxOf, fieldOf, fieldCount, inside, among, below, deepest, types, depth}
 use Rattle.format.specs.Records.{code, boxCode, absent, dimOf, countOf, listOf, writeShape, writeScalar, writeTy}
 use Rattle.format.specs.Outcome.{Outcome, accepted, refused, mapped}
-use Rattle.scalar.specs.At.{TypeAt}
+use Rattle.walk.specs.At.{TypeAt}
 use Rattle.rules.specs.Order.{codeOf}
 use Rattle.rules.specs.Scalars.{supersetCodes, supersetOf}
 use Rattle.rules.specs.Shapes.{anyShape, isAny}

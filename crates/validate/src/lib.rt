@@ -2,11 +2,11 @@
 // changed.
 mod calls;
 mod copies;
+mod descent;
 mod dims;
 mod places;
 mod plans;
 mod shapes;
-mod walk;
 
 pub use calls::check_shape;
 use record::DynShape;

@@ -8,8 +8,8 @@ use Rattle.validate.proofs.places.look.Statement.{statement}
 use Rattle.validate.proofs.places.look.Tie as tie
 use Rattle.validate.proofs.places.look.Reads as reads
 use Rattle.validate.proofs.places.look.Lts as lts
-use Rattle.scalar.proofs.form_at.Reads as form-at-reads
-use Rattle.scalar.proofs.kind_at.Reads as kind-at-reads
+use Rattle.walk.proofs.form_at.Reads as form-at-reads
+use Rattle.walk.proofs.kind_at.Reads as kind-at-reads
 use Rattle.validate.proofs.places.has_name.Reads as has-name-reads
 use Rattle.validate.proofs.places.name_length.Reads as name-length-reads
 use Rattle.validate.proofs.places.scalar_at.Reads as scalar-at-reads

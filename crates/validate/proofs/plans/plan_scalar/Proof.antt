@@ -10,7 +10,7 @@ use Rattle.validate.proofs.plans.plan_scalar.Tie as tie
 use Rattle.validate.proofs.plans.plan_scalar.Reads as reads
 use Rattle.validate.proofs.plans.plan_scalar.Lts as lts
 use Rattle.scalar.proofs.superset_codes.Reads as superset-codes-reads
-use Rattle.scalar.proofs.shape_at.Reads as shape-at-reads
+use Rattle.walk.proofs.shape_at.Reads as shape-at-reads
 use Rattle.validate.proofs.places.look.Reads as look-reads
 use Rattle.validate.proofs.plans.code_of.Reads as code-of-reads
 use Rattle.validate.proofs.plans.keep_if.Reads as keep-if-reads

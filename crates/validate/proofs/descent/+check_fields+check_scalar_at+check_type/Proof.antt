@@ -17,16 +17,16 @@ use Rattle.validate.proofs.WalkLaws.{roomy-more, type-refused, type-cla
 use Prim.Native.Nat.{ℕ, _<_, _≤_, _+_, _-_, _*_}
 use borrow.Fn.Kinds.{In}
 use borrow.Fn.PlainCycle.{Measures, is, falls, and}
-use Rattle.validate.proofs.walk.check_fields.Reads as check-fields
-use Rattle.validate.proofs.walk.check_fields.Kinds as check-fields-kinds
-use Rattle.validate.proofs.walk.+check_fields+check_scalar_at+check_type.Lts-check_fields as check-fields-lts
-use Rattle.validate.proofs.walk.check_scalar_at.Reads as check-scalar-at
-use Rattle.validate.proofs.walk.check_scalar_at.Kinds as check-scalar-at-kinds
-use Rattle.validate.proofs.walk.+check_fields+check_scalar_at+check_type.Lts-check_scalar_at as check-scalar-at-lts
-use Rattle.validate.proofs.walk.check_type.Reads as check-type
-use Rattle.validate.proofs.walk.check_type.Kinds as check-type-kinds
-use Rattle.validate.proofs.walk.+check_fields+check_scalar_at+check_type.Lts-check_type as check-type-lts
-use Rattle.scalar.proofs.shape_at.Reads as shape-at-reads
+use Rattle.validate.proofs.descent.check_fields.Reads as check-fields
+use Rattle.validate.proofs.descent.check_fields.Kinds as check-fields-kinds
+use Rattle.validate.proofs.descent.+check_fields+check_scalar_at+check_type.Lts-check_fields as check-fields-lts
+use Rattle.validate.proofs.descent.check_scalar_at.Reads as check-scalar-at
+use Rattle.validate.proofs.descent.check_scalar_at.Kinds as check-scalar-at-kinds
+use Rattle.validate.proofs.descent.+check_fields+check_scalar_at+check_type.Lts-check_scalar_at as check-scalar-at-lts
+use Rattle.validate.proofs.descent.check_type.Reads as check-type
+use Rattle.validate.proofs.descent.check_type.Kinds as check-type-kinds
+use Rattle.validate.proofs.descent.+check_fields+check_scalar_at+check_type.Lts-check_type as check-type-lts
+use Rattle.walk.proofs.shape_at.Reads as shape-at-reads
 use Rattle.validate.proofs.copies.copy_fields.Reads as copy-fields-reads
 use Rattle.validate.proofs.copies.copy_scalar.Reads as copy-scalar-reads
 use Rattle.validate.proofs.copies.put_box.Reads as put-box-reads
@@ -38,8 +38,8 @@ use Rattle.validate.proofs.plans.plan_scalar.Reads as plan-scalar-reads
 use Rattle.validate.proofs.shapes.check_shapes.Reads as check-shapes-reads
 use Rattle.writer.proofs.put_shape.Reads as put-shape-reads
 use Rattle.writer.proofs.shape_length.Reads as shape-length-reads
-use Rattle.validate.proofs.walk.+check_fields+check_scalar_at+check_type.{statement}
-use Rattle.validate.proofs.walk.+check_fields+check_scalar_at+check_type.Tie.{close}
+use Rattle.validate.proofs.descent.+check_fields+check_scalar_at+check_type.{statement}
+use Rattle.validate.proofs.descent.+check_fields+check_scalar_at+check_type.Tie.{close}
 
 abbrev μ-check-fields : Measures 3 check-fields-kinds.ps ℕ
 μ-check-fields κs a = 3 * (8 - a .1 .1 .1 .1 .1 .1 .1 .1 .1 .0) + 2

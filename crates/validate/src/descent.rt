@@ -14,7 +14,7 @@ use crate::places::types_in;
 use crate::plans::plan_scalar;
 use crate::shapes::check_shapes;
 use limits::refusal::WRONG_SHAPE;
-use scalar::shape_at;
+use walk::shape_at;
 use writer::put_shape;
 use writer::shape_length;
 ghost use mathlib.Core.Path.{_≡_};

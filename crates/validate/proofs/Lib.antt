@@ -5,3 +5,4 @@ mod PlacesLaws
 mod PlanLaws
 mod CopyLaws
 mod WalkLaws
+mod WholeLaws

@@ -11,7 +11,7 @@ use Rattle.model.specs.Types.{Shape, Scalar, boxDef, Fields, fieldCount, ty, bo
 use Rattle.format.specs.Records.{countOf, listOf}
 use Rattle.format.specs.Views.{Stands}
 use Rattle.format.specs.Outcome.{Outcome, accepted, refused, mapped}
-use Rattle.validation.specs.CheckShape.{unsided, checkShape}
+use Rattle.validation.specs.CheckShape.{Side, unsided, checkShape}
 use Rattle.rules.specs.Types.{whollyAny}
 use Rattle.validation.specs.AsFields.{fieldsFor, asBox, named, copied}
 use Rattle.validation.specs.CheckScalar.{inTurn, checkScalar, checkFields}
@@ -37,6 +37,10 @@ scalarOf o a w = checkScalar (w .spec-scalar) (fits o a) (w .type-shape) (w .typ
 -- what becomes of its shape
 abbrev pub shapeOf : {o a : ℕ} {s : List ℕ} {i : ℕ} {t : List ℕ} {j : ℕ} → Pair s i t j o a → Outcome Shape
 shapeOf w = checkShape unsided (w .spec-shape) (w .type-shape)
+
+-- the same for a side
+abbrev pub sidedOf : Side → {o a : ℕ} {s : List ℕ} {i : ℕ} {t : List ℕ} {j : ℕ} → Pair s i t j o a → Outcome Shape
+sidedOf side w = checkShape side (w .spec-shape) (w .type-shape)
 
 -- the seven bytes of [..] Any
 abbrev pub anyBytes : List ℕ

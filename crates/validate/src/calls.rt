@@ -1,8 +1,13 @@
 // The public calls: the spec is read whole first, then the type; a result that is too short is found last.
 use crate::Side;
+use crate::Wrote;
 use crate::shapes::check_shapes;
+use crate::walk::check_scalar_at;
+use crate::walk::check_type;
 use lent::Written;
+use lent::hand_over;
 use lent::lay;
+use limits::MAX_BYTES;
 use limits::refusal::TOO_SHORT;
 use limits::refusal::WRONG_SHAPE;
 use record::DynShape;
@@ -10,6 +15,7 @@ use record::Lone;
 use record::lone_scalar;
 use record::lone_shape;
 use record::read_both;
+use scalar::shape_at;
 use writer::put_shape;
 use writer::shape_length;
 ghost use mathlib.Core.Path.{_≡_};
@@ -18,7 +24,7 @@ ghost use Rattle.format.specs.Records.{writeShape, writeTy};
 ghost use Rattle.format.specs.Outcome.{accepted, deliver, mapped, both, lone};
 ghost use Rattle.lent.specs.Written.{delivered};
 ghost use Rattle.record.specs.Answers.{shapeFor};
-ghost use Rattle.validation.specs.Validate.{checkShapeOnly};
+ghost use Rattle.validation.specs.Validate.{validate, checkScalarOnly, checkShapeOnly};
 ghost use Rattle.validate.specs.Answers.{sideOf};
 
 // `check_shape`: the type with the shape that it then has; its scalar stays as it is.
@@ -39,6 +45,42 @@ pub fn check_shape(side: Side, spec: &[u8], ty: &[u8], result: &mut [u8]) -> Wri
     let shape = checked.shape;
     let start = lone_scalar(ty);
     write_parts(shape, &ty[start..], &mut *result)
+}
+
+// `validate`: scalar first, then shape. What the type then is goes to bytes of its own first, so that a refusal leaves the result
+// as lent.
+pub fn validate(side: Side, spec: &[u8], ty: &[u8], result: &mut [u8]) -> Written
+    ensures { λ r. ⌜ delivered r (now (result .exit)) ≡ deliver (both (λ s t. mapped writeTy (validate (sideOf side) s t)) (lone (now (spec .entry))) (lone (now (ty .entry)))) (now (result .entry)) ⌝ }
+{
+    let read = read_both(spec, ty);
+    if let Lone::Refused { number, place } = read {
+        return Written::Refused { number, place };
+    }
+    let mut out = [0u8; MAX_BYTES];
+    let w = check_type(side, spec, 0, ty, 0, 0, 0, &mut out, 0);
+    match w {
+        Wrote::Done { end, types: _ } => hand_over(&out[..end], &mut *result),
+        Wrote::Refused { number } => Written::Refused { number, place: 0 },
+    }
+}
+
+// `check_scalar`: the type with the scalar that it then has; its shape stays as it is, and the spec's is not looked at.
+pub fn check_scalar(spec: &[u8], ty: &[u8], result: &mut [u8]) -> Written
+    ensures { λ r. ⌜ delivered r (now (result .exit)) ≡ deliver (both (λ s t. mapped writeTy (checkScalarOnly s t)) (lone (now (spec .entry))) (lone (now (ty .entry)))) (now (result .entry)) ⌝ }
+{
+    let read = read_both(spec, ty);
+    if let Lone::Refused { number, place } = read {
+        return Written::Refused { number, place };
+    }
+    let mut out = [0u8; MAX_BYTES];
+    let shape = shape_at(ty, 0);
+    let n = shape_length(shape);
+    put_shape(&mut out, 0, shape);
+    let w = check_scalar_at(spec, 0, ty, 0, 0, 0, &mut out, n);
+    match w {
+        Wrote::Done { end, types: _ } => hand_over(&out[..end], &mut *result),
+        Wrote::Refused { number } => Written::Refused { number, place: 0 },
+    }
 }
 
 // A shape's record, then the bytes of a scalar's.

@@ -1,5 +1,5 @@
-// Validation of types that stand at their places, unsided: type validation calls scalar validation, which calls type validation on
-// box contents. What the type then is goes to a buffer; a refusal says nothing of the buffer. The merged shape is written before
+// Validation of types that stand at their places: type validation calls scalar validation, which calls type validation on box
+// contents, unsided. What the type then is goes to a buffer; a refusal says nothing of the buffer. The merged shape is written before
 // the scalar is judged, but refused after it.
 use crate::Plan;
 use crate::Side;
@@ -23,10 +23,12 @@ ghost use Prim.Native.Nat.{ℕ, _+_, _-_, _*_, _≤_};
 ghost use lib.ListN.{length, take};
 ghost use Rattle.format.specs.Outcome.{mapped};
 ghost use Rattle.validation.specs.CheckScalar.{inTurn};
-ghost use Rattle.validate.specs.Plans.{Pair, scalarOf, shapeOf, Lists, fieldsOf};
+ghost use Rattle.validate.specs.Answers.{sideOf};
+ghost use Rattle.validate.specs.Plans.{Pair, scalarOf, sidedOf, Lists, fieldsOf};
 ghost use Rattle.validate.specs.Walk.{wroteOf, scalarPiece, typePiece, fieldsPiece, Roomy};
 
 pub fn check_type(
+    side: Side,
     spec: &[u8],
     i: usize,
     ty: &[u8],
@@ -37,9 +39,9 @@ pub fn check_type(
     to: usize,
 ) -> Wrote
     requires { ⌜ Pair (now spec) i (now ty) j others above × (to + 156 * (32 - others) ≤ length (now out)) ⌝ }
-    ensures { λ r. ⌜ ((w : Pair (now (spec .entry)) i (now (ty .entry)) j others above) → (wroteOf r (now (out .exit)) ≡ mapped (typePiece (take to (now (out .entry)))) (inTurn (scalarOf others above w) (shapeOf w))) × Roomy r to) ⌝ }
+    ensures { λ r. ⌜ ((w : Pair (now (spec .entry)) i (now (ty .entry)) j others above) → (wroteOf r (now (out .exit)) ≡ mapped (typePiece (take to (now (out .entry)))) (inTurn (scalarOf others above w) (sidedOf (sideOf side) w))) × Roomy r to) ⌝ }
 {
-    let checked = check_shapes(Side::Unsided, shape_at(spec, i), shape_at(ty, j));
+    let checked = check_shapes(side, shape_at(spec, i), shape_at(ty, j));
     let shape = checked.shape;
     let n = shape_length(shape);
     put_shape(&mut *out, to, shape);
@@ -79,6 +81,7 @@ pub fn check_scalar_at(
         Plan::Inside { content, other } => {
             put_box(&mut *out, to, 1);
             check_type(
+                Side::Unsided,
                 spec,
                 content,
                 ty,
@@ -169,7 +172,17 @@ fn check_fields(
             };
         }
         rest -= types_at(source, j);
-        let w = check_type(spec, i, source, j, before + rest, above, &mut *out, end);
+        let w = check_type(
+            Side::Unsided,
+            spec,
+            i,
+            source,
+            j,
+            before + rest,
+            above,
+            &mut *out,
+            end,
+        );
         let Wrote::Done { end: e, types } = w else {
             return w;
         };

@@ -8,7 +8,9 @@ mod places;
 mod plans;
 mod shapes;
 
+pub use calls::check_scalar;
 pub use calls::check_shape;
+pub use calls::validate;
 use record::DynShape;
 
 // The side that a validation is for, or none.

@@ -8,8 +8,9 @@ use Rattle.format.specs.Outcome.{accepted, mapped}
 use Rattle.format.specs.Records.{boxStart, writeShape}
 use Rattle.record.specs.Answers.{shapeFor}
 use Rattle.validation.specs.CheckShape as rules
+use Rattle.validate.specs.Answers.{sideOf}
 use Rattle.validation.specs.CheckScalar.{inTurn}
-use Rattle.validate.specs.Plans.{Pair, scalarOf, shapeOf, Lists, fieldsOf}
+use Rattle.validate.specs.Plans.{Pair, scalarOf, shapeOf, sidedOf, Lists, fieldsOf}
 use Rattle.validate.specs.Walk.{wroteOf, scalarPiece, fieldsPiece, defHead}
 use Rattle.validate.proofs.PlanLaws.{type-at, some-left}
 use Rattle.validate.proofs.CopyLaws.{not-refused}
@@ -48,7 +49,7 @@ abbrev μ-check-scalar-at : Measures 3 check-scalar-at-kinds.ps ℕ
 μ-check-scalar-at κs a = 3 * (8 - a .1 .1 .1 .1 .1 .0)
 
 abbrev μ-check-type : Measures 3 check-type-kinds.ps ℕ
-μ-check-type κs a = 3 * (8 - a .1 .1 .1 .1 .1 .0) + 1
+μ-check-type κs a = 3 * (8 - a .1 .1 .1 .1 .1 .1 .0) + 1
 
 abbrev check-fields-at : ℕ → In 3 check-fields-kinds.ps
 check-fields-at t =
@@ -259,7 +260,7 @@ check-fields-same-length-2 : (t : ℕ) → check-fields-lts.Need-same-length-2 (
   copy-fields-reads.Asked,
   copy-fields-reads.Learnt,
 ) (check-fields-at t) check-fields.Post check-fields-Inv-loop check-fields-μ-loop
-check-fields-same-length-2 t c = c .before .before .before .before .check-type .kept .1 .1 .1 .1 .1 .1 .0 ∙ c .before .before .before .before .before .before .before .before .before .loop .inv .0
+check-fields-same-length-2 t c = c .before .before .before .before .check-type .kept .1 .1 .1 .1 .1 .1 .1 .0 ∙ c .before .before .before .before .before .before .before .before .before .loop .inv .0
 
 check-fields-returns-2 : (t : ℕ) → check-fields-lts.Need-returns-2 (
   types-in-reads.Asked,
@@ -273,7 +274,7 @@ check-fields-returns-2 : (t : ℕ) → check-fields-lts.Need-returns-2 (
   copy-fields-reads.Asked,
   copy-fields-reads.Learnt,
 ) (check-fields-at t) check-fields.Post check-fields-Inv-loop check-fields-μ-loop
-check-fields-returns-2 t c = λ w. pacing-stop (c .before .before .before .before .before .before .before .before .before .loop .inv .1 w) (c .before .before .before .before .before .before .before .before .loop-test .taken) (c .before .before .before .before .before .before .before .if1 .left) (first-rest (c .before .before .before .before .before .before .before .before .before .loop .inv .1 w) (c .before .before .before .before .before .before .before .before .loop-test .taken) (c .before .before .before .before .before .before .before .if1 .left) (c .before .before .before .before .before .before .types-at .ensures .1 ((firsts (c .before .before .before .before .before .before .before .before .before .loop .inv .1 w) (c .before .before .before .before .before .before .before .before .loop-test .taken) (c .before .before .before .before .before .before .before .if1 .left)) .q) ((firsts (c .before .before .before .before .before .before .before .before .before .loop .inv .1 w) (c .before .before .before .before .before .before .before .before .loop-test .taken) (c .before .before .before .before .before .before .before .if1 .left)) .l) ((firsts (c .before .before .before .before .before .before .before .before .before .loop .inv .1 w) (c .before .before .before .before .before .before .before .before .loop-test .taken) (c .before .before .before .before .before .before .before .if1 .left)) .type-placed))) (c .before .before .before .before .check-type .last .1 .1 .1 .1 .1 .1 .0) (c .enum-told .given .1) (c .before .before .before .before .check-type .ensures (pacing-pair (c .before .before .before .before .before .before .before .before .before .loop .inv .1 w) (c .before .before .before .before .before .before .before .before .loop-test .taken) (c .before .before .before .before .before .before .before .if1 .left) (first-rest (c .before .before .before .before .before .before .before .before .before .loop .inv .1 w) (c .before .before .before .before .before .before .before .before .loop-test .taken) (c .before .before .before .before .before .before .before .if1 .left) (c .before .before .before .before .before .before .types-at .ensures .1 ((firsts (c .before .before .before .before .before .before .before .before .before .loop .inv .1 w) (c .before .before .before .before .before .before .before .before .loop-test .taken) (c .before .before .before .before .before .before .before .if1 .left)) .q) ((firsts (c .before .before .before .before .before .before .before .before .before .loop .inv .1 w) (c .before .before .before .before .before .before .before .before .loop-test .taken) (c .before .before .before .before .before .before .before .if1 .left)) .l) ((firsts (c .before .before .before .before .before .before .before .before .before .loop .inv .1 w) (c .before .before .before .before .before .before .before .before .loop-test .taken) (c .before .before .before .before .before .before .before .if1 .left)) .type-placed)))) .0)
+check-fields-returns-2 t c = λ w. pacing-stop (c .before .before .before .before .before .before .before .before .before .loop .inv .1 w) (c .before .before .before .before .before .before .before .before .loop-test .taken) (c .before .before .before .before .before .before .before .if1 .left) (first-rest (c .before .before .before .before .before .before .before .before .before .loop .inv .1 w) (c .before .before .before .before .before .before .before .before .loop-test .taken) (c .before .before .before .before .before .before .before .if1 .left) (c .before .before .before .before .before .before .types-at .ensures .1 ((firsts (c .before .before .before .before .before .before .before .before .before .loop .inv .1 w) (c .before .before .before .before .before .before .before .before .loop-test .taken) (c .before .before .before .before .before .before .before .if1 .left)) .q) ((firsts (c .before .before .before .before .before .before .before .before .before .loop .inv .1 w) (c .before .before .before .before .before .before .before .before .loop-test .taken) (c .before .before .before .before .before .before .before .if1 .left)) .l) ((firsts (c .before .before .before .before .before .before .before .before .before .loop .inv .1 w) (c .before .before .before .before .before .before .before .before .loop-test .taken) (c .before .before .before .before .before .before .before .if1 .left)) .type-placed))) (c .before .before .before .before .check-type .last .1 .1 .1 .1 .1 .1 .1 .0) (c .enum-told .given .1) (c .before .before .before .before .check-type .ensures (pacing-pair (c .before .before .before .before .before .before .before .before .before .loop .inv .1 w) (c .before .before .before .before .before .before .before .before .loop-test .taken) (c .before .before .before .before .before .before .before .if1 .left) (first-rest (c .before .before .before .before .before .before .before .before .before .loop .inv .1 w) (c .before .before .before .before .before .before .before .before .loop-test .taken) (c .before .before .before .before .before .before .before .if1 .left) (c .before .before .before .before .before .before .types-at .ensures .1 ((firsts (c .before .before .before .before .before .before .before .before .before .loop .inv .1 w) (c .before .before .before .before .before .before .before .before .loop-test .taken) (c .before .before .before .before .before .before .before .if1 .left)) .q) ((firsts (c .before .before .before .before .before .before .before .before .before .loop .inv .1 w) (c .before .before .before .before .before .before .before .before .loop-test .taken) (c .before .before .before .before .before .before .before .if1 .left)) .l) ((firsts (c .before .before .before .before .before .before .before .before .before .loop .inv .1 w) (c .before .before .before .before .before .before .before .before .loop-test .taken) (c .before .before .before .before .before .before .before .if1 .left)) .type-placed)))) .0)
 
 check-fields-next-type-requires : (t : ℕ) → check-fields-lts.Need-next-type-requires (
   types-in-reads.Asked,
@@ -315,7 +316,7 @@ check-fields-add-before : (t : ℕ) → check-fields-lts.Need-add-before (
   copy-fields-reads.Asked,
   copy-fields-reads.Learnt,
 ) (check-fields-at t) check-fields.Post check-fields-Inv-loop check-fields-μ-loop
-check-fields-add-before t c = omega (arith, pacing-few (pacing-next (c .before .before .before .before .before .before .before .before .before .before .before .before .loop .inv .1 (c .before .before .before .before .before .before .before .before .before .before .before .before .before .before .before .before .before .pre .1 .0)) (c .before .before .before .before .before .before .before .before .before .before .before .loop-test .taken) (c .before .before .before .before .before .before .before .before .before .before .if1 .left) (first-rest (c .before .before .before .before .before .before .before .before .before .before .before .before .loop .inv .1 (c .before .before .before .before .before .before .before .before .before .before .before .before .before .before .before .before .before .pre .1 .0)) (c .before .before .before .before .before .before .before .before .before .before .before .loop-test .taken) (c .before .before .before .before .before .before .before .before .before .before .if1 .left) (c .before .before .before .before .before .before .before .before .before .types-at .ensures .1 ((firsts (c .before .before .before .before .before .before .before .before .before .before .before .before .loop .inv .1 (c .before .before .before .before .before .before .before .before .before .before .before .before .before .before .before .before .before .pre .1 .0)) (c .before .before .before .before .before .before .before .before .before .before .before .loop-test .taken) (c .before .before .before .before .before .before .before .before .before .before .if1 .left)) .q) ((firsts (c .before .before .before .before .before .before .before .before .before .before .before .before .loop .inv .1 (c .before .before .before .before .before .before .before .before .before .before .before .before .before .before .before .before .before .pre .1 .0)) (c .before .before .before .before .before .before .before .before .before .before .before .loop-test .taken) (c .before .before .before .before .before .before .before .before .before .before .if1 .left)) .l) ((firsts (c .before .before .before .before .before .before .before .before .before .before .before .before .loop .inv .1 (c .before .before .before .before .before .before .before .before .before .before .before .before .before .before .before .before .before .pre .1 .0)) (c .before .before .before .before .before .before .before .before .before .before .before .loop-test .taken) (c .before .before .before .before .before .before .before .before .before .before .if1 .left)) .type-placed))) (c .before .before .before .before .before .before .before .check-type .last .1 .1 .1 .1 .1 .1 .0) (c .before .before .before .w .given .1) (c .before .before .before .before .before .before .before .check-type .ensures (pacing-pair (c .before .before .before .before .before .before .before .before .before .before .before .before .loop .inv .1 (c .before .before .before .before .before .before .before .before .before .before .before .before .before .before .before .before .before .pre .1 .0)) (c .before .before .before .before .before .before .before .before .before .before .before .loop-test .taken) (c .before .before .before .before .before .before .before .before .before .before .if1 .left) (first-rest (c .before .before .before .before .before .before .before .before .before .before .before .before .loop .inv .1 (c .before .before .before .before .before .before .before .before .before .before .before .before .before .before .before .before .before .pre .1 .0)) (c .before .before .before .before .before .before .before .before .before .before .before .loop-test .taken) (c .before .before .before .before .before .before .before .before .before .before .if1 .left) (c .before .before .before .before .before .before .before .before .before .types-at .ensures .1 ((firsts (c .before .before .before .before .before .before .before .before .before .before .before .before .loop .inv .1 (c .before .before .before .before .before .before .before .before .before .before .before .before .before .before .before .before .before .pre .1 .0)) (c .before .before .before .before .before .before .before .before .before .before .before .loop-test .taken) (c .before .before .before .before .before .before .before .before .before .before .if1 .left)) .q) ((firsts (c .before .before .before .before .before .before .before .before .before .before .before .before .loop .inv .1 (c .before .before .before .before .before .before .before .before .before .before .before .before .before .before .before .before .before .pre .1 .0)) (c .before .before .before .before .before .before .before .before .before .before .before .loop-test .taken) (c .before .before .before .before .before .before .before .before .before .before .if1 .left)) .l) ((firsts (c .before .before .before .before .before .before .before .before .before .before .before .before .loop .inv .1 (c .before .before .before .before .before .before .before .before .before .before .before .before .before .before .before .before .before .pre .1 .0)) (c .before .before .before .before .before .before .before .before .before .before .before .loop-test .taken) (c .before .before .before .before .before .before .before .before .before .before .if1 .left)) .type-placed))))) (c .before .next-type .ensures ((firsts (c .before .before .before .before .before .before .before .before .before .before .before .before .loop .inv .1 (c .before .before .before .before .before .before .before .before .before .before .before .before .before .before .before .before .before .pre .1 .0)) (c .before .before .before .before .before .before .before .before .before .before .before .loop-test .taken) (c .before .before .before .before .before .before .before .before .before .before .if1 .left)) .p) ((firsts (c .before .before .before .before .before .before .before .before .before .before .before .before .loop .inv .1 (c .before .before .before .before .before .before .before .before .before .before .before .before .before .before .before .before .before .pre .1 .0)) (c .before .before .before .before .before .before .before .before .before .before .before .loop-test .taken) (c .before .before .before .before .before .before .before .before .before .before .if1 .left)) .k) ((firsts (c .before .before .before .before .before .before .before .before .before .before .before .before .loop .inv .1 (c .before .before .before .before .before .before .before .before .before .before .before .before .before .before .before .before .before .pre .1 .0)) (c .before .before .before .before .before .before .before .before .before .before .before .loop-test .taken) (c .before .before .before .before .before .before .before .before .before .before .if1 .left)) .spec-placed)) (c .next-type2 .ensures ((firsts (c .before .before .before .before .before .before .before .before .before .before .before .before .loop .inv .1 (c .before .before .before .before .before .before .before .before .before .before .before .before .before .before .before .before .before .pre .1 .0)) (c .before .before .before .before .before .before .before .before .before .before .before .loop-test .taken) (c .before .before .before .before .before .before .before .before .before .before .if1 .left)) .q) ((firsts (c .before .before .before .before .before .before .before .before .before .before .before .before .loop .inv .1 (c .before .before .before .before .before .before .before .before .before .before .before .before .before .before .before .before .before .pre .1 .0)) (c .before .before .before .before .before .before .before .before .before .before .before .loop-test .taken) (c .before .before .before .before .before .before .before .before .before .before .if1 .left)) .l) ((firsts (c .before .before .before .before .before .before .before .before .before .before .before .before .loop .inv .1 (c .before .before .before .before .before .before .before .before .before .before .before .before .before .before .before .before .before .pre .1 .0)) (c .before .before .before .before .before .before .before .before .before .before .before .loop-test .taken) (c .before .before .before .before .before .before .before .before .before .before .if1 .left)) .type-placed))))
+check-fields-add-before t c = omega (arith, pacing-few (pacing-next (c .before .before .before .before .before .before .before .before .before .before .before .before .loop .inv .1 (c .before .before .before .before .before .before .before .before .before .before .before .before .before .before .before .before .before .pre .1 .0)) (c .before .before .before .before .before .before .before .before .before .before .before .loop-test .taken) (c .before .before .before .before .before .before .before .before .before .before .if1 .left) (first-rest (c .before .before .before .before .before .before .before .before .before .before .before .before .loop .inv .1 (c .before .before .before .before .before .before .before .before .before .before .before .before .before .before .before .before .before .pre .1 .0)) (c .before .before .before .before .before .before .before .before .before .before .before .loop-test .taken) (c .before .before .before .before .before .before .before .before .before .before .if1 .left) (c .before .before .before .before .before .before .before .before .before .types-at .ensures .1 ((firsts (c .before .before .before .before .before .before .before .before .before .before .before .before .loop .inv .1 (c .before .before .before .before .before .before .before .before .before .before .before .before .before .before .before .before .before .pre .1 .0)) (c .before .before .before .before .before .before .before .before .before .before .before .loop-test .taken) (c .before .before .before .before .before .before .before .before .before .before .if1 .left)) .q) ((firsts (c .before .before .before .before .before .before .before .before .before .before .before .before .loop .inv .1 (c .before .before .before .before .before .before .before .before .before .before .before .before .before .before .before .before .before .pre .1 .0)) (c .before .before .before .before .before .before .before .before .before .before .before .loop-test .taken) (c .before .before .before .before .before .before .before .before .before .before .if1 .left)) .l) ((firsts (c .before .before .before .before .before .before .before .before .before .before .before .before .loop .inv .1 (c .before .before .before .before .before .before .before .before .before .before .before .before .before .before .before .before .before .pre .1 .0)) (c .before .before .before .before .before .before .before .before .before .before .before .loop-test .taken) (c .before .before .before .before .before .before .before .before .before .before .if1 .left)) .type-placed))) (c .before .before .before .before .before .before .before .check-type .last .1 .1 .1 .1 .1 .1 .1 .0) (c .before .before .before .w .given .1) (c .before .before .before .before .before .before .before .check-type .ensures (pacing-pair (c .before .before .before .before .before .before .before .before .before .before .before .before .loop .inv .1 (c .before .before .before .before .before .before .before .before .before .before .before .before .before .before .before .before .before .pre .1 .0)) (c .before .before .before .before .before .before .before .before .before .before .before .loop-test .taken) (c .before .before .before .before .before .before .before .before .before .before .if1 .left) (first-rest (c .before .before .before .before .before .before .before .before .before .before .before .before .loop .inv .1 (c .before .before .before .before .before .before .before .before .before .before .before .before .before .before .before .before .before .pre .1 .0)) (c .before .before .before .before .before .before .before .before .before .before .before .loop-test .taken) (c .before .before .before .before .before .before .before .before .before .before .if1 .left) (c .before .before .before .before .before .before .before .before .before .types-at .ensures .1 ((firsts (c .before .before .before .before .before .before .before .before .before .before .before .before .loop .inv .1 (c .before .before .before .before .before .before .before .before .before .before .before .before .before .before .before .before .before .pre .1 .0)) (c .before .before .before .before .before .before .before .before .before .before .before .loop-test .taken) (c .before .before .before .before .before .before .before .before .before .before .if1 .left)) .q) ((firsts (c .before .before .before .before .before .before .before .before .before .before .before .before .loop .inv .1 (c .before .before .before .before .before .before .before .before .before .before .before .before .before .before .before .before .before .pre .1 .0)) (c .before .before .before .before .before .before .before .before .before .before .before .loop-test .taken) (c .before .before .before .before .before .before .before .before .before .before .if1 .left)) .l) ((firsts (c .before .before .before .before .before .before .before .before .before .before .before .before .loop .inv .1 (c .before .before .before .before .before .before .before .before .before .before .before .before .before .before .before .before .before .pre .1 .0)) (c .before .before .before .before .before .before .before .before .before .before .before .loop-test .taken) (c .before .before .before .before .before .before .before .before .before .before .if1 .left)) .type-placed))))) (c .before .next-type .ensures ((firsts (c .before .before .before .before .before .before .before .before .before .before .before .before .loop .inv .1 (c .before .before .before .before .before .before .before .before .before .before .before .before .before .before .before .before .before .pre .1 .0)) (c .before .before .before .before .before .before .before .before .before .before .before .loop-test .taken) (c .before .before .before .before .before .before .before .before .before .before .if1 .left)) .p) ((firsts (c .before .before .before .before .before .before .before .before .before .before .before .before .loop .inv .1 (c .before .before .before .before .before .before .before .before .before .before .before .before .before .before .before .before .before .pre .1 .0)) (c .before .before .before .before .before .before .before .before .before .before .before .loop-test .taken) (c .before .before .before .before .before .before .before .before .before .before .if1 .left)) .k) ((firsts (c .before .before .before .before .before .before .before .before .before .before .before .before .loop .inv .1 (c .before .before .before .before .before .before .before .before .before .before .before .before .before .before .before .before .before .pre .1 .0)) (c .before .before .before .before .before .before .before .before .before .before .before .loop-test .taken) (c .before .before .before .before .before .before .before .before .before .before .if1 .left)) .spec-placed)) (c .next-type2 .ensures ((firsts (c .before .before .before .before .before .before .before .before .before .before .before .before .loop .inv .1 (c .before .before .before .before .before .before .before .before .before .before .before .before .before .before .before .before .before .pre .1 .0)) (c .before .before .before .before .before .before .before .before .before .before .before .loop-test .taken) (c .before .before .before .before .before .before .before .before .before .before .if1 .left)) .q) ((firsts (c .before .before .before .before .before .before .before .before .before .before .before .before .loop .inv .1 (c .before .before .before .before .before .before .before .before .before .before .before .before .before .before .before .before .before .pre .1 .0)) (c .before .before .before .before .before .before .before .before .before .before .before .loop-test .taken) (c .before .before .before .before .before .before .before .before .before .before .if1 .left)) .l) ((firsts (c .before .before .before .before .before .before .before .before .before .before .before .before .loop .inv .1 (c .before .before .before .before .before .before .before .before .before .before .before .before .before .before .before .before .before .pre .1 .0)) (c .before .before .before .before .before .before .before .before .before .before .before .loop-test .taken) (c .before .before .before .before .before .before .before .before .before .before .if1 .left)) .type-placed))))
 
 check-fields-sub-left : (t : ℕ) → check-fields-lts.Need-sub-left (
   types-in-reads.Asked,
@@ -371,7 +372,7 @@ check-fields-loop-again : (t : ℕ) → check-fields-lts.Need-loop-again (
   copy-fields-reads.Asked,
   copy-fields-reads.Learnt,
 ) (check-fields-at t) check-fields.Post check-fields-Inv-loop check-fields-μ-loop
-check-fields-loop-again t c = (c .before .before .before .before .before .before .before .check-type .kept .1 .1 .1 .1 .1 .1 .0 ∙ c .before .before .before .before .before .before .before .before .before .before .before .before .loop .inv .0, λ w. pacing-next (c .before .before .before .before .before .before .before .before .before .before .before .before .loop .inv .1 w) (c .before .before .before .before .before .before .before .before .before .before .before .loop-test .taken) (c .before .before .before .before .before .before .before .before .before .before .if1 .left) (first-rest (c .before .before .before .before .before .before .before .before .before .before .before .before .loop .inv .1 w) (c .before .before .before .before .before .before .before .before .before .before .before .loop-test .taken) (c .before .before .before .before .before .before .before .before .before .before .if1 .left) (c .before .before .before .before .before .before .before .before .before .types-at .ensures .1 ((firsts (c .before .before .before .before .before .before .before .before .before .before .before .before .loop .inv .1 w) (c .before .before .before .before .before .before .before .before .before .before .before .loop-test .taken) (c .before .before .before .before .before .before .before .before .before .before .if1 .left)) .q) ((firsts (c .before .before .before .before .before .before .before .before .before .before .before .before .loop .inv .1 w) (c .before .before .before .before .before .before .before .before .before .before .before .loop-test .taken) (c .before .before .before .before .before .before .before .before .before .before .if1 .left)) .l) ((firsts (c .before .before .before .before .before .before .before .before .before .before .before .before .loop .inv .1 w) (c .before .before .before .before .before .before .before .before .before .before .before .loop-test .taken) (c .before .before .before .before .before .before .before .before .before .before .if1 .left)) .type-placed))) (c .before .before .before .before .before .before .before .check-type .last .1 .1 .1 .1 .1 .1 .0) (c .before .before .before .w .given .1) (c .before .before .before .before .before .before .before .check-type .ensures (pacing-pair (c .before .before .before .before .before .before .before .before .before .before .before .before .loop .inv .1 w) (c .before .before .before .before .before .before .before .before .before .before .before .loop-test .taken) (c .before .before .before .before .before .before .before .before .before .before .if1 .left) (first-rest (c .before .before .before .before .before .before .before .before .before .before .before .before .loop .inv .1 w) (c .before .before .before .before .before .before .before .before .before .before .before .loop-test .taken) (c .before .before .before .before .before .before .before .before .before .before .if1 .left) (c .before .before .before .before .before .before .before .before .before .types-at .ensures .1 ((firsts (c .before .before .before .before .before .before .before .before .before .before .before .before .loop .inv .1 w) (c .before .before .before .before .before .before .before .before .before .before .before .loop-test .taken) (c .before .before .before .before .before .before .before .before .before .before .if1 .left)) .q) ((firsts (c .before .before .before .before .before .before .before .before .before .before .before .before .loop .inv .1 w) (c .before .before .before .before .before .before .before .before .before .before .before .loop-test .taken) (c .before .before .before .before .before .before .before .before .before .before .if1 .left)) .l) ((firsts (c .before .before .before .before .before .before .before .before .before .before .before .before .loop .inv .1 w) (c .before .before .before .before .before .before .before .before .before .before .before .loop-test .taken) (c .before .before .before .before .before .before .before .before .before .before .if1 .left)) .type-placed))))) (c .before .next-type .ensures ((firsts (c .before .before .before .before .before .before .before .before .before .before .before .before .loop .inv .1 w) (c .before .before .before .before .before .before .before .before .before .before .before .loop-test .taken) (c .before .before .before .before .before .before .before .before .before .before .if1 .left)) .p) ((firsts (c .before .before .before .before .before .before .before .before .before .before .before .before .loop .inv .1 w) (c .before .before .before .before .before .before .before .before .before .before .before .loop-test .taken) (c .before .before .before .before .before .before .before .before .before .before .if1 .left)) .k) ((firsts (c .before .before .before .before .before .before .before .before .before .before .before .before .loop .inv .1 w) (c .before .before .before .before .before .before .before .before .before .before .before .loop-test .taken) (c .before .before .before .before .before .before .before .before .before .before .if1 .left)) .spec-placed)) (c .next-type2 .ensures ((firsts (c .before .before .before .before .before .before .before .before .before .before .before .before .loop .inv .1 w) (c .before .before .before .before .before .before .before .before .before .before .before .loop-test .taken) (c .before .before .before .before .before .before .before .before .before .before .if1 .left)) .q) ((firsts (c .before .before .before .before .before .before .before .before .before .before .before .before .loop .inv .1 w) (c .before .before .before .before .before .before .before .before .before .before .before .loop-test .taken) (c .before .before .before .before .before .before .before .before .before .before .if1 .left)) .l) ((firsts (c .before .before .before .before .before .before .before .before .before .before .before .before .loop .inv .1 w) (c .before .before .before .before .before .before .before .before .before .before .before .loop-test .taken) (c .before .before .before .before .before .before .before .before .before .before .if1 .left)) .type-placed)))
+check-fields-loop-again t c = (c .before .before .before .before .before .before .before .check-type .kept .1 .1 .1 .1 .1 .1 .1 .0 ∙ c .before .before .before .before .before .before .before .before .before .before .before .before .loop .inv .0, λ w. pacing-next (c .before .before .before .before .before .before .before .before .before .before .before .before .loop .inv .1 w) (c .before .before .before .before .before .before .before .before .before .before .before .loop-test .taken) (c .before .before .before .before .before .before .before .before .before .before .if1 .left) (first-rest (c .before .before .before .before .before .before .before .before .before .before .before .before .loop .inv .1 w) (c .before .before .before .before .before .before .before .before .before .before .before .loop-test .taken) (c .before .before .before .before .before .before .before .before .before .before .if1 .left) (c .before .before .before .before .before .before .before .before .before .types-at .ensures .1 ((firsts (c .before .before .before .before .before .before .before .before .before .before .before .before .loop .inv .1 w) (c .before .before .before .before .before .before .before .before .before .before .before .loop-test .taken) (c .before .before .before .before .before .before .before .before .before .before .if1 .left)) .q) ((firsts (c .before .before .before .before .before .before .before .before .before .before .before .before .loop .inv .1 w) (c .before .before .before .before .before .before .before .before .before .before .before .loop-test .taken) (c .before .before .before .before .before .before .before .before .before .before .if1 .left)) .l) ((firsts (c .before .before .before .before .before .before .before .before .before .before .before .before .loop .inv .1 w) (c .before .before .before .before .before .before .before .before .before .before .before .loop-test .taken) (c .before .before .before .before .before .before .before .before .before .before .if1 .left)) .type-placed))) (c .before .before .before .before .before .before .before .check-type .last .1 .1 .1 .1 .1 .1 .1 .0) (c .before .before .before .w .given .1) (c .before .before .before .before .before .before .before .check-type .ensures (pacing-pair (c .before .before .before .before .before .before .before .before .before .before .before .before .loop .inv .1 w) (c .before .before .before .before .before .before .before .before .before .before .before .loop-test .taken) (c .before .before .before .before .before .before .before .before .before .before .if1 .left) (first-rest (c .before .before .before .before .before .before .before .before .before .before .before .before .loop .inv .1 w) (c .before .before .before .before .before .before .before .before .before .before .before .loop-test .taken) (c .before .before .before .before .before .before .before .before .before .before .if1 .left) (c .before .before .before .before .before .before .before .before .before .types-at .ensures .1 ((firsts (c .before .before .before .before .before .before .before .before .before .before .before .before .loop .inv .1 w) (c .before .before .before .before .before .before .before .before .before .before .before .loop-test .taken) (c .before .before .before .before .before .before .before .before .before .before .if1 .left)) .q) ((firsts (c .before .before .before .before .before .before .before .before .before .before .before .before .loop .inv .1 w) (c .before .before .before .before .before .before .before .before .before .before .before .loop-test .taken) (c .before .before .before .before .before .before .before .before .before .before .if1 .left)) .l) ((firsts (c .before .before .before .before .before .before .before .before .before .before .before .before .loop .inv .1 w) (c .before .before .before .before .before .before .before .before .before .before .before .loop-test .taken) (c .before .before .before .before .before .before .before .before .before .before .if1 .left)) .type-placed))))) (c .before .next-type .ensures ((firsts (c .before .before .before .before .before .before .before .before .before .before .before .before .loop .inv .1 w) (c .before .before .before .before .before .before .before .before .before .before .before .loop-test .taken) (c .before .before .before .before .before .before .before .before .before .before .if1 .left)) .p) ((firsts (c .before .before .before .before .before .before .before .before .before .before .before .before .loop .inv .1 w) (c .before .before .before .before .before .before .before .before .before .before .before .loop-test .taken) (c .before .before .before .before .before .before .before .before .before .before .if1 .left)) .k) ((firsts (c .before .before .before .before .before .before .before .before .before .before .before .before .loop .inv .1 w) (c .before .before .before .before .before .before .before .before .before .before .before .loop-test .taken) (c .before .before .before .before .before .before .before .before .before .before .if1 .left)) .spec-placed)) (c .next-type2 .ensures ((firsts (c .before .before .before .before .before .before .before .before .before .before .before .before .loop .inv .1 w) (c .before .before .before .before .before .before .before .before .before .before .before .loop-test .taken) (c .before .before .before .before .before .before .before .before .before .before .if1 .left)) .q) ((firsts (c .before .before .before .before .before .before .before .before .before .before .before .before .loop .inv .1 w) (c .before .before .before .before .before .before .before .before .before .before .before .loop-test .taken) (c .before .before .before .before .before .before .before .before .before .before .if1 .left)) .l) ((firsts (c .before .before .before .before .before .before .before .before .before .before .before .before .loop .inv .1 w) (c .before .before .before .before .before .before .before .before .before .before .before .loop-test .taken) (c .before .before .before .before .before .before .before .before .before .before .if1 .left)) .type-placed)))
 
 check-fields-copy-fields-requires : (t : ℕ) → check-fields-lts.Need-copy-fields-requires (
   types-in-reads.Asked,
@@ -443,7 +444,7 @@ check-fields-returns-3 : (t : ℕ) → check-fields-lts.Need-returns-3 (
 ) (check-fields-at t) check-fields.Post check-fields-Inv-loop check-fields-μ-loop
 check-fields-returns-3 t c = λ w. not-refused (c .before .before .before .before .copy-fields .last .1 .1 .1 .1 .0) _ ((c .before .before .before .before .copy-fields .ensures ((c .before .before .before .before .before .before .before .loop .inv .1 w) .lists .type-fields) ((c .before .before .before .before .before .before .before .loop .inv .1 w) .lists .type-listed) ((c .before .before .before .before .before .before .before .loop .inv .1 w) .lists .type-count) (pacing-fits (c .before .before .before .before .before .before .before .loop .inv .1 w) (omega (arith, c .before .before .before .before .before .before .before .before .before .before .before .before .pre .1 .1, c .before .before .before .before .before .before .before .loop .inv .0)))) .0) (c .enum-told2 .given .1)
 
-check-fields-sub-t33 : (t : ℕ) → check-fields-lts.Need-sub-t33 (
+check-fields-sub-t34 : (t : ℕ) → check-fields-lts.Need-sub-t34 (
   types-in-reads.Asked,
   types-in-reads.Learnt,
   types-at-reads.Asked,
@@ -455,9 +456,9 @@ check-fields-sub-t33 : (t : ℕ) → check-fields-lts.Need-sub-t33 (
   copy-fields-reads.Asked,
   copy-fields-reads.Learnt,
 ) (check-fields-at t) check-fields.Post check-fields-Inv-loop check-fields-μ-loop
-check-fields-sub-t33 t c = omega (arith, (c .before .before .before .before .before .before .before .before .loop .inv .1 (c .before .before .before .before .before .before .before .before .before .before .before .before .before .pre .1 .0)) .ahead)
+check-fields-sub-t34 t c = omega (arith, (c .before .before .before .before .before .before .before .before .loop .inv .1 (c .before .before .before .before .before .before .before .before .before .before .before .before .before .pre .1 .0)) .ahead)
 
-check-fields-add-t34 : (t : ℕ) → check-fields-lts.Need-add-t34 (
+check-fields-add-t35 : (t : ℕ) → check-fields-lts.Need-add-t35 (
   types-in-reads.Asked,
   types-in-reads.Learnt,
   types-at-reads.Asked,
@@ -469,7 +470,7 @@ check-fields-add-t34 : (t : ℕ) → check-fields-lts.Need-add-t34 (
   copy-fields-reads.Asked,
   copy-fields-reads.Learnt,
 ) (check-fields-at t) check-fields.Post check-fields-Inv-loop check-fields-μ-loop
-check-fields-add-t34 t c = let q = done-number (c .before .before .before .before .before .copy-fields .last .1 .1 .1 .1 .0) (take (c .before .before .before .before .before .before .before .before .loop .end) (c .before .before .before .before .before .before .before .before .loop .out)) ((c .before .before .before .before .before .before .before .before .loop .inv .1 (c .before .before .before .before .before .before .before .before .before .before .before .before .before .pre .1 .0)) .lists .type-fields) (c .before .w2 .given .1) ((c .before .before .before .before .before .copy-fields .ensures ((c .before .before .before .before .before .before .before .before .loop .inv .1 (c .before .before .before .before .before .before .before .before .before .before .before .before .before .pre .1 .0)) .lists .type-fields) ((c .before .before .before .before .before .before .before .before .loop .inv .1 (c .before .before .before .before .before .before .before .before .before .before .before .before .before .pre .1 .0)) .lists .type-listed) ((c .before .before .before .before .before .before .before .before .loop .inv .1 (c .before .before .before .before .before .before .before .before .before .before .before .before .before .pre .1 .0)) .lists .type-count) (pacing-fits (c .before .before .before .before .before .before .before .before .loop .inv .1 (c .before .before .before .before .before .before .before .before .before .before .before .before .before .pre .1 .0)) (omega (arith, c .before .before .before .before .before .before .before .before .before .before .before .before .before .pre .1 .1, c .before .before .before .before .before .before .before .before .loop .inv .0)))) .0) in omega (arith, q, (c .before .before .before .before .before .before .before .before .loop .inv .1 (c .before .before .before .before .before .before .before .before .before .before .before .before .before .pre .1 .0)) .ahead, (c .before .before .before .before .before .before .before .before .loop .inv .1 (c .before .before .before .before .before .before .before .before .before .before .before .before .before .pre .1 .0)) .number, pacing-few (c .before .before .before .before .before .before .before .before .loop .inv .1 (c .before .before .before .before .before .before .before .before .before .before .before .before .before .pre .1 .0)))
+check-fields-add-t35 t c = let q = done-number (c .before .before .before .before .before .copy-fields .last .1 .1 .1 .1 .0) (take (c .before .before .before .before .before .before .before .before .loop .end) (c .before .before .before .before .before .before .before .before .loop .out)) ((c .before .before .before .before .before .before .before .before .loop .inv .1 (c .before .before .before .before .before .before .before .before .before .before .before .before .before .pre .1 .0)) .lists .type-fields) (c .before .w2 .given .1) ((c .before .before .before .before .before .copy-fields .ensures ((c .before .before .before .before .before .before .before .before .loop .inv .1 (c .before .before .before .before .before .before .before .before .before .before .before .before .before .pre .1 .0)) .lists .type-fields) ((c .before .before .before .before .before .before .before .before .loop .inv .1 (c .before .before .before .before .before .before .before .before .before .before .before .before .before .pre .1 .0)) .lists .type-listed) ((c .before .before .before .before .before .before .before .before .loop .inv .1 (c .before .before .before .before .before .before .before .before .before .before .before .before .before .pre .1 .0)) .lists .type-count) (pacing-fits (c .before .before .before .before .before .before .before .before .loop .inv .1 (c .before .before .before .before .before .before .before .before .before .before .before .before .before .pre .1 .0)) (omega (arith, c .before .before .before .before .before .before .before .before .before .before .before .before .before .pre .1 .1, c .before .before .before .before .before .before .before .before .loop .inv .0)))) .0) in omega (arith, q, (c .before .before .before .before .before .before .before .before .loop .inv .1 (c .before .before .before .before .before .before .before .before .before .before .before .before .before .pre .1 .0)) .ahead, (c .before .before .before .before .before .before .before .before .loop .inv .1 (c .before .before .before .before .before .before .before .before .before .before .before .before .before .pre .1 .0)) .number, pacing-few (c .before .before .before .before .before .before .before .before .loop .inv .1 (c .before .before .before .before .before .before .before .before .before .before .before .before .before .pre .1 .0)))
 
 check-fields-same-length-4 : (t : ℕ) → check-fields-lts.Need-same-length-4 (
   types-in-reads.Asked,
@@ -979,7 +980,7 @@ check-scalar-at-same-length-4 : (t : ℕ) → check-scalar-at-lts.Need-same-leng
   check-fields-below t,
   check-fields.Post,
 ) (check-scalar-at-at t) check-scalar-at.Post
-check-scalar-at-same-length-4 t c = c .before .before .check-type .kept .1 .1 .1 .1 .1 .1 .0 ∙ c .before .before .before .before .before .before .put-box .kept .0
+check-scalar-at-same-length-4 t c = c .before .before .check-type .kept .1 .1 .1 .1 .1 .1 .1 .0 ∙ c .before .before .before .before .before .before .put-box .kept .0
 
 check-scalar-at-returns-5 : (t : ℕ) → check-scalar-at-lts.Need-returns-5 (
   plan-scalar-reads.Asked,
@@ -995,7 +996,7 @@ check-scalar-at-returns-5 : (t : ℕ) → check-scalar-at-lts.Need-returns-5 (
   check-fields-below t,
   check-fields.Post,
 ) (check-scalar-at-at t) check-scalar-at.Post
-check-scalar-at-returns-5 t c = λ w. let v = (plan-inside w (c .before .before .before .before .before .before .before .before .before .before .before .plan-scalar .result) (c .before .before .before .before .before .before .before .before .before .before .before .plan-scalar .ensures w) (c .before .before .before .before .before .before .before .before .before .plan2 .given .1)) in inside-done (take (c .before .before .before .before .before .before .before .before .before .before .before .before .before .before .before .args .to) (c .before .before .before .before .before .before .before .before .before .before .before .before .before .before .before .args .out .now)) (take (c .before .before .before .before .before .before .before .before .before .before .before .before .before .before .before .args .to + 6) (c .before .before .before .before .before .before .put-box .last .0)) (c .before .before .check-type .last .1 .1 .1 .1 .1 .1 .0) (inTurn (scalarOf ((c .before .before .before .before .before .before .before .before .before .before .before .before .before .before .before .args .others) + 1) ((c .before .before .before .before .before .before .before .before .before .before .before .before .before .before .before .args .above) + 1) (v .inner)) (shapeOf (v .inner))) (scalarOf (c .before .before .before .before .before .before .before .before .before .before .before .before .before .before .before .args .others) (c .before .before .before .before .before .before .before .before .before .before .before .before .before .before .before .args .above) w) (c .before .before .check-type .result) (c .before .before .before .before .before .before .before .before .before .before .before .before .before .before .before .args .to + 6) (c .before .before .before .before .before .before .before .before .before .before .before .before .before .before .before .args .to + 24) (c .before .before .check-type .ensures (v .inner)) (laid-behind (c .before .before .before .before .before .before .before .before .before .before .before .before .before .before .before .args .out .now) (boxStart 1) (c .before .before .before .before .before .before .before .before .before .before .before .before .before .before .before .args .to) refl (omega (arith, c .before .before .before .before .before .before .before .before .before .before .before .before .before .before .before .pre .1 .1)) (c .before .before .before .before .before .before .put-box .ensures)) (v .is) (omega arith)
+check-scalar-at-returns-5 t c = λ w. let v = (plan-inside w (c .before .before .before .before .before .before .before .before .before .before .before .plan-scalar .result) (c .before .before .before .before .before .before .before .before .before .before .before .plan-scalar .ensures w) (c .before .before .before .before .before .before .before .before .before .plan2 .given .1)) in inside-done (take (c .before .before .before .before .before .before .before .before .before .before .before .before .before .before .before .args .to) (c .before .before .before .before .before .before .before .before .before .before .before .before .before .before .before .args .out .now)) (take (c .before .before .before .before .before .before .before .before .before .before .before .before .before .before .before .args .to + 6) (c .before .before .before .before .before .before .put-box .last .0)) (c .before .before .check-type .last .1 .1 .1 .1 .1 .1 .1 .0) (inTurn (scalarOf ((c .before .before .before .before .before .before .before .before .before .before .before .before .before .before .before .args .others) + 1) ((c .before .before .before .before .before .before .before .before .before .before .before .before .before .before .before .args .above) + 1) (v .inner)) (shapeOf (v .inner))) (scalarOf (c .before .before .before .before .before .before .before .before .before .before .before .before .before .before .before .args .others) (c .before .before .before .before .before .before .before .before .before .before .before .before .before .before .before .args .above) w) (c .before .before .check-type .result) (c .before .before .before .before .before .before .before .before .before .before .before .before .before .before .before .args .to + 6) (c .before .before .before .before .before .before .before .before .before .before .before .before .before .before .before .args .to + 24) (c .before .before .check-type .ensures (v .inner)) (laid-behind (c .before .before .before .before .before .before .before .before .before .before .before .before .before .before .before .args .out .now) (boxStart 1) (c .before .before .before .before .before .before .before .before .before .before .before .before .before .before .before .args .to) refl (omega (arith, c .before .before .before .before .before .before .before .before .before .before .before .before .before .before .before .pre .1 .1)) (c .before .before .before .before .before .before .put-box .ensures)) (v .is) (omega arith)
 
 check-scalar-at-same-length-5 : (t : ℕ) → check-scalar-at-lts.Need-same-length-5 (
   plan-scalar-reads.Asked,
@@ -1181,7 +1182,7 @@ check-type-returns : (t : ℕ) → check-type-lts.Need-returns (
   check-scalar-at-below t,
   check-scalar-at.Post,
 ) (check-type-at t) check-type.Post
-check-type-returns t c = λ w. type-refused (take (c .before .before .before .before .before .before .before .before .before .before .before .before .before .before .before .before .before .before .args .to) (c .before .before .before .before .before .before .before .before .before .before .before .before .before .before .before .before .before .before .args .out .now)) (take (c .before .before .before .before .before .before .before .before .before .before .before .before .before .before .before .before .before .before .args .to + c .before .before .before .before .before .before .before .before .before .before .shape-length .result) (c .before .before .before .before .before .before .before .before .put-shape .last .0)) (c .before .before .before .before .check-scalar-at .last .1 .1 .1 .1 .1 .1 .0) (scalarOf (c .before .before .before .before .before .before .before .before .before .before .before .before .before .before .before .before .before .before .args .others) (c .before .before .before .before .before .before .before .before .before .before .before .before .before .before .before .before .before .before .args .above) w) (shapeOf w) (c .before .before .before .before .check-scalar-at .result) (c .before .before .before .before .check-scalar-at .ensures w .0) (c .before .before .before .before .before .before .before .before .before .before .before .before .before .before .before .before .before .before .args .to) (c .enum-told .given .1)
+check-type-returns t c = λ w. type-refused (take (c .before .before .before .before .before .before .before .before .before .before .before .before .before .before .before .before .before .before .args .to) (c .before .before .before .before .before .before .before .before .before .before .before .before .before .before .before .before .before .before .args .out .now)) (take (c .before .before .before .before .before .before .before .before .before .before .before .before .before .before .before .before .before .before .args .to + c .before .before .before .before .before .before .before .before .before .before .shape-length .result) (c .before .before .before .before .before .before .before .before .put-shape .last .0)) (c .before .before .before .before .check-scalar-at .last .1 .1 .1 .1 .1 .1 .0) (scalarOf (c .before .before .before .before .before .before .before .before .before .before .before .before .before .before .before .before .before .before .args .others) (c .before .before .before .before .before .before .before .before .before .before .before .before .before .before .before .before .before .before .args .above) w) (sidedOf (sideOf (c .before .before .before .before .before .before .before .before .before .before .before .before .before .before .before .before .before .before .args .side)) w) (c .before .before .before .before .check-scalar-at .result) (c .before .before .before .before .check-scalar-at .ensures w .0) (c .before .before .before .before .before .before .before .before .before .before .before .before .before .before .before .before .before .before .args .to) (c .enum-told .given .1)
 
 check-type-same-length-2 : (t : ℕ) → check-type-lts.Need-same-length-2 (
   shape-at-reads.Asked,
@@ -1209,7 +1210,7 @@ check-type-returns-2 : (t : ℕ) → check-type-lts.Need-returns-2 (
   check-scalar-at-below t,
   check-scalar-at.Post,
 ) (check-type-at t) check-type.Post
-check-type-returns-2 t c = λ w. (type-clash (take (c .before .before .before .before .before .before .before .before .before .before .before .before .before .before .before .before .before .before .before .before .args .to) (c .before .before .before .before .before .before .before .before .before .before .before .before .before .before .before .before .before .before .before .before .args .out .now)) (take (c .before .before .before .before .before .before .before .before .before .before .before .before .before .before .before .before .before .before .before .before .args .to + c .before .before .before .before .before .before .before .before .before .before .before .before .shape-length .result) (c .before .before .before .before .before .before .before .before .before .before .put-shape .last .0)) (c .before .before .before .before .before .before .check-scalar-at .last .1 .1 .1 .1 .1 .1 .0) (scalarOf (c .before .before .before .before .before .before .before .before .before .before .before .before .before .before .before .before .before .before .before .before .args .others) (c .before .before .before .before .before .before .before .before .before .before .before .before .before .before .before .before .before .before .before .before .args .above) w) (shapeOf w) (c .before .before .before .before .before .before .check-scalar-at .result) (c .before .before .before .before .before .before .check-scalar-at .ensures w .0) (c .before .before .w .given .1) (checked-clash (c .before .before .before .before .before .before .before .before .before .before .before .before .before .before .check-shapes .result) (c .before .before .before .before .before .before .before .before .before .before .before .before .before .before .check-shapes .ensures ∙ (ap (λ x. rules.checkShape rules.unsided x (shapeFor (c .before .before .before .before .before .before .before .before .before .before .before .before .before .before .before .shape-at2 .result))) (c .before .before .before .before .before .before .before .before .before .before .before .before .before .before .before .before .shape-at .ensures maxDepth (ty (w .spec-shape) (w .spec-scalar)) (type-at (w .spec-placed))) ∙ ap (rules.checkShape rules.unsided (w .spec-shape)) (c .before .before .before .before .before .before .before .before .before .before .before .before .before .before .before .shape-at2 .ensures maxDepth (ty (w .type-shape) (w .type-scalar)) (type-at (w .type-placed))))) (c .if1 .taken)), tt)
+check-type-returns-2 t c = λ w. (type-clash (take (c .before .before .before .before .before .before .before .before .before .before .before .before .before .before .before .before .before .before .before .before .args .to) (c .before .before .before .before .before .before .before .before .before .before .before .before .before .before .before .before .before .before .before .before .args .out .now)) (take (c .before .before .before .before .before .before .before .before .before .before .before .before .before .before .before .before .before .before .before .before .args .to + c .before .before .before .before .before .before .before .before .before .before .before .before .shape-length .result) (c .before .before .before .before .before .before .before .before .before .before .put-shape .last .0)) (c .before .before .before .before .before .before .check-scalar-at .last .1 .1 .1 .1 .1 .1 .0) (scalarOf (c .before .before .before .before .before .before .before .before .before .before .before .before .before .before .before .before .before .before .before .before .args .others) (c .before .before .before .before .before .before .before .before .before .before .before .before .before .before .before .before .before .before .before .before .args .above) w) (sidedOf (sideOf (c .before .before .before .before .before .before .before .before .before .before .before .before .before .before .before .before .before .before .before .before .args .side)) w) (c .before .before .before .before .before .before .check-scalar-at .result) (c .before .before .before .before .before .before .check-scalar-at .ensures w .0) (c .before .before .w .given .1) (checked-clash (c .before .before .before .before .before .before .before .before .before .before .before .before .before .before .check-shapes .result) (c .before .before .before .before .before .before .before .before .before .before .before .before .before .before .check-shapes .ensures ∙ (ap (λ x. rules.checkShape (sideOf (c .before .before .before .before .before .before .before .before .before .before .before .before .before .before .before .before .before .before .before .before .args .side)) x (shapeFor (c .before .before .before .before .before .before .before .before .before .before .before .before .before .before .before .shape-at2 .result))) (c .before .before .before .before .before .before .before .before .before .before .before .before .before .before .before .before .shape-at .ensures maxDepth (ty (w .spec-shape) (w .spec-scalar)) (type-at (w .spec-placed))) ∙ ap (rules.checkShape (sideOf (c .before .before .before .before .before .before .before .before .before .before .before .before .before .before .before .before .before .before .before .before .args .side)) (w .spec-shape)) (c .before .before .before .before .before .before .before .before .before .before .before .before .before .before .before .shape-at2 .ensures maxDepth (ty (w .type-shape) (w .type-scalar)) (type-at (w .type-placed))))) (c .if1 .taken)), tt)
 
 check-type-add-t24 : (t : ℕ) → check-type-lts.Need-add-t24 (
   shape-at-reads.Asked,
@@ -1251,7 +1252,7 @@ check-type-returns-3 : (t : ℕ) → check-type-lts.Need-returns-3 (
   check-scalar-at-below t,
   check-scalar-at.Post,
 ) (check-type-at t) check-type.Post
-check-type-returns-3 t c = λ w. (type-done (take (c .before .before .before .before .before .before .before .before .before .before .before .before .before .before .before .before .before .before .before .before .args .to) (c .before .before .before .before .before .before .before .before .before .before .before .before .before .before .before .before .before .before .before .before .args .out .now)) (take (c .before .before .before .before .before .before .before .before .before .before .before .before .before .before .before .before .before .before .before .before .args .to + c .before .before .before .before .before .before .before .before .before .before .before .before .shape-length .result) (c .before .before .before .before .before .before .before .before .before .before .put-shape .last .0)) (c .before .before .before .before .before .before .check-scalar-at .last .1 .1 .1 .1 .1 .1 .0) (scalarOf (c .before .before .before .before .before .before .before .before .before .before .before .before .before .before .before .before .before .before .before .before .args .others) (c .before .before .before .before .before .before .before .before .before .before .before .before .before .before .before .before .before .before .before .before .args .above) w) (shapeOf w) (c .before .before .before .before .before .before .check-scalar-at .result) (c .before .before .before .before .before .before .check-scalar-at .ensures w .0) (c .before .before .w .given .1) (shapeFor (c .before .before .before .before .before .before .before .before .before .before .before .before .before .before .check-shapes .result .shape)) (checked-fits (c .before .before .before .before .before .before .before .before .before .before .before .before .before .before .check-shapes .result) (c .before .before .before .before .before .before .before .before .before .before .before .before .before .before .check-shapes .ensures ∙ (ap (λ x. rules.checkShape rules.unsided x (shapeFor (c .before .before .before .before .before .before .before .before .before .before .before .before .before .before .before .shape-at2 .result))) (c .before .before .before .before .before .before .before .before .before .before .before .before .before .before .before .before .shape-at .ensures maxDepth (ty (w .spec-shape) (w .spec-scalar)) (type-at (w .spec-placed))) ∙ ap (rules.checkShape rules.unsided (w .spec-shape)) (c .before .before .before .before .before .before .before .before .before .before .before .before .before .before .before .shape-at2 .ensures maxDepth (ty (w .type-shape) (w .type-scalar)) (type-at (w .type-placed))))) (c .if1 .left)) (let r = some-left (c .before .before .before .before .before .before .before .before .before .before .before .before .before .before .before .before .before .before .before .before .args .others) (c .before .before .before .before .before .before .before .before .before .before .before .before .before .before .before .before .before .before .before .before .args .above) ((c .before .before .before .before .before .before .before .before .before .before .before .before .before .before .before .before .before .before .before .before .pre .1 .0) .type-scalar) ((c .before .before .before .before .before .before .before .before .before .before .before .before .before .before .before .before .before .before .before .before .pre .1 .0) .limits) in laid-behind (c .before .before .before .before .before .before .before .before .before .before .before .before .before .before .before .before .before .before .before .before .args .out .now) (writeShape (shapeFor (c .before .before .before .before .before .before .before .before .before .before .before .before .before .before .check-shapes .result .shape))) (c .before .before .before .before .before .before .before .before .before .before .before .before .before .before .before .before .before .before .before .before .args .to) {end = (c .before .before .before .before .before .before .before .before .before .before .before .before .before .before .before .before .before .before .before .before .args .to + c .before .before .before .before .before .before .before .before .before .before .before .before .shape-length .result)} (omega (arith, c .before .before .before .before .before .before .before .before .before .before .before .before .shape-length .ensures .0, c .before .before .before .before .before .before .before .before .before .before .before .before .shape-length .ensures .1)) (omega (arith, c .before .before .before .before .before .before .before .before .before .before .before .before .shape-length .ensures .0, c .before .before .before .before .before .before .before .before .before .before .before .before .shape-length .ensures .1, c .before .before .before .before .before .before .before .before .before .before .before .before .before .before .before .before .before .before .before .before .pre .1 .1, r .0)) (c .before .before .before .before .before .before .before .before .before .before .put-shape .ensures .1)), omega (arith, c .before .before .before .before .before .before .before .before .before .before .before .before .shape-length .ensures .0, c .before .before .before .before .before .before .before .before .before .before .before .before .shape-length .ensures .1, roomy-done ((c .before .before .before .before .before .before .before .before .before .before .before .before .before .before .before .before .before .before .before .before .args .to + c .before .before .before .before .before .before .before .before .before .before .before .before .shape-length .result) + 24) (c .before .before .w .given .1) (c .before .before .before .before .before .before .check-scalar-at .ensures w .1)))
+check-type-returns-3 t c = λ w. (type-done (take (c .before .before .before .before .before .before .before .before .before .before .before .before .before .before .before .before .before .before .before .before .args .to) (c .before .before .before .before .before .before .before .before .before .before .before .before .before .before .before .before .before .before .before .before .args .out .now)) (take (c .before .before .before .before .before .before .before .before .before .before .before .before .before .before .before .before .before .before .before .before .args .to + c .before .before .before .before .before .before .before .before .before .before .before .before .shape-length .result) (c .before .before .before .before .before .before .before .before .before .before .put-shape .last .0)) (c .before .before .before .before .before .before .check-scalar-at .last .1 .1 .1 .1 .1 .1 .0) (scalarOf (c .before .before .before .before .before .before .before .before .before .before .before .before .before .before .before .before .before .before .before .before .args .others) (c .before .before .before .before .before .before .before .before .before .before .before .before .before .before .before .before .before .before .before .before .args .above) w) (sidedOf (sideOf (c .before .before .before .before .before .before .before .before .before .before .before .before .before .before .before .before .before .before .before .before .args .side)) w) (c .before .before .before .before .before .before .check-scalar-at .result) (c .before .before .before .before .before .before .check-scalar-at .ensures w .0) (c .before .before .w .given .1) (shapeFor (c .before .before .before .before .before .before .before .before .before .before .before .before .before .before .check-shapes .result .shape)) (checked-fits (c .before .before .before .before .before .before .before .before .before .before .before .before .before .before .check-shapes .result) (c .before .before .before .before .before .before .before .before .before .before .before .before .before .before .check-shapes .ensures ∙ (ap (λ x. rules.checkShape (sideOf (c .before .before .before .before .before .before .before .before .before .before .before .before .before .before .before .before .before .before .before .before .args .side)) x (shapeFor (c .before .before .before .before .before .before .before .before .before .before .before .before .before .before .before .shape-at2 .result))) (c .before .before .before .before .before .before .before .before .before .before .before .before .before .before .before .before .shape-at .ensures maxDepth (ty (w .spec-shape) (w .spec-scalar)) (type-at (w .spec-placed))) ∙ ap (rules.checkShape (sideOf (c .before .before .before .before .before .before .before .before .before .before .before .before .before .before .before .before .before .before .before .before .args .side)) (w .spec-shape)) (c .before .before .before .before .before .before .before .before .before .before .before .before .before .before .before .shape-at2 .ensures maxDepth (ty (w .type-shape) (w .type-scalar)) (type-at (w .type-placed))))) (c .if1 .left)) (let r = some-left (c .before .before .before .before .before .before .before .before .before .before .before .before .before .before .before .before .before .before .before .before .args .others) (c .before .before .before .before .before .before .before .before .before .before .before .before .before .before .before .before .before .before .before .before .args .above) ((c .before .before .before .before .before .before .before .before .before .before .before .before .before .before .before .before .before .before .before .before .pre .1 .0) .type-scalar) ((c .before .before .before .before .before .before .before .before .before .before .before .before .before .before .before .before .before .before .before .before .pre .1 .0) .limits) in laid-behind (c .before .before .before .before .before .before .before .before .before .before .before .before .before .before .before .before .before .before .before .before .args .out .now) (writeShape (shapeFor (c .before .before .before .before .before .before .before .before .before .before .before .before .before .before .check-shapes .result .shape))) (c .before .before .before .before .before .before .before .before .before .before .before .before .before .before .before .before .before .before .before .before .args .to) {end = (c .before .before .before .before .before .before .before .before .before .before .before .before .before .before .before .before .before .before .before .before .args .to + c .before .before .before .before .before .before .before .before .before .before .before .before .shape-length .result)} (omega (arith, c .before .before .before .before .before .before .before .before .before .before .before .before .shape-length .ensures .0, c .before .before .before .before .before .before .before .before .before .before .before .before .shape-length .ensures .1)) (omega (arith, c .before .before .before .before .before .before .before .before .before .before .before .before .shape-length .ensures .0, c .before .before .before .before .before .before .before .before .before .before .before .before .shape-length .ensures .1, c .before .before .before .before .before .before .before .before .before .before .before .before .before .before .before .before .before .before .before .before .pre .1 .1, r .0)) (c .before .before .before .before .before .before .before .before .before .before .put-shape .ensures .1)), omega (arith, c .before .before .before .before .before .before .before .before .before .before .before .before .shape-length .ensures .0, c .before .before .before .before .before .before .before .before .before .before .before .before .shape-length .ensures .1, roomy-done ((c .before .before .before .before .before .before .before .before .before .before .before .before .before .before .before .before .before .before .before .before .args .to + c .before .before .before .before .before .before .before .before .before .before .before .before .shape-length .result) + 24) (c .before .before .w .given .1) (c .before .before .before .before .before .before .check-scalar-at .ensures w .1)))
 
 pub +check-fields+check-scalar-at+check-type-spec : {M : Type 1} → statement M
 +check-fields+check-scalar-at+check-type-spec =
@@ -1296,8 +1297,8 @@ pub +check-fields+check-scalar-at+check-type-spec : {M : Type 1} → statement M
     (check-fields-enum-told-2 t)
     (check-fields-same-length-3 t)
     (check-fields-returns-3 t)
-    (check-fields-sub-t33 t)
-    (check-fields-add-t34 t)
+    (check-fields-sub-t34 t)
+    (check-fields-add-t35 t)
     (check-fields-same-length-4 t)
     (check-fields-returns-4 t))
     (λ t. check-scalar-at-lts.spec (

@@ -1,0 +1,108 @@
+use borrow.Author.Needs.{needs}
+use native.Mathlib.Omega.{arith}
+use mathlib.Core.Path.{_≡_, refl, sym, ap, _∙_}
+use mathlib.Core.List.{[]}
+use Prim.Native.Nat.{_+_, _≤_}
+use lib.ListN.{length, take}
+use lib.Seq.{length-take-le}
+use Rattle.model.specs.Limits.{maxDepth}
+use Rattle.model.specs.Types.{ty}
+use Rattle.format.specs.Records.{writeShape}
+use Rattle.format.specs.Outcome.{lone, deliver}
+use Rattle.lent.specs.Delivers.{deliver-refused}
+use Rattle.record.specs.Answers.{loneOf, shapeFor}
+use Rattle.validation.specs.CheckScalar.{inTurn}
+use Rattle.validate.specs.Answers.{sideOf}
+use Rattle.validate.specs.Plans.{scalarOf, sidedOf}
+use Rattle.validate.proofs.CallLaws.{both-refused}
+use Rattle.validate.proofs.PlanLaws.{type-at}
+use Rattle.validate.proofs.WalkLaws.{roomy-done, laid-behind, scalar-few}
+use Rattle.validate.proofs.WholeLaws.{lones, validated, scalar-checked, type-written, type-not, scalar-written, scalar-not, type-few}
+use borrow.Author.Needs.{needs}
+use Rattle.validate.proofs.calls.check_scalar.Statement.{statement}
+use Rattle.validate.proofs.calls.check_scalar.Tie as tie
+use Rattle.validate.proofs.calls.check_scalar.Reads as reads
+use Rattle.validate.proofs.calls.check_scalar.Lts as lts
+use Rattle.lent.proofs.hand_over.Reads as hand-over-reads
+use Rattle.record.proofs.read_both.Reads as read-both-reads
+use Rattle.scalar.proofs.shape_at.Reads as shape-at-reads
+use Rattle.validate.proofs.walk.check_scalar_at.Reads as check-scalar-at-reads
+use Rattle.writer.proofs.put_shape.Reads as put-shape-reads
+use Rattle.writer.proofs.shape_length.Reads as shape-length-reads
+
+read-both-requires : tie.Need-read-both-requires
+read-both-requires c κs = search needs
+
+enum-known-read : tie.Need-enum-known-read
+enum-known-read c = search needs
+
+returns : tie.Need-returns
+returns c = sym (deliver-refused _ (both-refused (lone (c .before .before .before .before .before .before .before .args .spec .now)) (lone (c .before .before .before .before .before .before .before .args .ty .now)) _ (sym (c .before .before .before .read-both .ensures) ∙ ap loneOf (c .before .read .given .1))))
+
+enum-told : tie.Need-enum-told
+enum-told c = search needs
+
+shape-at-requires : tie.Need-shape-at-requires
+shape-at-requires c κs = search needs
+
+shape-length-requires : tie.Need-shape-length-requires
+shape-length-requires c κs = search needs
+
+slice-aggregate-put-shape : tie.Need-slice-aggregate-put-shape
+slice-aggregate-put-shape c = search needs
+
+put-shape-requires : tie.Need-put-shape-requires
+put-shape-requires c κs = search needs
+
+slice-aggregate-check-scalar-at : tie.Need-slice-aggregate-check-scalar-at
+slice-aggregate-check-scalar-at c = search needs
+
+check-scalar-at-requires : tie.Need-check-scalar-at-requires
+check-scalar-at-requires c κs = (((lones (c .before .before .before .before .before .before .before .before .before .before .before .before .args .spec .now) (c .before .before .before .before .before .before .before .before .before .before .before .before .args .ty .now) (λ i. omega (arith, c .before .before .before .before .before .before .before .before .before .before .before .shared-slice-known .given i)) (λ i. omega (arith, c .before .before .before .before .before .before .before .before .before .before .shared-slice-known2 .given i)) (sym (c .before .before .before .before .before .before .before .before .read-both .ensures) ∙ ap loneOf (c .before .before .before .before .before .before .enum-told .given .1))) .pair), omega (arith, c .before .before .before .before .shape-length .ensures .0, c .before .before .before .before .shape-length .ensures .1, c .before .before .put-shape .kept .0))
+
+enum-known-w : tie.Need-enum-known-w
+enum-known-w c = search needs
+
+array-share-prefix-out : tie.Need-array-share-prefix-out
+array-share-prefix-out c = omega (arith, c .before .before .before .before .before .before .before .before .before .shape-length .ensures .0, c .before .before .before .before .before .before .before .before .before .shape-length .ensures .1, roomy-done (c .before .before .before .before .before .before .before .before .before .shape-length .result + 24) (c .before .w .given .1) (c .before .before .before .before .check-scalar-at .ensures ((lones (c .before .before .before .before .before .before .before .before .before .before .before .before .before .before .before .before .before .args .spec .now) (c .before .before .before .before .before .before .before .before .before .before .before .before .before .before .before .before .before .args .ty .now) (λ i. omega (arith, c .before .before .before .before .before .before .before .before .before .before .before .before .before .before .before .before .shared-slice-known .given i)) (λ i. omega (arith, c .before .before .before .before .before .before .before .before .before .before .before .before .before .before .before .shared-slice-known2 .given i)) (sym (c .before .before .before .before .before .before .before .before .before .before .before .before .before .read-both .ensures) ∙ ap loneOf (c .before .before .before .before .before .before .before .before .before .before .before .enum-told .given .1))) .pair) .1), scalar-few ((lones (c .before .before .before .before .before .before .before .before .before .before .before .before .before .before .before .before .before .args .spec .now) (c .before .before .before .before .before .before .before .before .before .before .before .before .before .before .before .before .before .args .ty .now) (λ i. omega (arith, c .before .before .before .before .before .before .before .before .before .before .before .before .before .before .before .before .shared-slice-known .given i)) (λ i. omega (arith, c .before .before .before .before .before .before .before .before .before .before .before .before .before .before .before .shared-slice-known2 .given i)) (sym (c .before .before .before .before .before .before .before .before .before .before .before .before .before .read-both .ensures) ∙ ap loneOf (c .before .before .before .before .before .before .before .before .before .before .before .enum-told .given .1))) .pair) (c .before .before .before .before .check-scalar-at .last .1 .1 .1 .1 .1 .1 .0) (take (c .before .before .before .before .before .before .before .before .before .shape-length .result) (c .before .before .before .before .before .before .before .put-shape .last .0)) (c .before .w .given .1) (c .before .before .before .before .check-scalar-at .ensures ((lones (c .before .before .before .before .before .before .before .before .before .before .before .before .before .before .before .before .before .args .spec .now) (c .before .before .before .before .before .before .before .before .before .before .before .before .before .before .before .before .before .args .ty .now) (λ i. omega (arith, c .before .before .before .before .before .before .before .before .before .before .before .before .before .before .before .before .shared-slice-known .given i)) (λ i. omega (arith, c .before .before .before .before .before .before .before .before .before .before .before .before .before .before .before .shared-slice-known2 .given i)) (sym (c .before .before .before .before .before .before .before .before .before .before .before .before .before .read-both .ensures) ∙ ap loneOf (c .before .before .before .before .before .before .before .before .before .before .before .enum-told .given .1))) .pair) .0))
+
+slice-aggregate-hand-over : tie.Need-slice-aggregate-hand-over
+slice-aggregate-hand-over c = sym (length-take-le _ _ (omega (arith, c .before .before .before .before .before .before .before .before .before .before .shape-length .ensures .0, c .before .before .before .before .before .before .before .before .before .before .shape-length .ensures .1, roomy-done (c .before .before .before .before .before .before .before .before .before .before .shape-length .result + 24) (c .before .before .w .given .1) (c .before .before .before .before .before .check-scalar-at .ensures ((lones (c .before .before .before .before .before .before .before .before .before .before .before .before .before .before .before .before .before .before .args .spec .now) (c .before .before .before .before .before .before .before .before .before .before .before .before .before .before .before .before .before .before .args .ty .now) (λ i. omega (arith, c .before .before .before .before .before .before .before .before .before .before .before .before .before .before .before .before .before .shared-slice-known .given i)) (λ i. omega (arith, c .before .before .before .before .before .before .before .before .before .before .before .before .before .before .before .before .shared-slice-known2 .given i)) (sym (c .before .before .before .before .before .before .before .before .before .before .before .before .before .before .read-both .ensures) ∙ ap loneOf (c .before .before .before .before .before .before .before .before .before .before .before .before .enum-told .given .1))) .pair) .1), scalar-few ((lones (c .before .before .before .before .before .before .before .before .before .before .before .before .before .before .before .before .before .before .args .spec .now) (c .before .before .before .before .before .before .before .before .before .before .before .before .before .before .before .before .before .before .args .ty .now) (λ i. omega (arith, c .before .before .before .before .before .before .before .before .before .before .before .before .before .before .before .before .before .shared-slice-known .given i)) (λ i. omega (arith, c .before .before .before .before .before .before .before .before .before .before .before .before .before .before .before .before .shared-slice-known2 .given i)) (sym (c .before .before .before .before .before .before .before .before .before .before .before .before .before .before .read-both .ensures) ∙ ap loneOf (c .before .before .before .before .before .before .before .before .before .before .before .before .enum-told .given .1))) .pair) (c .before .before .before .before .before .check-scalar-at .last .1 .1 .1 .1 .1 .1 .0) (take (c .before .before .before .before .before .before .before .before .before .before .shape-length .result) (c .before .before .before .before .before .before .before .before .put-shape .last .0)) (c .before .before .w .given .1) (c .before .before .before .before .before .check-scalar-at .ensures ((lones (c .before .before .before .before .before .before .before .before .before .before .before .before .before .before .before .before .before .before .args .spec .now) (c .before .before .before .before .before .before .before .before .before .before .before .before .before .before .before .before .before .before .args .ty .now) (λ i. omega (arith, c .before .before .before .before .before .before .before .before .before .before .before .before .before .before .before .before .before .shared-slice-known .given i)) (λ i. omega (arith, c .before .before .before .before .before .before .before .before .before .before .before .before .before .before .before .before .shared-slice-known2 .given i)) (sym (c .before .before .before .before .before .before .before .before .before .before .before .before .before .before .read-both .ensures) ∙ ap loneOf (c .before .before .before .before .before .before .before .before .before .before .before .before .enum-told .given .1))) .pair) .0), c .before .before .before .before .before .check-scalar-at .kept .1 .1 .1 .1 .1 .1 .0, c .before .before .before .before .before .before .before .before .put-shape .kept .0)))
+
+hand-over-requires : tie.Need-hand-over-requires
+hand-over-requires c κs = search needs
+
+enum-known-w-2 : tie.Need-enum-known-w-2
+enum-known-w-2 c = search needs
+
+same-length : tie.Need-same-length
+same-length c = search needs
+
+returns-2 : tie.Need-returns-2
+returns-2 c = c .before .before .hand-over .ensures ∙ sym (ap (λ o. deliver o (c .before .before .before .before .before .before .before .before .before .before .before .before .before .before .before .before .before .before .before .before .before .before .args .result .now)) (scalar-checked (lones (c .before .before .before .before .before .before .before .before .before .before .before .before .before .before .before .before .before .before .before .before .before .before .args .spec .now) (c .before .before .before .before .before .before .before .before .before .before .before .before .before .before .before .before .before .before .before .before .before .before .args .ty .now) (λ i. omega (arith, c .before .before .before .before .before .before .before .before .before .before .before .before .before .before .before .before .before .before .before .before .before .shared-slice-known .given i)) (λ i. omega (arith, c .before .before .before .before .before .before .before .before .before .before .before .before .before .before .before .before .before .before .before .before .shared-slice-known2 .given i)) (sym (c .before .before .before .before .before .before .before .before .before .before .before .before .before .before .before .before .before .before .read-both .ensures) ∙ ap loneOf (c .before .before .before .before .before .before .before .before .before .before .before .before .before .before .before .before .enum-told .given .1))) ∙ scalar-written (((lones (c .before .before .before .before .before .before .before .before .before .before .before .before .before .before .before .before .before .before .before .before .before .before .args .spec .now) (c .before .before .before .before .before .before .before .before .before .before .before .before .before .before .before .before .before .before .before .before .before .before .args .ty .now) (λ i. omega (arith, c .before .before .before .before .before .before .before .before .before .before .before .before .before .before .before .before .before .before .before .before .before .shared-slice-known .given i)) (λ i. omega (arith, c .before .before .before .before .before .before .before .before .before .before .before .before .before .before .before .before .before .before .before .before .shared-slice-known2 .given i)) (sym (c .before .before .before .before .before .before .before .before .before .before .before .before .before .before .before .before .before .before .read-both .ensures) ∙ ap loneOf (c .before .before .before .before .before .before .before .before .before .before .before .before .before .before .before .before .enum-told .given .1))) .pair) .type-shape) (take (c .before .before .before .before .before .before .before .before .before .before .before .before .before .before .shape-length .result) (c .before .before .before .before .before .before .before .before .before .before .before .before .put-shape .last .0)) (laid-behind _ (writeShape (shapeFor (c .before .before .before .before .before .before .before .before .before .before .before .before .before .before .before .shape-at .result))) 0 {end = c .before .before .before .before .before .before .before .before .before .before .before .before .before .before .shape-length .result} (omega (arith, c .before .before .before .before .before .before .before .before .before .before .before .before .before .before .shape-length .ensures .0, c .before .before .before .before .before .before .before .before .before .before .before .before .before .before .shape-length .ensures .1)) (omega (arith, c .before .before .before .before .before .before .before .before .before .before .before .before .before .before .shape-length .ensures .0, c .before .before .before .before .before .before .before .before .before .before .before .before .before .before .shape-length .ensures .1)) (c .before .before .before .before .before .before .before .before .before .before .before .before .put-shape .ensures .1) ∙ ap writeShape (c .before .before .before .before .before .before .before .before .before .before .before .before .before .before .before .shape-at .ensures maxDepth (ty (((lones (c .before .before .before .before .before .before .before .before .before .before .before .before .before .before .before .before .before .before .before .before .before .before .args .spec .now) (c .before .before .before .before .before .before .before .before .before .before .before .before .before .before .before .before .before .before .before .before .before .before .args .ty .now) (λ i. omega (arith, c .before .before .before .before .before .before .before .before .before .before .before .before .before .before .before .before .before .before .before .before .before .shared-slice-known .given i)) (λ i. omega (arith, c .before .before .before .before .before .before .before .before .before .before .before .before .before .before .before .before .before .before .before .before .shared-slice-known2 .given i)) (sym (c .before .before .before .before .before .before .before .before .before .before .before .before .before .before .before .before .before .before .read-both .ensures) ∙ ap loneOf (c .before .before .before .before .before .before .before .before .before .before .before .before .before .before .before .before .enum-told .given .1))) .pair) .type-shape) (((lones (c .before .before .before .before .before .before .before .before .before .before .before .before .before .before .before .before .before .before .before .before .before .before .args .spec .now) (c .before .before .before .before .before .before .before .before .before .before .before .before .before .before .before .before .before .before .before .before .before .before .args .ty .now) (λ i. omega (arith, c .before .before .before .before .before .before .before .before .before .before .before .before .before .before .before .before .before .before .before .before .before .shared-slice-known .given i)) (λ i. omega (arith, c .before .before .before .before .before .before .before .before .before .before .before .before .before .before .before .before .before .before .before .before .shared-slice-known2 .given i)) (sym (c .before .before .before .before .before .before .before .before .before .before .before .before .before .before .before .before .before .before .read-both .ensures) ∙ ap loneOf (c .before .before .before .before .before .before .before .before .before .before .before .before .before .before .before .before .enum-told .given .1))) .pair) .type-scalar)) (type-at (((lones (c .before .before .before .before .before .before .before .before .before .before .before .before .before .before .before .before .before .before .before .before .before .before .args .spec .now) (c .before .before .before .before .before .before .before .before .before .before .before .before .before .before .before .before .before .before .before .before .before .before .args .ty .now) (λ i. omega (arith, c .before .before .before .before .before .before .before .before .before .before .before .before .before .before .before .before .before .before .before .before .before .shared-slice-known .given i)) (λ i. omega (arith, c .before .before .before .before .before .before .before .before .before .before .before .before .before .before .before .before .before .before .before .before .shared-slice-known2 .given i)) (sym (c .before .before .before .before .before .before .before .before .before .before .before .before .before .before .before .before .before .before .read-both .ensures) ∙ ap loneOf (c .before .before .before .before .before .before .before .before .before .before .before .before .before .before .before .before .enum-told .given .1))) .pair) .type-placed)))) (scalarOf 0 0 ((lones (c .before .before .before .before .before .before .before .before .before .before .before .before .before .before .before .before .before .before .before .before .before .before .args .spec .now) (c .before .before .before .before .before .before .before .before .before .before .before .before .before .before .before .before .before .before .before .before .before .before .args .ty .now) (λ i. omega (arith, c .before .before .before .before .before .before .before .before .before .before .before .before .before .before .before .before .before .before .before .before .before .shared-slice-known .given i)) (λ i. omega (arith, c .before .before .before .before .before .before .before .before .before .before .before .before .before .before .before .before .before .before .before .before .shared-slice-known2 .given i)) (sym (c .before .before .before .before .before .before .before .before .before .before .before .before .before .before .before .before .before .before .read-both .ensures) ∙ ap loneOf (c .before .before .before .before .before .before .before .before .before .before .before .before .before .before .before .before .enum-told .given .1))) .pair)) (c .before .before .before .before .before .before .before .before .before .check-scalar-at .last .1 .1 .1 .1 .1 .1 .0) (c .before .before .before .before .before .before .before .before .before .check-scalar-at .ensures ((lones (c .before .before .before .before .before .before .before .before .before .before .before .before .before .before .before .before .before .before .before .before .before .before .args .spec .now) (c .before .before .before .before .before .before .before .before .before .before .before .before .before .before .before .before .before .before .before .before .before .before .args .ty .now) (λ i. omega (arith, c .before .before .before .before .before .before .before .before .before .before .before .before .before .before .before .before .before .before .before .before .before .shared-slice-known .given i)) (λ i. omega (arith, c .before .before .before .before .before .before .before .before .before .before .before .before .before .before .before .before .before .before .before .before .shared-slice-known2 .given i)) (sym (c .before .before .before .before .before .before .before .before .before .before .before .before .before .before .before .before .before .before .read-both .ensures) ∙ ap loneOf (c .before .before .before .before .before .before .before .before .before .before .before .before .before .before .before .before .enum-told .given .1))) .pair) .0) (c .before .before .before .before .before .before .w .given .1)))
+
+returns-3 : tie.Need-returns-3
+returns-3 c = sym (deliver-refused _ (scalar-checked (lones (c .before .before .before .before .before .before .before .before .before .before .before .before .before .before .before .before .before .args .spec .now) (c .before .before .before .before .before .before .before .before .before .before .before .before .before .before .before .before .before .args .ty .now) (λ i. omega (arith, c .before .before .before .before .before .before .before .before .before .before .before .before .before .before .before .before .shared-slice-known .given i)) (λ i. omega (arith, c .before .before .before .before .before .before .before .before .before .before .before .before .before .before .before .shared-slice-known2 .given i)) (sym (c .before .before .before .before .before .before .before .before .before .before .before .before .before .read-both .ensures) ∙ ap loneOf (c .before .before .before .before .before .before .before .before .before .before .before .enum-told .given .1))) ∙ scalar-not (((lones (c .before .before .before .before .before .before .before .before .before .before .before .before .before .before .before .before .before .args .spec .now) (c .before .before .before .before .before .before .before .before .before .before .before .before .before .before .before .before .before .args .ty .now) (λ i. omega (arith, c .before .before .before .before .before .before .before .before .before .before .before .before .before .before .before .before .shared-slice-known .given i)) (λ i. omega (arith, c .before .before .before .before .before .before .before .before .before .before .before .before .before .before .before .shared-slice-known2 .given i)) (sym (c .before .before .before .before .before .before .before .before .before .before .before .before .before .read-both .ensures) ∙ ap loneOf (c .before .before .before .before .before .before .before .before .before .before .before .enum-told .given .1))) .pair) .type-shape) (take (c .before .before .before .before .before .before .before .before .before .shape-length .result) (c .before .before .before .before .before .before .before .put-shape .last .0)) (laid-behind _ (writeShape (shapeFor (c .before .before .before .before .before .before .before .before .before .before .shape-at .result))) 0 {end = c .before .before .before .before .before .before .before .before .before .shape-length .result} (omega (arith, c .before .before .before .before .before .before .before .before .before .shape-length .ensures .0, c .before .before .before .before .before .before .before .before .before .shape-length .ensures .1)) (omega (arith, c .before .before .before .before .before .before .before .before .before .shape-length .ensures .0, c .before .before .before .before .before .before .before .before .before .shape-length .ensures .1)) (c .before .before .before .before .before .before .before .put-shape .ensures .1) ∙ ap writeShape (c .before .before .before .before .before .before .before .before .before .before .shape-at .ensures maxDepth (ty (((lones (c .before .before .before .before .before .before .before .before .before .before .before .before .before .before .before .before .before .args .spec .now) (c .before .before .before .before .before .before .before .before .before .before .before .before .before .before .before .before .before .args .ty .now) (λ i. omega (arith, c .before .before .before .before .before .before .before .before .before .before .before .before .before .before .before .before .shared-slice-known .given i)) (λ i. omega (arith, c .before .before .before .before .before .before .before .before .before .before .before .before .before .before .before .shared-slice-known2 .given i)) (sym (c .before .before .before .before .before .before .before .before .before .before .before .before .before .read-both .ensures) ∙ ap loneOf (c .before .before .before .before .before .before .before .before .before .before .before .enum-told .given .1))) .pair) .type-shape) (((lones (c .before .before .before .before .before .before .before .before .before .before .before .before .before .before .before .before .before .args .spec .now) (c .before .before .before .before .before .before .before .before .before .before .before .before .before .before .before .before .before .args .ty .now) (λ i. omega (arith, c .before .before .before .before .before .before .before .before .before .before .before .before .before .before .before .before .shared-slice-known .given i)) (λ i. omega (arith, c .before .before .before .before .before .before .before .before .before .before .before .before .before .before .before .shared-slice-known2 .given i)) (sym (c .before .before .before .before .before .before .before .before .before .before .before .before .before .read-both .ensures) ∙ ap loneOf (c .before .before .before .before .before .before .before .before .before .before .before .enum-told .given .1))) .pair) .type-scalar)) (type-at (((lones (c .before .before .before .before .before .before .before .before .before .before .before .before .before .before .before .before .before .args .spec .now) (c .before .before .before .before .before .before .before .before .before .before .before .before .before .before .before .before .before .args .ty .now) (λ i. omega (arith, c .before .before .before .before .before .before .before .before .before .before .before .before .before .before .before .before .shared-slice-known .given i)) (λ i. omega (arith, c .before .before .before .before .before .before .before .before .before .before .before .before .before .before .before .shared-slice-known2 .given i)) (sym (c .before .before .before .before .before .before .before .before .before .before .before .before .before .read-both .ensures) ∙ ap loneOf (c .before .before .before .before .before .before .before .before .before .before .before .enum-told .given .1))) .pair) .type-placed)))) (scalarOf 0 0 ((lones (c .before .before .before .before .before .before .before .before .before .before .before .before .before .before .before .before .before .args .spec .now) (c .before .before .before .before .before .before .before .before .before .before .before .before .before .before .before .before .before .args .ty .now) (λ i. omega (arith, c .before .before .before .before .before .before .before .before .before .before .before .before .before .before .before .before .shared-slice-known .given i)) (λ i. omega (arith, c .before .before .before .before .before .before .before .before .before .before .before .before .before .before .before .shared-slice-known2 .given i)) (sym (c .before .before .before .before .before .before .before .before .before .before .before .before .before .read-both .ensures) ∙ ap loneOf (c .before .before .before .before .before .before .before .before .before .before .before .enum-told .given .1))) .pair)) (c .before .before .before .before .check-scalar-at .last .1 .1 .1 .1 .1 .1 .0) (c .before .before .before .before .check-scalar-at .ensures ((lones (c .before .before .before .before .before .before .before .before .before .before .before .before .before .before .before .before .before .args .spec .now) (c .before .before .before .before .before .before .before .before .before .before .before .before .before .before .before .before .before .args .ty .now) (λ i. omega (arith, c .before .before .before .before .before .before .before .before .before .before .before .before .before .before .before .before .shared-slice-known .given i)) (λ i. omega (arith, c .before .before .before .before .before .before .before .before .before .before .before .before .before .before .before .shared-slice-known2 .given i)) (sym (c .before .before .before .before .before .before .before .before .before .before .before .before .before .read-both .ensures) ∙ ap loneOf (c .before .before .before .before .before .before .before .before .before .before .before .enum-told .given .1))) .pair) .0) (c .before .w2 .given .1)))
+
+pub check-scalar-spec : {M : Type 1} → statement M
+check-scalar-spec =
+    tie.close
+    (tie.spec
+    read-both-requires
+    enum-known-read
+    returns
+    enum-told
+    shape-at-requires
+    shape-length-requires
+    slice-aggregate-put-shape
+    put-shape-requires
+    slice-aggregate-check-scalar-at
+    check-scalar-at-requires
+    enum-known-w
+    array-share-prefix-out
+    slice-aggregate-hand-over
+    hand-over-requires
+    enum-known-w-2
+    same-length
+    returns-2
+    returns-3)

@@ -1,9 +1,9 @@
 // The public calls: the spec is read whole first, then the type; a result that is too short is found last.
 use crate::Side;
 use crate::Wrote;
+use crate::descent::check_scalar_at;
+use crate::descent::check_type;
 use crate::shapes::check_shapes;
-use crate::walk::check_scalar_at;
-use crate::walk::check_type;
 use lent::Written;
 use lent::hand_over;
 use lent::lay;
@@ -15,7 +15,7 @@ use record::Lone;
 use record::lone_scalar;
 use record::lone_shape;
 use record::read_both;
-use scalar::shape_at;
+use walk::shape_at;
 use writer::put_shape;
 use writer::shape_length;
 ghost use mathlib.Core.Path.{_≡_};

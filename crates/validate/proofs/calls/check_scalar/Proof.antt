@@ -25,8 +25,8 @@ use Rattle.validate.proofs.calls.check_scalar.Reads as reads
 use Rattle.validate.proofs.calls.check_scalar.Lts as lts
 use Rattle.lent.proofs.hand_over.Reads as hand-over-reads
 use Rattle.record.proofs.read_both.Reads as read-both-reads
-use Rattle.scalar.proofs.shape_at.Reads as shape-at-reads
-use Rattle.validate.proofs.walk.check_scalar_at.Reads as check-scalar-at-reads
+use Rattle.walk.proofs.shape_at.Reads as shape-at-reads
+use Rattle.validate.proofs.descent.check_scalar_at.Reads as check-scalar-at-reads
 use Rattle.writer.proofs.put_shape.Reads as put-shape-reads
 use Rattle.writer.proofs.shape_length.Reads as shape-length-reads
 

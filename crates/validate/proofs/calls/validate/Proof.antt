@@ -25,7 +25,7 @@ use Rattle.validate.proofs.calls.validate.Reads as reads
 use Rattle.validate.proofs.calls.validate.Lts as lts
 use Rattle.lent.proofs.hand_over.Reads as hand-over-reads
 use Rattle.record.proofs.read_both.Reads as read-both-reads
-use Rattle.validate.proofs.walk.check_type.Reads as check-type-reads
+use Rattle.validate.proofs.descent.check_type.Reads as check-type-reads
 
 read-both-requires : tie.Need-read-both-requires
 read-both-requires c κs = search needs

@@ -120,6 +120,6 @@ module _ (st : Slots) (d : List ℕ) (k : ℕ) (w : List ℕ) (low : k < maxStac
           let one : k + 1 ≡ suc k = add-one k in
           let here : slotOf (set (st .lengths) k (length w)) (over d (k * maxBytes) w) k ≡ writeTy t = rw (getD-set-same (st .lengths) k (length w) 0 (omega arith)) (part-here d w (k * maxBytes) fits ∙ e) in
           let lower : slots (set (st .lengths) k (length w)) (over d (k * maxBytes) w) k ≡ slots (st .lengths) d k =
-            slots-same (st .lengths) (set (st .lengths) k (length w)) d (over d (k * maxBytes) w) k λ i less.
-            rw (getD-set-other (st .lengths) k i (length w) 0 (λ y. omega arith)) (part-before d w (k * maxBytes) fits (i * maxBytes) (getD (st .lengths) i 0) (omega (arith, h .short i (omega arith)))) in
+          slots-same (st .lengths) (set (st .lengths) k (length w)) d (over d (k * maxBytes) w) k λ i less.
+          rw (getD-set-other (st .lengths) k i (length w) 0 (λ y. omega arith)) (part-before d w (k * maxBytes) fits (i * maxBytes) (getD (st .lengths) i 0) (omega (arith, h .short i (omega arith)))) in
           rw (one, here, lower, slots-lower (st .lengths) d k (st .count - k) (st .count) ts (omega arith) (h .bytes))

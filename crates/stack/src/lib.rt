@@ -1,6 +1,10 @@
 // The stack of a sheet's types in a lent scratch. How a type lies there is known to `load`, `store` and the relation `Holds`.
+mod out;
+
 use lent::lay;
 use limits::MAX_BYTES;
+pub use out::clear;
+pub use out::write_types;
 ghost use mathlib.Core.Path.{_≡_};
 ghost use mathlib.Core.List.{List, [], _∷_, _++_, reverse};
 ghost use Prim.Native.Nat.{ℕ, _+_, _-_, _≤_, _<_};

@@ -1,15 +1,30 @@
-// Lent buffers: bytes laid over a part of one, and a result delivered to the front of one or refused.
+// Lent buffers: bytes laid over a part of one, and a result delivered to the front of one or refused. And what calls answer that
+// have no result to write.
 use limits::refusal::TOO_SHORT;
 ghost use mathlib.Core.Path.{_≡_};
 ghost use Prim.Native.Nat.{_+_, _≤_};
 ghost use lib.ListN.{length};
 ghost use Rattle.format.specs.Outcome.{accepted, deliver};
+ghost use Rattle.lent.specs.Answers.{testedOf};
 ghost use Rattle.lent.specs.Over.{over};
 ghost use Rattle.lent.specs.Written.{delivered};
 
 // How many bytes a call wrote to its result, or its refusal.
 pub enum Written {
     Wrote(usize),
+    Refused { number: u8, place: usize },
+}
+
+// A test, or the refusal of what was to be tested.
+pub enum Tested {
+    Yes,
+    No,
+    Refused { number: u8, place: usize },
+}
+
+// A number, or a size, all ones for unknown; or a refusal.
+pub enum Counted {
+    Count(u64),
     Refused { number: u8, place: usize },
 }
 
@@ -38,4 +53,13 @@ pub fn hand_over(src: &[u8], result: &mut [u8]) -> Written
     }
     lay(src, &mut *result, 0);
     Written::Wrote(n)
+}
+
+pub fn tell(yes: bool) -> Tested
+    ensures { λ r. ⌜ testedOf r ≡ accepted yes ⌝ }
+{
+    if yes {
+        return Tested::Yes;
+    }
+    Tested::No
 }

@@ -1,17 +1,8 @@
 -- What the answers of this crate say, in the terms of the definitions: for each case of each, the paper's number and values.
-use mathlib.Core.Bool.{Bool, true, false}
 use Rattle.model.specs.Types.{any, Scalar, plain, boxAny, Ty, ty}
-use Rattle.format.specs.Outcome.{Outcome, accepted, refused}
 use Rattle.rules.specs.Scalars.{unrefine}
-use Rattle.scalar.specs.declared.Tested.{Tested}
-use Rattle.scalar.specs.declared.Tested.the-variants.{Yes, No, Refused}
 use Rattle.scalar.specs.declared.United.{United}
 use Rattle.scalar.specs.declared.United.the-variants.{First, Second, BoxAny, Any}
-
-abbrev pub testedOf : Tested → Outcome Bool
-testedOf Yes = accepted true
-testedOf No = accepted false
-testedOf (Refused k p) = refused k p
 
 -- a union of k and l
 abbrev pub unitedOf : United → Scalar → Scalar → Scalar

@@ -9,6 +9,7 @@ mod unions;
 pub use boxes::compatible_boxes;
 pub use kinds::compatible_codes;
 pub use kinds::superset_codes;
+pub use lent::Tested;
 pub use refinement::unrefine;
 pub use refinement::unrefine_at;
 pub use tests::compatible_scalars;
@@ -16,13 +17,6 @@ pub use tests::compatible_with_boxes;
 pub use tests::superset;
 pub use unions::union;
 pub use unions::unite;
-
-// What a test answers.
-pub enum Tested {
-    Yes,
-    No,
-    Refused { number: u8, place: usize },
-}
 
 // Which scalar a union is.
 pub enum United {

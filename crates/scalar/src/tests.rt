@@ -1,18 +1,18 @@
 // Tests of the scalars of two whole types.
-use crate::Tested;
 use crate::boxes::compatible_boxes;
 use crate::kinds::compatible_codes;
 use crate::kinds::superset_codes;
+use lent::Tested;
+use lent::tell;
 use limits::MAX_DEPTH;
 use record::Lone;
 use record::lone_scalar;
 use record::read_both;
 use walk::kind_at;
 ghost use mathlib.Core.Path.{_≡_};
-ghost use Rattle.format.specs.Outcome.{accepted};
+ghost use Rattle.lent.specs.Answers.{testedOf};
 ghost use Rattle.rules.specs.Scalars.{supersetOf, compatibleScalars, compatibleWithBoxes};
 ghost use Rattle.walk.specs.Whole.{ofScalars};
-ghost use Rattle.scalar.specs.Calls.{testedOf};
 
 // `superset_of`: whether the first's scalar is a superset of the second's.
 pub fn superset(a: &[u8], b: &[u8]) -> Tested
@@ -51,10 +51,4 @@ pub fn compatible_with_boxes(a: &[u8], b: &[u8]) -> Tested
     let i = lone_scalar(a);
     let j = lone_scalar(b);
     tell(compatible_boxes(a, i, b, j, MAX_DEPTH - 1))
-}
-
-fn tell(yes: bool) -> Tested
-    ensures { λ r. ⌜ testedOf r ≡ accepted yes ⌝ }
-{
-    if yes { Tested::Yes } else { Tested::No }
 }

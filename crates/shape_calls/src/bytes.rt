@@ -1,8 +1,8 @@
 // Shapes of types handed in as bytes: the calls of shape.rs.
-use crate::Counted;
-use crate::Tested;
-use crate::numbers::tell;
+use lent::Counted;
+use lent::Tested;
 use lent::Written;
+use lent::tell;
 use record::Lone;
 use record::lone_shape;
 use record::read_both;
@@ -18,8 +18,8 @@ use shape::row_count;
 use writer::write_shape;
 ghost use mathlib.Core.Path.{_≡_};
 ghost use Rattle.format.specs.Outcome.{deliver};
+ghost use Rattle.lent.specs.Answers.{testedOf, countedDim, countedNumber};
 ghost use Rattle.lent.specs.Written.{delivered};
-ghost use Rattle.shape_calls.specs.Answers.{testedOf, sizeOf, numberOf};
 ghost use Rattle.shape_calls.specs.Calls.{mergeCall, joinCall, rowCall, compatibleShapesCall, isAnyCall, isScalarCall, rowCountCall, rankCall};
 
 // The first merges from the second.
@@ -84,7 +84,7 @@ pub fn shape_is_scalar(a: &[u8]) -> Tested
 }
 
 pub fn count_rows(a: &[u8]) -> Counted
-    ensures { λ r. ⌜ sizeOf r ≡ rowCountCall (now (a .entry)) ⌝ }
+    ensures { λ r. ⌜ countedDim r ≡ rowCountCall (now (a .entry)) ⌝ }
 {
     let answer = read_lone(a);
     if let Lone::Refused { number, place } = answer {
@@ -94,7 +94,7 @@ pub fn count_rows(a: &[u8]) -> Counted
 }
 
 pub fn shape_rank(a: &[u8]) -> Counted
-    ensures { λ r. ⌜ numberOf r ≡ rankCall (now (a .entry)) ⌝ }
+    ensures { λ r. ⌜ countedNumber r ≡ rankCall (now (a .entry)) ⌝ }
 {
     let answer = read_lone(a);
     if let Lone::Refused { number, place } = answer {

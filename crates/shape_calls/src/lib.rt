@@ -12,6 +12,8 @@ pub use bytes::row_shape;
 pub use bytes::shape_is_any;
 pub use bytes::shape_is_scalar;
 pub use bytes::shape_rank;
+pub use lent::Counted;
+pub use lent::Tested;
 pub use numbers::dim_cmp;
 pub use numbers::dim_cmp_defined;
 pub use numbers::dim_compatible;
@@ -20,19 +22,6 @@ pub use numbers::dim_max;
 pub use numbers::dim_row_compatible;
 pub use pervading::pervade;
 use shape::Order;
-
-// A test, or the refusal of what was to be tested.
-pub enum Tested {
-    Yes,
-    No,
-    Refused { number: u8, place: usize },
-}
-
-// A size, all ones for unknown, or a number; or a refusal.
-pub enum Counted {
-    Count(u64),
-    Refused { number: u8, place: usize },
-}
 
 // How the first compares with the second, or a refusal.
 pub enum Compared {

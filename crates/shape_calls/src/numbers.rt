@@ -1,8 +1,9 @@
 // Two sizes handed in as numbers. One above 2^53 that is not all ones is refused.
 use crate::Compared;
-use crate::Counted;
 use crate::Judged;
-use crate::Tested;
+use lent::Counted;
+use lent::Tested;
+use lent::tell;
 use limits::MAX_SIZE;
 use limits::UNKNOWN;
 use limits::refusal::OVERSIZED;
@@ -15,7 +16,8 @@ use shape::row_compatible;
 ghost use mathlib.Core.Path.{_≡_};
 ghost use Rattle.format.specs.Outcome.{accepted, both};
 ghost use Rattle.record.specs.Answers.{nothings};
-ghost use Rattle.shape_calls.specs.Answers.{judgedOf, testedOf, sizeOf, orderedOf};
+ghost use Rattle.lent.specs.Answers.{testedOf, countedDim};
+ghost use Rattle.shape_calls.specs.Answers.{judgedOf, orderedOf};
 ghost use Rattle.shape_calls.specs.Calls.{isSize, sizeAt, cmpCall, cmpDefinedCall, maxCall, joinSizesCall, compatibleCall, rowCompatibleCall};
 
 pub fn dim_cmp(a: u64, b: u64) -> Compared
@@ -37,7 +39,7 @@ pub fn dim_cmp_defined(a: u64, b: u64) -> Compared
 }
 
 pub fn dim_max(a: u64, b: u64) -> Counted
-    ensures { λ r. ⌜ sizeOf r ≡ maxCall a b ⌝ }
+    ensures { λ r. ⌜ countedDim r ≡ maxCall a b ⌝ }
 {
     if let Judged::Refused { number, place } = judge_sizes(a, b) {
         return Counted::Refused { number, place };
@@ -46,7 +48,7 @@ pub fn dim_max(a: u64, b: u64) -> Counted
 }
 
 pub fn dim_join(a: u64, b: u64) -> Counted
-    ensures { λ r. ⌜ sizeOf r ≡ joinSizesCall a b ⌝ }
+    ensures { λ r. ⌜ countedDim r ≡ joinSizesCall a b ⌝ }
 {
     if let Judged::Refused { number, place } = judge_sizes(a, b) {
         return Counted::Refused { number, place };
@@ -98,13 +100,4 @@ fn is_size(n: u64) -> bool
         return true;
     }
     n <= MAX_SIZE
-}
-
-pub fn tell(yes: bool) -> Tested
-    ensures { λ r. ⌜ testedOf r ≡ accepted yes ⌝ }
-{
-    if yes {
-        return Tested::Yes;
-    }
-    Tested::No
 }

@@ -16,11 +16,12 @@ use Rattle.number.specs.Size.{listedDim}
 use Rattle.number.specs.Sizes.{listedDims}
 use Rattle.record.specs.Answers.{dimsOf}
 use Rattle.record.specs.declared.Dims.{Dims}
-use Rattle.val.specs.declared.Counted.{Counted}
-use Rattle.val.specs.declared.Counted.the-variants.{Count as CountOf, Refused as Uncounted}
+use Rattle.lent.specs.declared.Counted.{Counted}
+use Rattle.lent.specs.declared.Counted.the-variants.{Count as CountOf, Refused as Uncounted}
+use Rattle.lent.specs.Answers.{countedDim}
 use Rattle.val.specs.declared.Value as declared
 use Rattle.val.specs.declared.Value.the-variants.{Num, Of}
-use Rattle.val.specs.Answers.{valueOf, countedDim, closedRecord}
+use Rattle.val.specs.Answers.{valueOf, closedRecord}
 use Rattle.val.specs.Values.{Value, number, numbers, typed, numbersTy, lengthDim, valueTy, anySized, anyOfSize, valueSpec}
 use Rattle.val.proofs.WriteLaws.{write-closed, write-num}
 use Rattle.val.proofs.NumberLaws.{alone-sized, alone-refused, listed-counted, listed-refused}

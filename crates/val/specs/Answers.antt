@@ -10,8 +10,6 @@ use Rattle.format.specs.Outcome.{Outcome, accepted, refused, mapped, lone, deli
 use Rattle.record.specs.Answers.{dimsOf}
 use Rattle.val.specs.declared.Value as declared
 use Rattle.val.specs.declared.Value.the-variants.{Num, List as Listed, Of}
-use Rattle.val.specs.declared.Counted.{Counted}
-use Rattle.val.specs.declared.Counted.the-variants.{Count, Refused}
 use Rattle.val.specs.declared.MaybeDim.{MaybeDim}
 use Rattle.val.specs.declared.MaybeDim.the-variants.{Size, Nothing, Refused as RefusedDim}
 use Rattle.val.specs.declared.MaybeDims.{MaybeDims}
@@ -27,15 +25,6 @@ abbrev pub valueOf : declared.Value → List Float → List ℕ → Outcome Valu
 valueOf (Num x) list bytes = accepted (number x)
 valueOf Listed list bytes = accepted (numbers list)
 valueOf Of list bytes = mapped typed (lone bytes)
-
--- a number of rows, of which all ones is ?
-abbrev pub countedDim : Counted → Outcome Dim
-countedDim (Count n) = accepted (dimOf n)
-countedDim (Refused k p) = refused k p
-
-abbrev pub countedNumber : Counted → Outcome ℕ
-countedNumber (Count n) = accepted n
-countedNumber (Refused k p) = refused k p
 
 -- all ones is ?
 abbrev pub maybeDim : MaybeDim → Outcome (Option Dim)

@@ -1,6 +1,6 @@
 // How many rows a value has, and its rank.
-use crate::Counted;
 use crate::Value;
+use lent::Counted;
 use limits::MAX_SIZE;
 use limits::refusal::OVERSIZED;
 use record::Lone;
@@ -10,7 +10,8 @@ ghost use mathlib.Core.Path.{_≡_};
 ghost use Rattle.model.specs.Types.{shapeOf};
 ghost use Rattle.format.specs.Outcome.{mapped, bound, lone};
 ghost use Rattle.rules.specs.Shapes.{rowCount, rank};
-ghost use Rattle.val.specs.Answers.{valueOf, countedDim, countedNumber};
+ghost use Rattle.lent.specs.Answers.{countedDim, countedNumber};
+ghost use Rattle.val.specs.Answers.{valueOf};
 ghost use Rattle.val.specs.Values.{lengthDim, valueRowCount, valueRank};
 
 pub fn row_count(v: Value, list: &[f64], bytes: &[u8]) -> Counted

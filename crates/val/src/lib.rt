@@ -8,6 +8,7 @@ mod write;
 
 pub use counts::rank;
 pub use counts::row_count;
+pub use lent::Counted;
 pub use parts::nums_scalar;
 pub use parts::scalar;
 pub use parts::spec;
@@ -24,12 +25,6 @@ pub enum Value {
     Num(f64),
     List,
     Of,
-}
-
-// How many, all ones for an unknown number of rows; or a refusal.
-pub enum Counted {
-    Count(u64),
-    Refused { number: u8, place: usize },
 }
 
 // A size, all ones for an unknown one; nothing for what is no number; or a refusal.

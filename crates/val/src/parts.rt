@@ -1,11 +1,11 @@
 // The type, the spec and the scalar of a value.
-use crate::Counted;
 use crate::Value;
 use crate::counts::row_count_of_list;
 use crate::write::one_dim;
 use crate::write::write_closed;
 use crate::write::write_kind;
 use crate::write::write_same;
+use lent::Counted;
 use lent::Written;
 use limits::ANY;
 use limits::NUM;

@@ -14,7 +14,7 @@ use Rattle.scalar.proofs.tests.compatible_with_boxes.Lts as lts
 use Rattle.record.proofs.lone_scalar.Reads as lone-scalar-reads
 use Rattle.record.proofs.read_both.Reads as read-both-reads
 use Rattle.scalar.proofs.boxes.compatible_boxes.Reads as compatible-boxes-reads
-use Rattle.scalar.proofs.tests.tell.Reads as tell-reads
+use Rattle.lent.proofs.tell.Reads as tell-reads
 
 read-both-requires : tie.Need-read-both-requires
 read-both-requires c κs = search needs

@@ -1,5 +1,5 @@
-use Rattle.shape_calls.proofs.numbers.tell.Statement.{statement}
-use Rattle.shape_calls.proofs.numbers.tell.Tie as tie
+use Rattle.lent.proofs.tell.Statement.{statement}
+use Rattle.lent.proofs.tell.Tie as tie
 
 returns : tie.Need-returns
 returns c = rw (c .if1 .taken)

@@ -33,6 +33,7 @@ pub enum Fault {
     Long,
     Request,
     Words,
+    Side,
     Number,
     Hex,
 }
@@ -179,7 +180,7 @@ fn say_refused(number: u8, place: usize, out: &mut [u8], at: usize) -> usize {
 
 fn say_bad(fault: Fault, out: &mut [u8], at: usize) -> usize {
     let why = put(b"bad ", &mut *out, at);
-    let word = nth(b"long request words number hex", place(fault));
+    let word = nth(b"long request words side number hex", place(fault));
     let end = put(word, &mut *out, why);
     put(b"\n", out, end)
 }
@@ -190,8 +191,9 @@ fn place(fault: Fault) -> usize {
         Fault::Long => 0,
         Fault::Request => 1,
         Fault::Words => 2,
-        Fault::Number => 3,
-        Fault::Hex => 4,
+        Fault::Side => 3,
+        Fault::Number => 4,
+        Fault::Hex => 5,
     }
 }
 

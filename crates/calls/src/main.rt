@@ -8,6 +8,7 @@ mod one_type;
 mod pervading;
 mod records;
 mod requests;
+mod sided;
 mod sizes;
 mod two_types;
 mod words;

@@ -6,6 +6,7 @@ use crate::numbered;
 use crate::one_type;
 use crate::pervading;
 use crate::records;
+use crate::sided;
 use crate::sizes;
 use crate::two_types;
 use crate::words::Found;
@@ -24,6 +25,9 @@ pub fn answered(line: &[u8], input: &mut [u8], result: &mut [u8]) -> Answer {
     }
     if let Found::At(_) = pervading::number(name) {
         return pervading::answered(line, input, result);
+    }
+    if let Found::At(k) = sided::number(name) {
+        return sided::answered(k, line, input, result);
     }
     if let Found::At(k) = numbered::number(name) {
         return numbered::answered(k, line, input, result);

@@ -21,11 +21,12 @@ use shape_calls::compatible_shapes;
 use shape_calls::join_shapes;
 use shape_calls::merge;
 use text::Decoded;
+use validate::check_scalar;
 
 // In the order of `call`'s arms.
 pub fn number(name: &[u8]) -> Found {
     find(
-        b"merge join_shapes compatible_shapes superset compatible_scalars compatible_with_boxes compare union join",
+        b"merge join_shapes compatible_shapes superset compatible_scalars compatible_with_boxes compare union join check_scalar",
         name,
     )
 }
@@ -61,6 +62,7 @@ fn call(k: usize, a: &[u8], b: &[u8], result: &mut [u8]) -> Answer {
         6 => compared(compare(a, b)),
         7 => delivered(union(a, b, result)),
         8 => delivered(join(a, b, result)),
+        9 => delivered(check_scalar(a, b, result)),
         _ => Answer::Bad(Fault::Request),
     }
 }

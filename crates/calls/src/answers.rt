@@ -16,12 +16,16 @@ use ty::Boxes;
 ghost use mathlib.Core.Path.{_≡_};
 ghost use Prim.Native.Nat.{min};
 
-// What a line comes to. Bytes, and those of a stretch, are the first of the result; a size is all ones for unknown.
+// What a line comes to. Bytes, and those of a stretch, a type or a text, are the first of the result; a size is all ones for
+// unknown.
 pub enum Answer {
     Bytes(usize),
     Stretch { start: usize, length: usize },
     Number(u64),
     Size(u64),
+    Bits(u64),
+    Typed(usize),
+    Text(usize),
     Less,
     Nothing,
     Refused { number: u8, place: usize },
@@ -33,6 +37,7 @@ pub enum Fault {
     Long,
     Request,
     Words,
+    Value,
     Side,
     Number,
     Hex,
@@ -117,6 +122,9 @@ pub fn say(answer: Answer, result: &[u8], out: &mut [u8], end: usize) -> usize {
         Answer::Stretch { start, length } => say_stretch(start, part(result, 0, length), out, at),
         Answer::Number(n) => say_number(n, out, at),
         Answer::Size(n) => say_size(n, out, at),
+        Answer::Bits(bits) => say_bits(bits, out, at),
+        Answer::Typed(n) => say_typed(part(result, 0, n), out, at),
+        Answer::Text(n) => say_text(part(result, 0, n), out, at),
         Answer::Less => put(b"ok -1\n", out, at),
         Answer::Nothing => put(b"ok none\n", out, at),
         Answer::Refused { number, place } => say_refused(number, place, out, at),
@@ -131,6 +139,11 @@ pub fn flush(out: &[u8], end: usize) {
 
 fn say_bytes(bytes: &[u8], out: &mut [u8], at: usize) -> usize {
     let start = put(b"ok ", &mut *out, at);
+    say_hex(bytes, out, start)
+}
+
+fn say_typed(bytes: &[u8], out: &mut [u8], at: usize) -> usize {
+    let start = put(b"ok type ", &mut *out, at);
     say_hex(bytes, out, start)
 }
 
@@ -170,6 +183,22 @@ fn say_number(n: u64, out: &mut [u8], at: usize) -> usize {
     put(b"\n", out, end)
 }
 
+fn say_bits(bits: u64, out: &mut [u8], at: usize) -> usize {
+    let mut digits = [0u8; 16];
+    let n = io::hex(bits, 16, &mut digits);
+    let start = put(b"ok num ", &mut *out, at);
+    let end = put(&digits[..n], &mut *out, start);
+    put(b"\n", out, end)
+}
+
+// A text of less than 256 bytes.
+fn say_text(text: &[u8], out: &mut [u8], at: usize) -> usize {
+    let start = put(b"ok ", &mut *out, at);
+    let room = room_for(256, &*out, start);
+    let end = put(text, &mut *out, room);
+    put(b"\n", out, end)
+}
+
 fn say_refused(number: u8, place: usize, out: &mut [u8], at: usize) -> usize {
     let first = put(b"no ", &mut *out, at);
     let space = after(put_decimal(number as u64, &mut *out, first));
@@ -180,7 +209,7 @@ fn say_refused(number: u8, place: usize, out: &mut [u8], at: usize) -> usize {
 
 fn say_bad(fault: Fault, out: &mut [u8], at: usize) -> usize {
     let why = put(b"bad ", &mut *out, at);
-    let word = nth(b"long request words side number hex", place(fault));
+    let word = nth(b"long request words value side number hex", place(fault));
     let end = put(word, &mut *out, why);
     put(b"\n", out, end)
 }
@@ -191,13 +220,14 @@ fn place(fault: Fault) -> usize {
         Fault::Long => 0,
         Fault::Request => 1,
         Fault::Words => 2,
-        Fault::Side => 3,
-        Fault::Number => 4,
-        Fault::Hex => 5,
+        Fault::Value => 3,
+        Fault::Side => 4,
+        Fault::Number => 5,
+        Fault::Hex => 6,
     }
 }
 
-fn put(bytes: &[u8], out: &mut [u8], at: usize) -> usize {
+pub fn put(bytes: &[u8], out: &mut [u8], at: usize) -> usize {
     after(put_bytes(bytes, out, at))
 }
 
@@ -212,7 +242,7 @@ fn room_for(n: usize, out: &[u8], end: usize) -> usize {
     0
 }
 
-fn after(placed: Placed) -> usize {
+pub fn after(placed: Placed) -> usize {
     match placed {
         Placed::To(next) => next,
         Placed::NoRoom => 0,

@@ -3,14 +3,18 @@
 mod answers;
 mod arguments;
 mod lines;
+mod number_list;
 mod numbered;
+mod numbers;
 mod one_type;
 mod pervading;
 mod records;
 mod requests;
 mod sided;
+mod size_list;
 mod sizes;
 mod two_types;
+mod values;
 mod words;
 
 use answers::flush;

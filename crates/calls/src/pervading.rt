@@ -2,15 +2,15 @@
 use crate::answers::Answer;
 use crate::answers::Fault;
 use crate::answers::delivered;
+use crate::arguments::Both;
 use crate::arguments::decimal;
-use crate::arguments::hex;
+use crate::arguments::two_hex;
 use crate::words::Found;
 use crate::words::count;
 use crate::words::find;
 use crate::words::nth;
 use crate::words::part;
 use shape_calls::pervade;
-use text::Decoded;
 use text::Number;
 
 pub fn number(name: &[u8]) -> Found {
@@ -27,12 +27,8 @@ pub fn answered(line: &[u8], input: &mut [u8], result: &mut [u8]) -> Answer {
     let Number::Value(flag) = parsed else {
         return Answer::Bad(Fault::Number);
     };
-    let first = hex(nth(line, 2), &mut *input, 0);
-    let Decoded::To(middle) = first else {
-        return Answer::Bad(Fault::Hex);
-    };
-    let second = hex(nth(line, 3), &mut *input, middle);
-    let Decoded::To(end) = second else {
+    let decoded = two_hex(nth(line, 2), nth(line, 3), &mut *input);
+    let Both::To { middle, end } = decoded else {
         return Answer::Bad(Fault::Hex);
     };
     let a = part(&*input, 0, middle);

@@ -2,6 +2,7 @@
 use crate::MAX_LINE;
 use crate::answers::Answer;
 use crate::answers::Fault;
+use crate::number_list;
 use crate::numbered;
 use crate::one_type;
 use crate::pervading;
@@ -9,6 +10,7 @@ use crate::records;
 use crate::sided;
 use crate::sizes;
 use crate::two_types;
+use crate::values;
 use crate::words::Found;
 use crate::words::nth;
 
@@ -31,6 +33,17 @@ pub fn answered(line: &[u8], input: &mut [u8], result: &mut [u8]) -> Answer {
     }
     if let Found::At(k) = numbered::number(name) {
         return numbered::answered(k, line, input, result);
+    }
+    answered_otherwise(name, line, input, result)
+}
+
+// Requests that are not on types alone.
+fn answered_otherwise(name: &[u8], line: &[u8], input: &mut [u8], result: &mut [u8]) -> Answer {
+    if let Found::At(k) = values::number(name) {
+        return values::answered(k, line, input, result);
+    }
+    if let Found::At(_) = number_list::number(name) {
+        return number_list::answered(line, result);
     }
     if let Found::At(k) = sizes::number(name) {
         return sizes::answered(k, line);

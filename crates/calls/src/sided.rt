@@ -2,13 +2,13 @@
 use crate::answers::Answer;
 use crate::answers::Fault;
 use crate::answers::delivered;
-use crate::arguments::hex;
+use crate::arguments::Both;
+use crate::arguments::two_hex;
 use crate::words::Found;
 use crate::words::count;
 use crate::words::find;
 use crate::words::nth;
 use crate::words::part;
-use text::Decoded;
 use validate::Side;
 use validate::check_shape;
 use validate::validate;
@@ -26,12 +26,8 @@ pub fn answered(k: usize, line: &[u8], input: &mut [u8], result: &mut [u8]) -> A
     let Found::At(which) = found else {
         return Answer::Bad(Fault::Side);
     };
-    let first = hex(nth(line, 2), &mut *input, 0);
-    let Decoded::To(middle) = first else {
-        return Answer::Bad(Fault::Hex);
-    };
-    let second = hex(nth(line, 3), &mut *input, middle);
-    let Decoded::To(end) = second else {
+    let decoded = two_hex(nth(line, 2), nth(line, 3), &mut *input);
+    let Both::To { middle, end } = decoded else {
         return Answer::Bad(Fault::Hex);
     };
     call(

@@ -5,7 +5,8 @@ use crate::answers::compared;
 use crate::answers::delivered;
 use crate::answers::tested;
 use crate::answers::told;
-use crate::arguments::hex;
+use crate::arguments::Both;
+use crate::arguments::two_hex;
 use crate::words::Found;
 use crate::words::count;
 use crate::words::find;
@@ -20,7 +21,6 @@ use scalar::union;
 use shape_calls::compatible_shapes;
 use shape_calls::join_shapes;
 use shape_calls::merge;
-use text::Decoded;
 use validate::check_scalar;
 
 // In the order of `call`'s arms.
@@ -35,12 +35,8 @@ pub fn answered(k: usize, line: &[u8], input: &mut [u8], result: &mut [u8]) -> A
     if count(line) != 3 {
         return Answer::Bad(Fault::Words);
     }
-    let first = hex(nth(line, 1), &mut *input, 0);
-    let Decoded::To(middle) = first else {
-        return Answer::Bad(Fault::Hex);
-    };
-    let second = hex(nth(line, 2), &mut *input, middle);
-    let Decoded::To(end) = second else {
+    let decoded = two_hex(nth(line, 1), nth(line, 2), &mut *input);
+    let Both::To { middle, end } = decoded else {
         return Answer::Bad(Fault::Hex);
     };
     call(

@@ -17,7 +17,7 @@ ghost use mathlib.Core.Path.{_≡_};
 ghost use Prim.Native.Nat.{min};
 
 // What a line comes to. Bytes, and those of a stretch, a type or a text, are the first of the result; a size is all ones for
-// unknown.
+// unknown; a fault is one of `fault`.
 pub enum Answer {
     Bytes(usize),
     Stretch { start: usize, length: usize },
@@ -29,18 +29,7 @@ pub enum Answer {
     Less,
     Nothing,
     Refused { number: u8, place: usize },
-    Bad(Fault),
-}
-
-// Why a line is no request.
-pub enum Fault {
-    Long,
-    Request,
-    Words,
-    Value,
-    Side,
-    Number,
-    Hex,
+    Bad(usize),
 }
 
 // What a call wrote to its result.
@@ -148,11 +137,8 @@ fn say_typed(bytes: &[u8], out: &mut [u8], at: usize) -> usize {
 }
 
 fn say_stretch(start: usize, bytes: &[u8], out: &mut [u8], at: usize) -> usize {
-    let first = put(b"ok ", &mut *out, at);
-    let space = after(put_decimal(start as u64, &mut *out, first));
-    let second = put(b" ", &mut *out, space);
-    let third = after(put_decimal(bytes.len() as u64, &mut *out, second));
-    let end = put(b" ", &mut *out, third);
+    let second = put_number(b"ok ", start as u64, b" ", &mut *out, at);
+    let end = put_number(b"", bytes.len() as u64, b" ", &mut *out, second);
     say_hex(bytes, out, end)
 }
 
@@ -178,9 +164,7 @@ fn say_size(n: u64, out: &mut [u8], at: usize) -> usize {
 }
 
 fn say_number(n: u64, out: &mut [u8], at: usize) -> usize {
-    let digits = put(b"ok ", &mut *out, at);
-    let end = after(put_decimal(n, &mut *out, digits));
-    put(b"\n", out, end)
+    put_number(b"ok ", n, b"\n", out, at)
 }
 
 fn say_bits(bits: u64, out: &mut [u8], at: usize) -> usize {
@@ -200,31 +184,22 @@ fn say_text(text: &[u8], out: &mut [u8], at: usize) -> usize {
 }
 
 fn say_refused(number: u8, place: usize, out: &mut [u8], at: usize) -> usize {
-    let first = put(b"no ", &mut *out, at);
-    let space = after(put_decimal(number as u64, &mut *out, first));
-    let second = put(b" ", &mut *out, space);
-    let end = after(put_decimal(place as u64, &mut *out, second));
-    put(b"\n", out, end)
+    let second = put_number(b"no ", number as u64, b" ", &mut *out, at);
+    put_number(b"", place as u64, b"\n", out, second)
 }
 
-fn say_bad(fault: Fault, out: &mut [u8], at: usize) -> usize {
+fn say_bad(fault: usize, out: &mut [u8], at: usize) -> usize {
     let why = put(b"bad ", &mut *out, at);
-    let word = nth(b"long request words value side number hex", place(fault));
+    let word = nth(b"long request words value side number hex", fault);
     let end = put(word, &mut *out, why);
     put(b"\n", out, end)
 }
 
-// Its word's place among those of `say_bad`.
-fn place(fault: Fault) -> usize {
-    match fault {
-        Fault::Long => 0,
-        Fault::Request => 1,
-        Fault::Words => 2,
-        Fault::Value => 3,
-        Fault::Side => 4,
-        Fault::Number => 5,
-        Fault::Hex => 6,
-    }
+// A number between two texts.
+fn put_number(before: &[u8], n: u64, behind: &[u8], out: &mut [u8], at: usize) -> usize {
+    let digits = put(before, &mut *out, at);
+    let end = after(put_decimal(n, &mut *out, digits));
+    put(behind, out, end)
 }
 
 pub fn put(bytes: &[u8], out: &mut [u8], at: usize) -> usize {

@@ -2,6 +2,7 @@
 // The program decides nothing: a line is taken apart, the call made, its outcome rendered.
 mod answers;
 mod arguments;
+mod fault;
 mod lines;
 mod number_list;
 mod numbered;

@@ -1,7 +1,7 @@
 // NAME BITS..: requests on a list of numbers.
 use crate::answers::Answer;
-use crate::answers::Fault;
 use crate::answers::delivered;
+use crate::fault;
 use crate::numbers::Listed;
 use crate::numbers::MAX_NUMBERS;
 use crate::numbers::first_numbers;
@@ -18,12 +18,12 @@ pub fn number(name: &[u8]) -> Found {
 
 pub fn answered(line: &[u8], result: &mut [u8]) -> Answer {
     if count(line) == 0 {
-        return Answer::Bad(Fault::Words);
+        return Answer::Bad(fault::WORDS);
     }
     let mut list = [0.0f64; MAX_NUMBERS];
     let read = parse_numbers(line, start(line, 1), &mut list);
     let Listed::Count(n) = read else {
-        return Answer::Bad(Fault::Hex);
+        return Answer::Bad(fault::HEX);
     };
     delivered(nums_scalar(first_numbers(&list, n), result))
 }

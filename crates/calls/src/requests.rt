@@ -1,7 +1,7 @@
 // The requests by the arguments that they take. A request's number is its place among those that take the same.
 use crate::MAX_LINE;
 use crate::answers::Answer;
-use crate::answers::Fault;
+use crate::fault;
 use crate::number_list;
 use crate::numbered;
 use crate::one_type;
@@ -16,7 +16,7 @@ use crate::words::nth;
 
 pub fn answered(line: &[u8], input: &mut [u8], result: &mut [u8]) -> Answer {
     if MAX_LINE < line.len() {
-        return Answer::Bad(Fault::Long);
+        return Answer::Bad(fault::LONG);
     }
     let name = nth(line, 0);
     if let Found::At(k) = one_type::number(name) {
@@ -51,5 +51,5 @@ fn answered_otherwise(name: &[u8], line: &[u8], input: &mut [u8], result: &mut [
     if let Found::At(k) = records::number(name) {
         return records::answered(k, line, input, result);
     }
-    Answer::Bad(Fault::Request)
+    Answer::Bad(fault::REQUEST)
 }

@@ -1,9 +1,9 @@
 // NAME SIDE HEX HEX: requests that hold a spec to a type, for a side or none.
 use crate::answers::Answer;
-use crate::answers::Fault;
 use crate::answers::delivered;
 use crate::arguments::Both;
 use crate::arguments::two_hex;
+use crate::fault;
 use crate::words::Found;
 use crate::words::count;
 use crate::words::find;
@@ -20,15 +20,15 @@ pub fn number(name: &[u8]) -> Found {
 
 pub fn answered(k: usize, line: &[u8], input: &mut [u8], result: &mut [u8]) -> Answer {
     if count(line) != 4 {
-        return Answer::Bad(Fault::Words);
+        return Answer::Bad(fault::WORDS);
     }
     let found = find(b"none left right", nth(line, 1));
     let Found::At(which) = found else {
-        return Answer::Bad(Fault::Side);
+        return Answer::Bad(fault::SIDE);
     };
     let decoded = two_hex(nth(line, 2), nth(line, 3), &mut *input);
     let Both::To { middle, end } = decoded else {
-        return Answer::Bad(Fault::Hex);
+        return Answer::Bad(fault::HEX);
     };
     call(
         k,
@@ -43,7 +43,7 @@ fn call(k: usize, side: Side, spec: &[u8], a: &[u8], result: &mut [u8]) -> Answe
     match k {
         0 => delivered(validate(side, spec, a, result)),
         1 => delivered(check_shape(side, spec, a, result)),
-        _ => Answer::Bad(Fault::Request),
+        _ => Answer::Bad(fault::REQUEST),
     }
 }
 

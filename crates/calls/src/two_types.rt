@@ -1,12 +1,12 @@
 // NAME HEX HEX: requests on two types.
 use crate::answers::Answer;
-use crate::answers::Fault;
 use crate::answers::compared;
 use crate::answers::delivered;
 use crate::answers::tested;
 use crate::answers::told;
 use crate::arguments::Both;
 use crate::arguments::two_hex;
+use crate::fault;
 use crate::words::Found;
 use crate::words::count;
 use crate::words::find;
@@ -33,11 +33,11 @@ pub fn number(name: &[u8]) -> Found {
 
 pub fn answered(k: usize, line: &[u8], input: &mut [u8], result: &mut [u8]) -> Answer {
     if count(line) != 3 {
-        return Answer::Bad(Fault::Words);
+        return Answer::Bad(fault::WORDS);
     }
     let decoded = two_hex(nth(line, 1), nth(line, 2), &mut *input);
     let Both::To { middle, end } = decoded else {
-        return Answer::Bad(Fault::Hex);
+        return Answer::Bad(fault::HEX);
     };
     call(
         k,
@@ -59,6 +59,6 @@ fn call(k: usize, a: &[u8], b: &[u8], result: &mut [u8]) -> Answer {
         7 => delivered(union(a, b, result)),
         8 => delivered(join(a, b, result)),
         9 => delivered(check_scalar(a, b, result)),
-        _ => Answer::Bad(Fault::Request),
+        _ => Answer::Bad(fault::REQUEST),
     }
 }

@@ -1,8 +1,8 @@
 // NAME VALUE: requests on a value handed in, which is `num BITS`, `list BITS..` or `type HEX`.
 use crate::answers::Answer;
-use crate::answers::Fault;
 use crate::answers::delivered;
 use crate::arguments::hex;
+use crate::fault;
 use crate::numbers::Listed;
 use crate::numbers::MAX_NUMBERS;
 use crate::numbers::bits_of;
@@ -51,7 +51,7 @@ enum Handed {
         numbers: usize,
         bytes: usize,
     },
-    Bad(Fault),
+    Bad(usize),
 }
 
 pub fn answered(k: usize, line: &[u8], input: &mut [u8], result: &mut [u8]) -> Answer {
@@ -73,17 +73,17 @@ pub fn answered(k: usize, line: &[u8], input: &mut [u8], result: &mut [u8]) -> A
 fn hand_in(line: &[u8], list: &mut [f64], input: &mut [u8]) -> Handed {
     let n = count(line);
     if n < 2 {
-        return Handed::Bad(Fault::Words);
+        return Handed::Bad(fault::WORDS);
     }
     let found = find(b"list num type", nth(line, 1));
     let Found::At(which) = found else {
-        return Handed::Bad(Fault::Value);
+        return Handed::Bad(fault::VALUE);
     };
     if which == 0 {
         return list_in(line, list);
     }
     if n != 3 {
-        return Handed::Bad(Fault::Words);
+        return Handed::Bad(fault::WORDS);
     }
     if which == 1 {
         return number_in(nth(line, 2));
@@ -99,7 +99,7 @@ fn list_in(line: &[u8], list: &mut [f64]) -> Handed {
             numbers,
             bytes: 0,
         },
-        Listed::Other => Handed::Bad(Fault::Hex),
+        Listed::Other => Handed::Bad(fault::HEX),
     }
 }
 
@@ -111,14 +111,14 @@ fn number_in(word: &[u8]) -> Handed {
             numbers: 0,
             bytes: 0,
         },
-        Number::Other => Handed::Bad(Fault::Hex),
+        Number::Other => Handed::Bad(fault::HEX),
     }
 }
 
 fn type_in(word: &[u8], input: &mut [u8]) -> Handed {
     let decoded = hex(word, input, 0);
     let Decoded::To(bytes) = decoded else {
-        return Handed::Bad(Fault::Hex);
+        return Handed::Bad(fault::HEX);
     };
     Handed::In {
         v: Value::Of,
@@ -140,7 +140,7 @@ fn call(k: usize, v: Value, list: &[f64], bytes: &[u8], result: &mut [u8]) -> An
         7 => in_row(into_last_row(v, list, bytes, result)),
         8 => in_dim(as_dim(v, list, bytes)),
         9 => in_dims(as_dims(v, list, bytes), result),
-        _ => Answer::Bad(Fault::Request),
+        _ => Answer::Bad(fault::REQUEST),
     }
 }
 

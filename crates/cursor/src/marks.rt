@@ -2,11 +2,11 @@
 use limits::refusal::ENDED;
 use limits::refusal::UNMARKED;
 ghost use mathlib.Core.Path.{_≡_};
-ghost use Prim.Native.Nat.{_≤_};
+ghost use Prim.Native.Nat.{_-_};
 ghost use lib.ListN.{length};
 ghost use Rattle.format.specs.Records.{mark};
 ghost use Rattle.machine.specs.Sheet.{isMark, opcodeFrom};
-ghost use Rattle.run.specs.Answers.{markedOf};
+ghost use Rattle.cursor.specs.Marks.{markedOf};
 
 // Which step a mark begins, or the number of its refusal.
 pub enum Marked {
@@ -20,10 +20,9 @@ pub enum Marked {
 
 // Both bytes are there before the mark is judged.
 pub fn read_mark(s: &[u8], at: usize) -> Marked
-    requires { ⌜ at ≤ length (now s) ⌝ }
     ensures { λ r. ⌜ markedOf r at ≡ opcodeFrom (now (s .entry)) at at ⌝ }
 {
-    if s.len() - at < 2 {
+    if bytes_left(s, at) < 2 {
         return Marked::Refused { number: ENDED };
     }
     let x = s[at];
@@ -44,6 +43,16 @@ pub fn read_mark(s: &[u8], at: usize) -> Marked
         return Marked::Validating;
     }
     Marked::Refused { number: UNMARKED }
+}
+
+// From a place on, at the end or past it too.
+fn bytes_left(s: &[u8], at: usize) -> usize
+    ensures { λ r. ⌜ r ≡ length (now (s .entry)) - at ⌝ }
+{
+    if s.len() <= at {
+        return 0;
+    }
+    s.len() - at
 }
 
 fn is_mark(a: u8, b: u8, x: u8, y: u8) -> bool

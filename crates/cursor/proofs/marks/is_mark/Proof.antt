@@ -1,9 +1,8 @@
-use mathlib.Core.Path.{_≡_, refl, sym, _∙_, ap}
 use borrow.Author.Tests.{eq-eqb, ne-eqb}
-use Rattle.run.proofs.marks.is_mark.Statement.{statement}
-use Rattle.run.proofs.marks.is_mark.Tie as tie
-use Rattle.run.proofs.marks.is_mark.Reads as reads
-use Rattle.run.proofs.marks.is_mark.Lts as lts
+use Rattle.cursor.proofs.marks.is_mark.Statement.{statement}
+use Rattle.cursor.proofs.marks.is_mark.Tie as tie
+use Rattle.cursor.proofs.marks.is_mark.Reads as reads
+use Rattle.cursor.proofs.marks.is_mark.Lts as lts
 
 -- src/marks.rt:53:9
 returns : tie.Need-returns

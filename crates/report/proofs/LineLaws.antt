@@ -1,5 +1,5 @@
 -- The walk over the records of the types left: the first i of them are put, line by line.
-use Prim.Native.Nat.{ℕ, zero, suc, _+_, _-_, _*_, _≤_, _<_}
+use Prim.Native.Nat.{ℕ, suc, _+_, _-_, _*_, _≤_, _<_}
 use native.Mathlib.Omega.{arith}
 use native.Mathlib.Numerals.{add-one}
 use native.Mathlib.Nat.{mul-le-mul-right, suc-mul, add-mul}
@@ -10,7 +10,7 @@ use lib.Seq.{take-append-seam, paste-zero}
 use Rattle.model.specs.Types.{Ty, types}
 use Rattle.model.specs.Limits.{maxTypes}
 use Rattle.model.specs.Within.{All, Within}
-use Rattle.format.specs.Reader.{Read, got, stopped, mapRead}
+use Rattle.format.specs.Reader.{got, stopped, mapRead}
 use Rattle.format.specs.ReaderLaws.{drop-past}
 use Rattle.format.specs.Records.{writeTy, readType}
 use Rattle.format.specs.WriteRead.{write-read}

@@ -1,16 +1,16 @@
 -- Texts laid into a buffer: one after the other, and how long the parts are.
-use Prim.Native.Nat.{ℕ, zero, suc, _+_, _*_, _/_, _%_, _≤_, _<_}
+use Prim.Native.Nat.{ℕ, zero, suc, _+_, _/_, _%_, _≤_}
 use native.Mathlib.Omega.{arith}
 use mathlib.Core.Bool.{Bool, true, false, cond}
 use mathlib.Core.List.{List, [], _∷_, _++_, append-assoc}
-use mathlib.Core.Path.{_≡_, refl, sym, _∙_, ap, subst}
+use mathlib.Core.Path.{_≡_, sym, _∙_, ap, subst}
 use lib.ListN.{length, length-append}
 use lib.Dec.{ltb}
 use borrow.Author.Tests.{le-leb}
 use Rattle.io.specs.Digits.{glyph}
-use Rattle.lent.specs.Over.{over, over-over, length-over}
+use Rattle.lent.specs.Over.{over, over-over}
 use Rattle.text.specs.Digits.{hexOf, decimalWithin, decimalOf}
-use Rattle.text.specs.Place.{Placing, placed, noRoom, place}
+use Rattle.text.specs.Place.{placed, noRoom, place}
 use Rattle.text.specs.Answers.{placing}
 use Rattle.text.specs.declared.Placed.{Placed}
 use Rattle.text.specs.declared.Placed.the-variants.{To, NoRoom}

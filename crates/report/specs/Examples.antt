@@ -6,7 +6,6 @@ use Rattle.model.specs.Types.{inside, below}
 use Rattle.model.specs.Within.{All}
 use Rattle.format.specs.Reader.{byte, judged, number, bytesOf}
 use Rattle.format.specs.Records.{code, kindOf, writeShape, writeScalar, writeTy, readMark, readDim, readDims, shapeFrom, readName, readFields, defFrom, boxFrom, scalarFrom, readTy}
-use Rattle.format.specs.Outcome.{accepted, refused}
 use Rattle.rules.specs.Sizes.{cmpDim, larger, compatible, joinDim}
 use Rattle.rules.specs.Order.{codeOf}
 use Rattle.rules.specs.Scalars.{supersetCodes, supersetOf, union}

@@ -1,11 +1,16 @@
 -- What the sheet program prints (document 01, "The sheet, added"), as a function of the outcome. A text is the list of its ASCII
 -- codes. `between` is what stands between two lines; nothing stands after the last.
-use Prim.Native.Nat.{ℕ, suc, _+_, _*_}
+use Prim.Native.Nat.{ℕ, suc}
+use mathlib.Core.Bool.{cond}
 use mathlib.Core.List.{List, [], _∷_, _++_}
 use lib.ListN.{length}
+use lib.Dec.{ltb}
+use Rattle.model.specs.Refusals.{tooShort}
 use Rattle.model.specs.Types.{Ty}
 use Rattle.format.specs.Records.{writeTy}
 use Rattle.format.specs.Outcome.{Outcome, accepted, refused}
+use Rattle.machine.specs.SheetLimits.{programBytes}
+use Rattle.machine.specs.Sheet.{sheetRun}
 use Rattle.machine.specs.Call.{writeTypes}
 use Rattle.text.specs.Digits.{hexOf, decimalOf}
 
@@ -39,3 +44,7 @@ typeLines between i (t ∷ ts) = typeLine between i (writeTy t) ++ typeLines bet
 unfoldable pub reported : List ℕ → Outcome (List Ty) → List ℕ
 reported between (accepted ts) = headed okWord (length ts) (length (writeTypes ts)) ++ typeLines between 0 ts
 reported between (refused k p) = headed noWord k p
+
+-- What the program prints of a sheet: more bytes than it reads are refused first, and the last line too ends in a line feed.
+unfoldable pub printed : List ℕ → List ℕ
+printed s = reported lineFeed (cond (ltb programBytes (length s)) (refused tooShort 0) (sheetRun s)) ++ lineFeed

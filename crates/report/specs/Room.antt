@@ -1,5 +1,6 @@
 -- Room that suffices for a text, by counts that code has at hand.
 use Prim.Native.Nat.{ℕ, _+_, _*_}
+use Rattle.machine.specs.SheetLimits.{maxStack, scratchBytes}
 
 -- a number of 64 bits in decimal
 abbrev pub numberRoom : ℕ
@@ -20,3 +21,7 @@ linesRoom between types bytes = types * (between + numberRoom + 1) + 2 * bytes
 -- the whole text
 abbrev pub textRoom : ℕ → ℕ → ℕ → ℕ
 textRoom between types bytes = headRoom + linesRoom between types bytes
+
+-- what the program prints, a line feed after it
+abbrev pub printRoom : ℕ
+printRoom = textRoom 1 maxStack scratchBytes + 1

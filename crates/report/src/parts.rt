@@ -2,13 +2,11 @@
 use lent::lay;
 use text::Placed;
 use text::put_decimal;
-ghost use mathlib.Core.Path.{_≡_};
 ghost use Prim.Native.Nat.{_+_, _*_, _≤_};
 ghost use lib.ListN.{length};
 ghost use Rattle.text.specs.Digits.{hexOf, decimalOf};
-ghost use Rattle.report.specs.Room.{numberRoom, headRoom, lineRoom};
+ghost use Rattle.report.specs.Room.{numberRoom};
 ghost use Rattle.report.specs.Laid.{Laid};
-ghost use Rattle.report.specs.Report.{headed, typeLine};
 
 pub fn put(bytes: &[u8], out: &mut [u8], at: usize) -> usize
     requires { ⌜ at + length (now bytes) ≤ length (now out) ⌝ }

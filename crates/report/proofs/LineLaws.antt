@@ -14,7 +14,7 @@ use Rattle.format.specs.Reader.{got, stopped, mapRead}
 use Rattle.format.specs.ReaderLaws.{drop-past}
 use Rattle.format.specs.Records.{writeTy, readType}
 use Rattle.format.specs.WriteRead.{write-read}
-use Rattle.format.specs.Outcome.{accepted}
+use Rattle.format.specs.Outcome.{accepted, refused}
 use Rattle.lent.specs.Over.{over}
 use Rattle.machine.specs.Call.{writeTypes}
 use Rattle.record.specs.Answers.{answerOf}
@@ -22,8 +22,8 @@ use Rattle.record.specs.declared.Answer.{Answer}
 use Rattle.record.specs.declared.Answer.the-variants.{Got, Refused}
 use Rattle.report.specs.Laid.{Laid}
 use Rattle.report.specs.Left.{LeftIs}
-use Rattle.report.specs.Report.{okWord, headed, typeLine, typeLines, reported}
-use Rattle.report.specs.Room.{headRoom, lineRoom, linesRoom}
+use Rattle.report.specs.Report.{okWord, noWord, headed, typeLine, typeLines, reported}
+use Rattle.report.specs.Room.{headRoom, lineRoom, linesRoom, textRoom}
 use Rattle.report.proofs.TextLaws.{laid-then, length-headed, length-typeLine}
 
 -- Of the types ts those from the i-th on, whose records begin at `from`, are to come; the text of those before ends at `end`.
@@ -127,3 +127,20 @@ unfolding reported
 left-laid s n between ts at d h fits {m} {r} {d₁} {d₂} head lines =
     subst (λ w. Laid r at d d₂ (w ++ typeLines between 0 ts)) (ap (λ k. headed okWord k (length s)) (h .count) ∙ ap (λ w. headed okWord (length ts) (length w)) (h .bytes))
     (laid-then at d (headed okWord n (length s)) (omega (arith, length-headed okWord n (length s) refl)) head lines)
+
+-- ---- how long the text is
+
+length-typeLines : (between : List ℕ) (i : ℕ) (ts : List Ty) → length (typeLines between i ts) ≤ linesRoom (length between) (length ts) (length (writeTypes ts))
+unfolding typeLines writeTypes
+length-typeLines between i [] = omega arith
+length-typeLines between i (t ∷ ts) =
+    omega (arith, length-append (typeLine between i (writeTy t)) (typeLines between (suc i) ts), length-append (writeTy t) (writeTypes ts), length-typeLine between i (writeTy t), length-typeLines between (suc i) ts, suc-mul (length ts) (length between))
+
+pub length-refused : (between : List ℕ) (k p : ℕ) → length (reported between (refused k p)) ≤ headRoom
+unfolding reported
+length-refused between k p = length-headed noWord k p refl
+
+pub length-accepted : (between : List ℕ) (ts : List Ty) → length (reported between (accepted ts)) ≤ textRoom (length between) (length ts) (length (writeTypes ts))
+unfolding reported
+length-accepted between ts =
+    omega (arith, length-append (headed okWord (length ts) (length (writeTypes ts))) (typeLines between 0 ts), length-headed okWord (length ts) (length (writeTypes ts)) refl, length-typeLines between 0 ts)

@@ -45,6 +45,10 @@ unfoldable pub reported : List ℕ → Outcome (List Ty) → List ℕ
 reported between (accepted ts) = headed okWord (length ts) (length (writeTypes ts)) ++ typeLines between 0 ts
 reported between (refused k p) = headed noWord k p
 
--- What the program prints of a sheet: more bytes than it reads are refused first, and the last line too ends in a line feed.
+-- What the program answers: more bytes than it reads are refused first.
+unfoldable pub programOutcome : List ℕ → Outcome (List Ty)
+programOutcome s = cond (ltb programBytes (length s)) (refused tooShort 0) (sheetRun s)
+
+-- What it prints: every line ends in a line feed, the last too.
 unfoldable pub printed : List ℕ → List ℕ
-printed s = reported lineFeed (cond (ltb programBytes (length s)) (refused tooShort 0) (sheetRun s)) ++ lineFeed
+printed s = reported lineFeed (programOutcome s) ++ lineFeed

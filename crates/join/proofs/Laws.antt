@@ -1,101 +1,46 @@
--- What the union of two scalars, written to a buffer that holds any type, says of the join of their types.
-use Prim.Native.Nat.{ℕ, _+_, _≤_, _<_}
-use native.Mathlib.Omega.{arith}
-use mathlib.Core.Bool.{Bool, true, false, cond}
-use mathlib.Core.List.{List, [], _∷_, _++_}
+-- Which of four records the union of two types' scalars is, behind a shape's.
+use Prim.Native.Nat.{ℕ, _-_, _≤_}
+use mathlib.Core.List.{List, [], _++_}
 use mathlib.Core.Path.{_≡_, refl, sym, _∙_, ap}
-use lib.ListN.{length, take, drop, length-append}
-use lib.Seq.{take-append-seam}
-use lib.Dec.{leb}
-use borrow.Author.Tests.{leb-true, leb-false}
-use Rattle.model.specs.Limits.{maxBytes}
-use Rattle.model.specs.Refusals.{tooShort}
-use Rattle.model.specs.Types.{Shape, Scalar, Ty, ty, shapeOf, scalarOf}
-use Rattle.model.specs.Within.{Within}
+use lib.ListN.{length, take, drop, length-drop}
+use lib.Seq.{take-length}
+use Rattle.model.specs.Limits.{maxDepth}
+use Rattle.model.specs.Types.{any, Shape, Scalar, plain, boxAny, ty}
 use Rattle.format.specs.ReaderLaws.{Bytes}
 use Rattle.format.specs.Records.{writeShape, writeScalar, writeTy}
-use Rattle.format.specs.Outcome.{Outcome, accepted, refused, mapped, both, lone, Delivery, delivery, deliver}
-use Rattle.format.specs.ReadWrite.{lone-write}
-use Rattle.format.specs.Suffices.{suffices}
-use Rattle.rules.specs.Shapes.{joinShapes}
+use Rattle.format.specs.Outcome.{Outcome, accepted, mapped, both, lone, scalarRecord}
+use Rattle.record.specs.Answers.{nothings}
 use Rattle.rules.specs.Scalars.{union}
-use Rattle.rules.specs.Types.{joinTypes}
-use Rattle.rules.specs.TypesLaws.{joinTypes-within}
-use Rattle.walk.specs.Whole.{ofTypes, ofScalars}
-use Rattle.record.specs.Answers.{nothing}
+use Rattle.walk.specs.At.{ScalarAt}
+use Rattle.walk.specs.Whole.{ofScalars}
+use Rattle.walk.specs.WholeLaws.{records-there}
+use Rattle.scalar.specs.Calls.{unitedOf}
+use Rattle.scalar.specs.declared.United.{United}
+use Rattle.scalar.specs.declared.United.the-variants.{First, Second, BoxAny, Any}
 
--- ---- what a delivery says of what was to be delivered
+module _ (s : Shape) (a b : List ℕ) (good : both nothings (lone a) (lone b) ≡ accepted 0) (small : Bytes a) (small′ : Bytes b) {i j : ℕ} (first : (mapped scalarRecord (lone a) ≡ accepted (drop i a)) × (i ≤ length a)) (second : (mapped scalarRecord (lone b) ≡ accepted (drop j b)) × (j ≤ length b)) where
+  module _ (r : United) (call : (k l : Scalar) → ScalarAt a i (maxDepth - 1) k → ScalarAt b j (maxDepth - 1) l → unitedOf r k l ≡ union k l) where
+    abbrev Record : Outcome (List ℕ)
+    Record = ofScalars (λ k l. writeTy (ty s (union k l))) a b
 
-pub wrote : {C : Type 0} (o : Outcome (List ℕ)) (buffer out : List ℕ) (n : ℕ) → delivery (accepted n) out ≡ deliver o buffer → ((w : List ℕ) → o ≡ accepted w → take n out ≡ w → n ≤ length out → C) → C
-unfolding deliver
-wrote {C} (refused k p) buffer out n e f = let z : _≡_ {A = ℕ} 0 1 = cc in absurd (omega arith)
-wrote {C} (accepted w) buffer out n e f = go (leb (length w) (length buffer)) e
-  where
-    go : (t : Bool) → delivery (accepted n) out ≡ cond t (delivery (accepted (length w)) (w ++ drop (length w) buffer)) (delivery (refused tooShort 0) buffer) → C
-    go true e =
-        let x : n ≡ length w = cc in
-        let y : out ≡ w ++ drop (length w) buffer = cc in
-        f w refl (rw (x, y) (take-append-seam w (drop (length w) buffer))) (rw (x, y, length-append) (omega arith))
-    go false e = let z : _≡_ {A = ℕ} 0 1 = cc in absurd (omega arith)
+    united-is : (w : List ℕ) → ((k l : Scalar) → drop i a ≡ writeScalar k → drop j b ≡ writeScalar l → w ≡ writeScalar (unitedOf r k l)) → accepted (writeShape s ++ ([] ++ w)) ≡ Record
+    unfolding writeTy
+    united-is w e =
+        records-there a b good small small′ first second (λ k l. writeTy (ty s (union k l))) λ k l h g u v is.
+        ap (λ x. accepted (writeShape s ++ x)) (e k l u v ∙ ap writeScalar (call k l h g)) ∙ sym is
 
-pub unwritten : (o : Outcome (List ℕ)) (buffer out : List ℕ) {k p : ℕ} → ((w : List ℕ) → o ≡ accepted w → length w ≤ length buffer) → delivery (refused k p) out ≡ deliver o buffer → o ≡ refused k p
-unfolding deliver
-unwritten (refused j q) buffer out {k} {p} h e =
-    let x : j ≡ k = cc in
-    let y : q ≡ p = cc in
-    rw (x, y)
-unwritten (accepted w) buffer out {k} {p} h e = go (leb (length w) (length buffer)) refl e
-  where
-    go : (t : Bool) → leb (length w) (length buffer) ≡ t → delivery (refused k p) out ≡ cond t (delivery (accepted (length w)) (w ++ drop (length w) buffer)) (delivery (refused tooShort 0) buffer) → accepted w ≡ refused k p
-    go true g e = let z : _≡_ {A = ℕ} 0 1 = cc in absurd (omega arith)
-    go false g e = absurd (omega (arith, leb-false (length w) (length buffer) g, h w refl))
+    pub union-first : r ≡ First → accepted (writeShape s ++ ([] ++ drop i a)) ≡ Record
+    union-first e = united-is (drop i a) (λ k l u v. u ∙ rw e)
 
--- ---- two whole types
+    pub union-second : r ≡ Second → accepted (writeShape s ++ ([] ++ drop j b)) ≡ Record
+    union-second e = united-is (drop j b) (λ k l u v. v ∙ rw e)
 
-module _ (a b : List ℕ) where
-  abbrev pub unionOf : Outcome (List ℕ)
-  unionOf = ofScalars (λ k l. writeScalar (union k l)) a b
+    pub union-box-any : r ≡ BoxAny → accepted (writeShape s ++ ([] ++ writeScalar boxAny)) ≡ Record
+    union-box-any e = united-is (writeScalar boxAny) (λ k l u v. rw e)
 
-  pub found : {C : Type 0} {w : List ℕ} → unionOf ≡ accepted w → ((t u : Ty) → lone a ≡ accepted t → lone b ≡ accepted u → w ≡ writeScalar (union (scalarOf t) (scalarOf u)) → C) → C
-  found {C} {w} e f = go (lone a) (lone b) refl refl e
-    where
-      go : (x y : Outcome Ty) → lone a ≡ x → lone b ≡ y → both (λ t u. accepted (writeScalar (union (scalarOf t) (scalarOf u)))) x y ≡ accepted w → C
-      go (accepted t) (accepted u) g h e = f t u g h (cc)
-      go (accepted t) (refused k p) g h e = let z : _≡_ {A = ℕ} 0 1 = cc in absurd (omega arith)
-      go (refused k p) y g h e = let z : _≡_ {A = ℕ} 0 1 = cc in absurd (omega arith)
+    pub union-any : r ≡ Any → accepted (writeShape s ++ ([] ++ writeScalar (plain any))) ≡ Record
+    union-any e = united-is (writeScalar (plain any)) (λ k l u v. rw e)
 
-  pub join-refused : {k p : ℕ} → unionOf ≡ refused k p → ofTypes (λ t u. writeTy (joinTypes t u)) a b ≡ refused k p
-  join-refused {k} {p} e = go (lone a) (lone b) e
-    where
-      go : (x y : Outcome Ty) → both (λ t u. accepted (writeScalar (union (scalarOf t) (scalarOf u)))) x y ≡ refused k p → both (λ t u. accepted (writeTy (joinTypes t u))) x y ≡ refused k p
-      go (accepted t) (accepted u) e = let z : _≡_ {A = ℕ} 0 1 = cc in absurd (omega arith)
-      go (accepted t) (refused j q) e = let x : j ≡ k = cc in let z : q ≡ p = cc in rw (x, z)
-      go (refused j q) y e = let x : j ≡ k = cc in let z : q ≡ p = cc in rw (x, z)
-
-  -- the scalar of the join of two types within the limits is no longer than any type
-  pub union-fits : Bytes a → Bytes b → (w : List ℕ) → unionOf ≡ accepted w → length w ≤ maxBytes
-  unfolding joinTypes writeTy
-  union-fits small small′ w e = found e λ t u g h x. fits t u (lone-write a small t g .1) (lone-write b small′ u h .1) x
-    where
-      fits : (t u : Ty) → Within t → Within u → w ≡ writeScalar (union (scalarOf t) (scalarOf u)) → length w ≤ maxBytes
-      fits (ty s k) (ty r l) i j x = omega (arith, ap length x, suffices (joinTypes (ty s k) (ty r l)) (joinTypes-within (ty s k) (ty r l) i j), length-append (writeShape (joinShapes s r)) (writeScalar (union k l)))
-
-  module _ {w : List ℕ} (e : unionOf ≡ accepted w) where
-    pub first-good : mapped nothing (lone a) ≡ accepted 0
-    first-good = found e λ t u g h x. rw g
-
-    pub second-good : mapped nothing (lone b) ≡ accepted 0
-    second-good = found e λ t u g h x. rw h
-
-    pub join-accepted : {s r d : Shape} → mapped shapeOf (lone a) ≡ accepted s → mapped shapeOf (lone b) ≡ accepted r → d ≡ joinShapes s r → ofTypes (λ t u. writeTy (joinTypes t u)) a b ≡ accepted (writeShape d ++ ([] ++ w))
-    unfolding joinTypes writeTy
-    join-accepted {s} {r} {d} i j same = found e λ t u g h x. go t u g h x
-      where
-        go : (t u : Ty) → lone a ≡ accepted t → lone b ≡ accepted u → w ≡ writeScalar (union (scalarOf t) (scalarOf u)) → ofTypes (λ t u. writeTy (joinTypes t u)) a b ≡ accepted (writeShape d ++ ([] ++ w))
-        go (ty s′ k) (ty r′ l) g h x =
-            let y : s′ ≡ s = shaped g i in
-            let z : r′ ≡ r = shaped h j in
-            rw (g, h, y, z, same, x)
-          where
-            shaped : {o : Outcome Ty} {p q : Shape} {m : Scalar} → o ≡ accepted (ty p m) → mapped shapeOf o ≡ accepted q → p ≡ q
-            shaped {o} {p} {q} {m} g e = let v : accepted p ≡ accepted q = sym (ap (mapped shapeOf) g) ∙ e in cc
+-- the rest of a list, as a part of a slice has it
+pub rest-is : (s : List ℕ) (n : ℕ) → take (length s - n) (drop n s) ≡ drop n s
+rest-is s n = ap (λ k. take k (drop n s)) (sym (length-drop n s)) ∙ take-length (drop n s)

@@ -1,24 +1,56 @@
 // The join of two types: the join of their shapes with the union of their scalars.
 use lent::Written;
-use limits::MAX_BYTES;
+use limits::ANY;
+use limits::BOX;
+use limits::BOX_ANY;
+use limits::MAX_DEPTH;
+use record::DynShape;
+use record::Lone;
+use record::lone_scalar;
 use record::lone_shape;
-use scalar::union;
+use record::read_both;
+use scalar::United;
+use scalar::unite;
 use shape::join as join_shapes;
 use ty::write_parts;
 ghost use mathlib.Core.Path.{_≡_};
-ghost use Rattle.format.specs.Outcome.{deliver};
+ghost use Rattle.model.specs.Types.{ty};
+ghost use Rattle.format.specs.Records.{writeTy};
+ghost use Rattle.format.specs.Outcome.{accepted, deliver, both, lone};
 ghost use Rattle.lent.specs.Written.{delivered};
+ghost use Rattle.record.specs.Answers.{nothings, shapeFor};
+ghost use Rattle.rules.specs.Scalars.{union};
+ghost use Rattle.walk.specs.Whole.{ofScalars};
 ghost use Rattle.join.specs.Calls.{joinCall};
 
-// The scalar goes by way of a buffer that holds any type's.
 pub fn join(a: &[u8], b: &[u8], result: &mut [u8]) -> Written
     ensures { λ r. ⌜ delivered r (now (result .exit)) ≡ deliver (joinCall (now (a .entry)) (now (b .entry))) (now (result .entry)) ⌝ }
 {
-    let mut scalar = [0u8; MAX_BYTES];
-    let united = union(a, b, &mut scalar);
-    let Written::Wrote(n) = united else {
-        return united;
-    };
+    let read = read_both(a, b);
+    if let Lone::Refused { number, place } = read {
+        return Written::Refused { number, place };
+    }
     let shape = join_shapes(lone_shape(a), lone_shape(b));
-    write_parts(shape, b"", &scalar[..n], &mut *result)
+    write_union(shape, a, b, &mut *result)
+}
+
+// A shape with the union of two types' scalars, which is one of the two as it stands, or a box Any, or Any.
+pub fn write_union(shape: DynShape, a: &[u8], b: &[u8], result: &mut [u8]) -> Written
+    requires { ⌜ both nothings (lone (now a)) (lone (now b)) ≡ accepted 0 ⌝ }
+    ensures { λ r. ⌜ delivered r (now (result .exit)) ≡ deliver (ofScalars (λ k l. writeTy (ty (shapeFor shape) (union k l))) (now (a .entry)) (now (b .entry))) (now (result .entry)) ⌝ }
+{
+    let i = lone_scalar(a);
+    let j = lone_scalar(b);
+    match unite(a, i, b, j, MAX_DEPTH - 1) {
+        United::First => write_parts(shape, b"", &a[i..], &mut *result),
+        United::Second => write_parts(shape, b"", &b[j..], &mut *result),
+        United::BoxAny => {
+            let record = [0x53u8, 0x43, BOX as u8, 0x42, 0x58, BOX_ANY as u8];
+            write_parts(shape, b"", &record, &mut *result)
+        }
+        United::Any => {
+            let record = [0x53u8, 0x43, ANY as u8];
+            write_parts(shape, b"", &record, &mut *result)
+        }
+    }
 }

@@ -32,7 +32,7 @@ use Rattle.machine.specs.StepsHold.{following-gives, orRefuses-gives, as
 
 -- ---- one step
 
-pervadeTypes-within : (f g : Bool) (t u x : Ty) → Within t → Within u → pervadeTypes f g t u ≡ gives x → Within x
+pub pervadeTypes-within : (f g : Bool) (t u x : Ty) → Within t → Within u → pervadeTypes f g t u ≡ gives x → Within x
 unfolding pervadeTypes
 pervadeTypes-within f g (ty s k) (ty t l) x v w e =
     following-gives (orRefuses (pervade f g s t) unpervaded) e λ y e₁ e₂.

@@ -2,5 +2,5 @@ pub mod Class
 pub mod Size
 pub mod Sizes
 pub mod Kind
-pub mod Cases
+pub mod Examples
 pub mod Answers

@@ -5,7 +5,7 @@ pub mod Order
 pub mod Scalars
 pub mod Types
 pub mod Views
-pub mod Cases
+pub mod Examples
 pub mod Lists
 pub mod SizesLaws
 pub mod ShapesLaws

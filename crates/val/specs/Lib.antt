@@ -1,3 +1,3 @@
 pub mod Values
-pub mod Cases
+pub mod Examples
 pub mod Answers

@@ -1,25 +1,34 @@
--- Examples of validation, in the form of the cases, where the paper's words are easily read otherwise: what is asked first, what
--- reaches into boxes, what counts as a match, how many fields are made, and when the limits are asked.
+-- Examples of validation where the paper's words are easily read otherwise, beside its cases (crate `cases`): what is asked first,
+-- what reaches into boxes, what counts as a match, how many fields are made, and when the limits are asked.
 use Prim.Native.Nat.{ℕ, zero, suc}
 use mathlib.Core.List.{List, [], _∷_}
 use mathlib.Core.Option.{none, some}
-use mathlib.Core.Path.{refl}
+use mathlib.Core.Path.{_≡_, refl}
 use Rattle.model.specs.Refusals.{tooMany, wrongScalar, wrongShape}
 use Rattle.model.specs.Types.{static, unknown, Shape, shape, int, num, char, any, boxAny, boxDef, Fields, noFields, Ty, ty, boxOf, fieldOf, inside, below}
 use Rattle.model.specs.Within.{All}
 use Rattle.format.specs.Records.{code}
-use Rattle.format.specs.Outcome.{accepted, refused}
+use Rattle.format.specs.Outcome.{Outcome, accepted, refused}
 use Rattle.rules.specs.Sizes.{cmpDim, larger, compatible}
 use Rattle.rules.specs.Shapes.{anyShape, scalarShape, isAny, rank, mergeDims, mergeClosing, mergeFrom}
 use Rattle.rules.specs.Order.{codeOf}
 use Rattle.rules.specs.Scalars.{supersetCodes, supersetOf}
 use Rattle.rules.specs.Types.{anyTy, whollyAny, copies}
-use Rattle.rules.specs.Cases.{closed, ending}
-use Rattle.validation.specs.CheckShape.{unsided, left, right, agree, equalDim, equalDims, mismatch, shapeMismatch, sidedShape, checkShape}
+use Rattle.rules.specs.Examples.{closed, ending, statics, starting, of}
+use Rattle.validation.specs.CheckShape.{Side, unsided, left, right, agree, equalDim, equalDims, mismatch, shapeMismatch, sidedShape, checkShape}
 use Rattle.validation.specs.AsFields.{keepsLimits, fieldsFor, asBox, copied, named, asFields}
 use Rattle.validation.specs.CheckScalar.{eachField, onAll, onDef, checkScalar}
 use Rattle.validation.specs.Validate.{validate}
-use Rattle.validation.specs.Cases.{Case, theValidation, theShapeCheck, Holds, statics, starting, of}
+
+pub data Example : Type 0 where
+  -- a spec on a type
+  theValidation : Side → Ty → Ty → Outcome Ty → Example
+  -- the shape of a spec on the shape of a type
+  theShapeCheck : Side → Shape → Shape → Outcome Shape → Example
+
+abbrev pub Holds : Example → Type 0
+Holds (theValidation side s t x) = validate side s t ≡ x
+Holds (theShapeCheck side s t x) = checkShape side s t ≡ x
 
 -- ---- how the examples are written
 
@@ -51,7 +60,7 @@ sized n = statics (n ∷ [])
 
 -- ---- the examples
 
-unfoldable pub examples : List Case
+unfoldable pub examples : List Example
 examples =
     -- Scalar first, then shape: [2] Num on [3] Char is 9, and a 9 inside a box comes before the outer shape's 10.
     theValidation unsided (of num (sized 2)) (of char (sized 3)) (refused wrongScalar 0)

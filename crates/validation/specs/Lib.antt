@@ -2,7 +2,6 @@ pub mod CheckShape
 pub mod AsFields
 pub mod CheckScalar
 pub mod Validate
-pub mod Cases
 pub mod Examples
 pub mod OutcomeLaws
 pub mod CheckShapeLaws

@@ -1,5 +1,5 @@
--- Worked cases of document 01: (f) and (g), its examples of refusals 4 and 13, and corners of the rules on numbers. Each holds by
--- computation. `fin s m e` is the number m * 2 ^ e, negative where s is true.
+-- Examples of numbers as kinds and sizes, beside the paper's cases (crate `cases`): its examples of refusals 4 and 13, and corners of
+-- the rules. Each holds by computation. `fin s m e` is the number m * 2 ^ e, negative where s is true.
 use mathlib.Core.Path.{_≡_, refl}
 use mathlib.Core.Bool.{true, false}
 use mathlib.Core.List.{List, [], _∷_}
@@ -11,52 +11,53 @@ use Rattle.number.specs.Size.{size, unknown, refused, asDim, listedDim}
 use Rattle.number.specs.Sizes.{sizes, refusedAt, sizesFrom, listedDims}
 use Rattle.number.specs.Kind.{bool, nat, int, num, kindOf}
 
-abbrev zero : Float
+-- ---- how the numbers are written
+
+abbrev pub zero : Float
 zero = fin false 0 (pos 0)
 
-abbrev minusZero : Float
+abbrev pub minusZero : Float
 minusZero = fin true 0 (pos 0)
 
-abbrev half : Float
+abbrev pub half : Float
 half = fin false 1 (negsuc 0)
 
-abbrev one : Float
+abbrev pub one : Float
 one = fin false 1 (pos 0)
 
-abbrev minusOne : Float
+abbrev pub minusOne : Float
 minusOne = fin true 1 (pos 0)
 
-abbrev two : Float
+abbrev pub two : Float
 two = fin false 1 (pos 1)
 
+abbrev pub three : Float
+three = fin false 3 (pos 0)
+
 -- 2^53, and the next number above it
-abbrev limit : Float
+abbrev pub limit : Float
 limit = fin false 1 (pos 53)
 
-abbrev pastLimit : Float
+abbrev pub pastLimit : Float
 pastLimit = fin false 4503599627370497 (pos 1)
 
 -- 2^60 and -2^60
-abbrev huge : Float
+abbrev pub huge : Float
 huge = fin false 1 (pos 60)
 
-abbrev minusHuge : Float
+abbrev pub minusHuge : Float
 minusHuge = fin true 1 (pos 60)
 
-abbrev infinity : Float
+abbrev pub infinity : Float
 infinity = inf false
 
-abbrev minusInfinity : Float
+abbrev pub minusInfinity : Float
 minusInfinity = inf true
 
-abbrev eightOnes : List Float
+abbrev pub eightOnes : List Float
 eightOnes = one ∷ one ∷ one ∷ one ∷ one ∷ one ∷ one ∷ one ∷ []
 
 -- ---- kinds
-
-pub case-f : (kindOf (one ∷ zero ∷ minusZero ∷ []) ≡ bool) × (kindOf (minusOne ∷ two ∷ []) ≡ int) × (kindOf (infinity ∷ []) ≡ num)
-unfolding lt
-case-f = (refl, refl, refl)
 
 pub kind-empty : kindOf [] ≡ bool
 kind-empty = refl
@@ -72,10 +73,6 @@ unfolding lt
 kind-mixed = (refl, refl)
 
 -- ---- a number as a size
-
-pub case-g : (asDim minusInfinity ≡ unknown) × (listedDim minusInfinity ≡ refused notASize) × (listedDims (minusInfinity ∷ []) ≡ refusedAt notASize 0)
-unfolding sizesFrom
-case-g = (refl, refl, refl)
 
 pub infinity-unknown : (asDim infinity ≡ unknown) × (listedDim infinity ≡ unknown)
 infinity-unknown = (refl, refl)

@@ -1,62 +1,17 @@
--- Worked cases of values: (f) and (g) of document 01, what it and the Rust say of the corners, and the row of a list's type.
--- Each holds by computation. `fin s m e` is the number m * 2 ^ e, negative where s is true.
-use mathlib.Core.Bool.{true, false}
+-- Examples of values, beside the paper's cases (crate `cases`): what it and the Rust say of the corners, and the row of a list's type.
+-- Each holds by computation.
 use mathlib.Core.List.{List, [], _∷_}
-use mathlib.Core.Option.{none, some}
+use mathlib.Core.Option.{none}
 use mathlib.Core.Path.{_≡_, refl}
-use lib.IntN.{pos, negsuc}
-use lib.Ieee.{Float, nan, inf, fin, lt}
-use Rattle.model.specs.Refusals.{outOfRange, oversized, notASize}
-use Rattle.model.specs.Types.{Dim, static, unknown, bool, int, num, plain}
+use lib.Ieee.{Float, nan}
+use Rattle.model.specs.Refusals.{outOfRange, oversized}
+use Rattle.model.specs.Types.{Dim, static, unknown}
 use Rattle.format.specs.Outcome.{accepted, refused}
 use Rattle.number.specs.Sizes.{sizesFrom}
+use Rattle.number.specs.Examples.{minusZero, half, one, two, three, huge, infinity, eightOnes}
 use Rattle.rules.specs.Shapes.{rowShape}
 use Rattle.rules.specs.Types.{rowScalar, rowBy, intoRow, intoFirstRow, intoLastRow}
-use Rattle.val.specs.Values.{number, numbers, numTy, numbersTy, lengthDim, valueTy, anySized, valueSpec, numsScalar, valueScalar, valueAsDim, valueAsDims, rowNumber, rowTyped, listRow, listFirst, listLast, valueRow, valueFirstRow, valueLastRow}
-
-abbrev zero : Float
-zero = fin false 0 (pos 0)
-
-abbrev minusZero : Float
-minusZero = fin true 0 (pos 0)
-
-abbrev one : Float
-one = fin false 1 (pos 0)
-
-abbrev minusOne : Float
-minusOne = fin true 1 (pos 0)
-
-abbrev two : Float
-two = fin false 1 (pos 1)
-
-abbrev three : Float
-three = fin false 3 (pos 0)
-
-abbrev half : Float
-half = fin false 1 (negsuc 0)
-
--- 2^60
-abbrev huge : Float
-huge = fin false 1 (pos 60)
-
-abbrev infinity : Float
-infinity = inf false
-
-abbrev minusInfinity : Float
-minusInfinity = inf true
-
-abbrev eightOnes : List Float
-eightOnes = one ∷ one ∷ one ∷ one ∷ one ∷ one ∷ one ∷ one ∷ []
-
--- ---- the paper's cases
-
-pub case-f : (valueScalar (numbers (one ∷ zero ∷ minusZero ∷ [])) ≡ plain bool) × (valueScalar (numbers (minusOne ∷ two ∷ [])) ≡ plain int) × (valueScalar (number infinity) ≡ plain num)
-unfolding valueScalar numsScalar lt
-case-f = (refl, refl, refl)
-
-pub case-g : (valueAsDim (number minusInfinity) ≡ accepted (some unknown)) × (valueAsDims (numbers (minusInfinity ∷ [])) ≡ refused notASize 0) × (valueSpec (number minusInfinity) ≡ refused notASize 0) × (valueSpec (numbers (minusInfinity ∷ [])) ≡ refused notASize 0)
-unfolding valueAsDim valueAsDims valueSpec sizesFrom
-case-g = (refl, refl, refl, refl)
+use Rattle.val.specs.Values.{number, numbers, numTy, numbersTy, lengthDim, valueTy, anySized, valueSpec, valueAsDim, valueAsDims, rowNumber, rowTyped, listRow, listFirst, listLast, valueRow, valueFirstRow, valueLastRow}
 
 -- ---- types and specs
 

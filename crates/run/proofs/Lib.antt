@@ -1,0 +1,4 @@
+mod MarkLaws
+mod RuleLaws
+mod StepLaws
+mod SheetLaws

@@ -1,0 +1,17 @@
+use mathlib.Core.Path.{_≡_, refl, sym, _∙_, ap}
+use borrow.Author.Tests.{eq-eqb, ne-eqb}
+use Rattle.run.proofs.marks.is_mark.Statement.{statement}
+use Rattle.run.proofs.marks.is_mark.Tie as tie
+use Rattle.run.proofs.marks.is_mark.Reads as reads
+use Rattle.run.proofs.marks.is_mark.Lts as lts
+
+-- src/marks.rt:53:9
+returns : tie.Need-returns
+returns c = rw (eq-eqb (c .before .args .x) (c .before .args .a) (c .if1 .taken))
+
+-- src/marks.rt:49:1
+returns-2 : tie.Need-returns-2
+returns-2 c = rw (ne-eqb (c .before .args .x) (c .before .args .a) (c .if1 .left))
+
+pub is-mark-spec : {M : Type 1} → statement M
+is-mark-spec = tie.close (tie.spec returns returns-2)

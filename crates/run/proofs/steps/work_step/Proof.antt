@@ -1,0 +1,161 @@
+use mathlib.Core.Path.{_≡_, refl, sym, _∙_, ap}
+use native.Mathlib.Omega.{arith}
+use Rattle.run.specs.Answers.{markedOf}
+use Rattle.machine.specs.SheetSteps.{work-unmarked}
+use borrow.Author.Needs.{needs}
+use Rattle.run.proofs.steps.work_step.Statement.{statement}
+use Rattle.run.proofs.steps.work_step.Tie as tie
+use Rattle.run.proofs.steps.work_step.Reads as reads
+use Rattle.run.proofs.steps.work_step.Lts as lts
+use Rattle.run.proofs.marks.read_mark.Reads as read-mark-reads
+use Rattle.run.proofs.steps.join.Reads as join-reads
+use Rattle.run.proofs.steps.pervade.Reads as pervade-reads
+use Rattle.run.proofs.steps.put.Reads as put-reads
+use Rattle.run.proofs.steps.refuse.Reads as refuse-reads
+use Rattle.run.proofs.steps.row.Reads as row-reads
+use Rattle.run.proofs.steps.validate.Reads as validate-reads
+
+-- src/steps.rt:38:9
+read-mark-requires : tie.Need-read-mark-requires
+read-mark-requires c κs = search needs
+
+-- src/steps.rt:40:39
+enum-told : tie.Need-enum-told
+enum-told c = search needs
+
+-- src/steps.rt:40:24
+put-requires : tie.Need-put-requires
+put-requires c κs = (sym (c .before .before .before .read-mark .ensures) ∙ ap (λ m. markedOf m (c .before .before .before .before .before .before .before .args .at)) (c .before .enum-told .given .1), c .before .before .before .before .before .before .before .pre .2)
+
+-- src/steps.rt:41:39
+enum-told-2 : tie.Need-enum-told-2
+enum-told-2 c = search needs
+
+-- src/steps.rt:41:24
+row-requires : tie.Need-row-requires
+row-requires c κs = (sym (c .before .before .before .before .read-mark .ensures) ∙ ap (λ m. markedOf m (c .before .before .before .before .before .before .before .before .args .at)) (c .before .before .enum-told2 .given .1), c .before .before .before .before .before .before .before .before .pre .1, c .before .before .before .before .before .before .before .before .pre .2)
+
+-- src/steps.rt:42:49
+enum-told-3 : tie.Need-enum-told-3
+enum-told-3 c = search needs
+
+-- src/steps.rt:42:30
+pervade-requires : tie.Need-pervade-requires
+pervade-requires c κs = (sym (c .before .before .before .before .read-mark .ensures) ∙ ap (λ m. markedOf m (c .before .before .before .before .before .before .before .before .args .at)) (c .before .before .enum-told3 .given .1), c .before .before .before .before .before .before .before .before .pre .1, c .before .before .before .before .before .before .before .before .pre .2)
+
+-- src/steps.rt:43:41
+enum-told-4 : tie.Need-enum-told-4
+enum-told-4 c = search needs
+
+-- src/steps.rt:43:25
+join-requires : tie.Need-join-requires
+join-requires c κs = (sym (c .before .before .before .before .read-mark .ensures) ∙ ap (λ m. markedOf m (c .before .before .before .before .before .before .before .before .args .at)) (c .before .before .enum-told4 .given .1), c .before .before .before .before .before .before .before .before .pre .1, c .before .before .before .before .before .before .before .before .pre .2)
+
+-- src/steps.rt:44:51
+enum-told-5 : tie.Need-enum-told-5
+enum-told-5 c = search needs
+
+-- src/steps.rt:44:31
+validate-requires : tie.Need-validate-requires
+validate-requires c κs = (sym (c .before .before .before .before .read-mark .ensures) ∙ ap (λ m. markedOf m (c .before .before .before .before .before .before .before .before .args .at)) (c .before .before .enum-told5 .given .1), c .before .before .before .before .before .before .before .before .pre .1, c .before .before .before .before .before .before .before .before .pre .2)
+
+-- src/steps.rt:45:27
+enum-known-marked : tie.Need-enum-known-marked
+enum-known-marked c = search needs
+
+-- src/steps.rt:45:39
+refuse-requires : tie.Need-refuse-requires
+refuse-requires c κs = search needs
+
+-- src/steps.rt:34:1
+same-length : tie.Need-same-length
+same-length c = search needs
+
+-- src/steps.rt:34:1
+returns : tie.Need-returns
+returns c = search needs
+
+-- src/steps.rt:34:1
+same-length-2 : tie.Need-same-length-2
+same-length-2 c = search needs
+
+-- src/steps.rt:34:1
+same-length-3 : tie.Need-same-length-3
+same-length-3 c = search needs
+
+-- src/steps.rt:34:1
+returns-2 : tie.Need-returns-2
+returns-2 c = search needs
+
+-- src/steps.rt:34:1
+same-length-4 : tie.Need-same-length-4
+same-length-4 c = search needs
+
+-- src/steps.rt:34:1
+same-length-5 : tie.Need-same-length-5
+same-length-5 c = search needs
+
+-- src/steps.rt:34:1
+returns-3 : tie.Need-returns-3
+returns-3 c = search needs
+
+-- src/steps.rt:34:1
+same-length-6 : tie.Need-same-length-6
+same-length-6 c = search needs
+
+-- src/steps.rt:34:1
+same-length-7 : tie.Need-same-length-7
+same-length-7 c = search needs
+
+-- src/steps.rt:34:1
+returns-4 : tie.Need-returns-4
+returns-4 c = search needs
+
+-- src/steps.rt:34:1
+same-length-8 : tie.Need-same-length-8
+same-length-8 c = search needs
+
+-- src/steps.rt:34:1
+same-length-9 : tie.Need-same-length-9
+same-length-9 c = search needs
+
+-- src/steps.rt:34:1
+returns-5 : tie.Need-returns-5
+returns-5 c = search needs
+
+-- src/steps.rt:34:1
+returns-6 : tie.Need-returns-6
+returns-6 c = λ ts h. rw (c .refuse .ensures) (work-unmarked (c .before .before .before .before .before .before .before .before .args .s .now) ts (c .before .before .before .before .before .before .before .before .args .at) (c .before .before .before .before .before .before .before .before .args .at) _ _ (sym (c .before .before .before .before .read-mark .ensures) ∙ ap (λ m. markedOf m (c .before .before .before .before .before .before .before .before .args .at)) (c .before .before .marked .given .1)))
+
+pub work-step-spec : {M : Type 1} → statement M
+work-step-spec =
+    tie.close
+    (tie.spec
+    read-mark-requires
+    enum-told
+    put-requires
+    enum-told-2
+    row-requires
+    enum-told-3
+    pervade-requires
+    enum-told-4
+    join-requires
+    enum-told-5
+    validate-requires
+    enum-known-marked
+    refuse-requires
+    same-length
+    returns
+    same-length-2
+    same-length-3
+    returns-2
+    same-length-4
+    same-length-5
+    returns-3
+    same-length-6
+    same-length-7
+    returns-4
+    same-length-8
+    same-length-9
+    returns-5
+    returns-6)

@@ -1,0 +1,81 @@
+use mathlib.Core.Path.{_≡_, refl, sym, _∙_, ap}
+use native.Mathlib.Omega.{arith}
+use Rattle.stack.specs.StackLaws.{holds-top, holds-below, holds-count}
+use Rattle.run.proofs.RuleLaws.{held-lone}
+use borrow.Author.Needs.{needs}
+use Rattle.run.proofs.tops.pervade_top.Statement.{statement}
+use Rattle.run.proofs.tops.pervade_top.Tie as tie
+use Rattle.run.proofs.tops.pervade_top.Reads as reads
+use Rattle.run.proofs.tops.pervade_top.Lts as lts
+use Rattle.run.proofs.tops.pervade_types.Reads as pervade-types-reads
+use Rattle.stack.proofs.load.Reads as load-reads
+
+-- src/tops.rt:66:24
+sub-load : tie.Need-sub-load
+sub-load c = search needs
+
+-- src/tops.rt:66:9
+load-requires : tie.Need-load-requires
+load-requires c κs = search needs
+
+-- src/tops.rt:69:26
+sub-load-2 : tie.Need-sub-load-2
+sub-load-2 c = search needs
+
+-- src/tops.rt:69:9
+load-requires-2 : tie.Need-load-requires-2
+load-requires-2 c κs = search needs
+
+-- src/tops.rt:73:9
+sub-pervade-types : tie.Need-sub-pervade-types
+sub-pervade-types c = search needs
+
+-- src/tops.rt:73:9
+part-pervade-types-start : tie.Need-part-pervade-types-start
+part-pervade-types-start c = search needs
+
+-- src/tops.rt:73:9
+part-pervade-types-end : tie.Need-part-pervade-types-end
+part-pervade-types-end c = search needs
+
+-- src/tops.rt:74:9
+sub-pervade-types-2 : tie.Need-sub-pervade-types-2
+sub-pervade-types-2 c = search needs
+
+-- src/tops.rt:74:9
+part-pervade-types-start-2 : tie.Need-part-pervade-types-start-2
+part-pervade-types-start-2 c = search needs
+
+-- src/tops.rt:74:9
+part-pervade-types-end-2 : tie.Need-part-pervade-types-end-2
+part-pervade-types-end-2 c = search needs
+
+-- src/tops.rt:72:5
+pervade-types-requires : tie.Need-pervade-types-requires
+pervade-types-requires c κs = search needs
+
+-- src/tops.rt:56:1
+same-length : tie.Need-same-length
+same-length c = search needs
+
+-- src/tops.rt:56:1
+returns : tie.Need-returns
+returns c = λ t u ts h. c .before .before .pervade-types .ensures ∙ rw (held-lone (c .before .before .before .before .before .before .before .before .load .ensures .1 (c .before .before .before .before .before .before .before .before .before .before .before .before .args .scratch .now) ∙ holds-top (c .before .before .before .before .before .before .before .before .before .before .before .before .args .st) (c .before .before .before .before .before .before .before .before .before .before .before .before .args .scratch .now) h) (h .within .0), held-lone (c .before .before .before .before .before .before .load2 .ensures .1 (c .before .before .before .before .before .before .before .before .before .before .before .before .args .scratch .now) ∙ holds-below (c .before .before .before .before .before .before .before .before .before .before .before .before .args .st) (c .before .before .before .before .before .before .before .before .before .before .before .before .args .scratch .now) h) (h .within .1 .0))
+
+pub pervade-top-spec : {M : Type 1} → statement M
+pervade-top-spec =
+    tie.close
+    (tie.spec
+    sub-load
+    load-requires
+    sub-load-2
+    load-requires-2
+    sub-pervade-types
+    part-pervade-types-start
+    part-pervade-types-end
+    sub-pervade-types-2
+    part-pervade-types-start-2
+    part-pervade-types-end-2
+    pervade-types-requires
+    same-length
+    returns)

@@ -1,0 +1,63 @@
+-- What the answers of this crate say, in the terms of the definitions: for each case of each, the paper's number and values.
+use Prim.Native.Nat.{ℕ, _+_, _≤_, _<_}
+use mathlib.Core.List.{List}
+use mathlib.Core.Path.{_≡_}
+use lib.ListN.{length}
+use Rattle.model.specs.Limits.{maxBytes}
+use Rattle.model.specs.Types.{Ty}
+use Rattle.model.specs.Within.{Within}
+use Rattle.format.specs.Reader.{Read, got, stopped}
+use Rattle.format.specs.Records.{writeTy}
+use Rattle.format.specs.Outcome.{Outcome, accepted, refused, mapped, deliver}
+use Rattle.lent.specs.Written.{delivered}
+use Rattle.lent.specs.declared.Written.{Written}
+use Rattle.machine.specs.SheetLimits.{maxStack}
+use Rattle.machine.specs.Steps.{Opcode, aPut, aRow, aPervading, aJoin, aValidating}
+use Rattle.machine.specs.Run as rules
+use Rattle.machine.specs.Run.{gives, refuses, Stack}
+use Rattle.machine.specs.Call as sheet
+use Rattle.machine.specs.Call.{called, tally}
+use Rattle.stack.specs.Stack.{Holds}
+use Rattle.stack.specs.declared.Slots.{Slots}
+use Rattle.run.specs.declared.marks.Marked.{Marked}
+use Rattle.run.specs.declared.marks.Marked.the-variants.{Put, Row, Pervading, Join, Validating, Refused as Unmarked}
+use Rattle.run.specs.declared.Reached.{Reached}
+use Rattle.run.specs.declared.Reached.the-variants.{At, Refused}
+use Rattle.run.specs.declared.Called.{Called}
+use Rattle.run.specs.declared.Called.the-variants.{Left, Refused as Refuses}
+
+-- the sheet call: how many types are left and their bytes in all, or the refusal, beside both buffers
+abbrev pub calledOf : Called → List ℕ → List ℕ → sheet.Called
+calledOf (Left types bytes) result scratch = called (accepted (tally types bytes)) result scratch
+calledOf (Refuses k p) result scratch = called (refused k p) result scratch
+
+-- A mark at a place has two bytes; its refusal names it.
+abbrev pub markedOf : Marked → ℕ → Read Opcode
+markedOf Put at = got aPut (at + 2)
+markedOf Row at = got aRow (at + 2)
+markedOf Pervading at = got aPervading (at + 2)
+markedOf Join at = got aJoin (at + 2)
+markedOf Validating at = got aValidating (at + 2)
+markedOf (Unmarked k) at = stopped k at
+
+-- One step, or all: the place reached, where the scratch holds the stack that was read, or the refusal.
+abbrev pub Works : Reached → Slots → List ℕ → Read Stack → Type 0
+Works (At n) st d o = (ts : Stack) × (o ≡ got ts n) × Holds st d ts
+Works (Refused k p) st d o = o ≡ stopped k p
+
+-- a rule's answer as an outcome of its own
+abbrev pub atStart : {A : Type 0} → rules.Answer A → Outcome A
+atStart (gives a) = accepted a
+atStart (refuses k) = refused k 0
+
+-- A rule's outcome of the types above the k lowest, delivered to a buffer that holds any type.
+pub record Ruled (st : Slots) (d : List ℕ) (k : ℕ) (w : Written) (out : List ℕ) : Type 0 where
+  pub types : Stack
+  pub held : Holds st d types
+  pub outcome : Outcome Ty
+  pub keeps : (t : Ty) → outcome ≡ accepted t → Within t
+  pub before : List ℕ
+  pub room : maxBytes ≤ length before
+  pub given : delivered w out ≡ deliver (mapped writeTy outcome) before
+  pub low : k < maxStack
+  pub there : k ≤ st .count

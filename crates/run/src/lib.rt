@@ -1,0 +1,29 @@
+// The sheet check: steps on a stack of types in a lent scratch, one call for a sheet of any bytes.
+mod marks;
+mod sheet;
+mod steps;
+mod tops;
+
+pub use sheet::check_sheet;
+use stack::Slots;
+
+// Steps of a sheet.
+const MAX_STEPS: usize = 64;
+
+// What a call answers: how many types are left and their bytes in all, or the refusal.
+pub enum Called {
+    Left { types: usize, bytes: usize },
+    Refused { number: u8, place: usize },
+}
+
+// The place that a step reached, or its refusal.
+pub enum Reached {
+    At(usize),
+    Refused { number: u8, place: usize },
+}
+
+// The same with the stack beside it.
+pub struct Worked {
+    pub answer: Reached,
+    pub st: Slots,
+}

@@ -1,0 +1,110 @@
+// The rules of the steps on the types on top of the stack. What a rule makes of them goes to a buffer that holds any type.
+use join::join;
+use join::write_union;
+use lent::Written;
+use limits::refusal::UNPERVADED;
+use record::Lone;
+use record::lone_shape;
+use record::read_both;
+use shape::Verdict;
+use shape::pervade_dyn_shapes;
+use stack::Slots;
+use stack::load;
+use ty::into_row;
+use validate::Side;
+use validate::validate;
+ghost use mathlib.Core.Path.{_≡_};
+ghost use mathlib.Core.List.{_∷_};
+ghost use Prim.Native.Nat.{_≤_};
+ghost use Rattle.model.specs.Types.{Ty};
+ghost use Rattle.format.specs.Records.{writeTy};
+ghost use Rattle.format.specs.Outcome.{accepted, deliver, mapped, both, lone};
+ghost use Rattle.lent.specs.Written.{delivered};
+ghost use Rattle.rules.specs.Types.{intoRow, joinTypes};
+ghost use Rattle.validation.specs.CheckShape.{unsided};
+ghost use Rattle.validation.specs.Validate.{validate};
+ghost use Rattle.machine.specs.Run.{Stack, pervadeTypes};
+ghost use Rattle.stack.specs.Stack.{Holds, HasTypes};
+ghost use Rattle.run.specs.Answers.{atStart};
+
+// The row of the top.
+pub fn row_top(st: Slots, scratch: &[u8], out: &mut [u8]) -> Written
+    requires { ⌜ (1 ≤ st .count) × HasTypes st (now scratch) ⌝ }
+    ensures { λ r. ⌜ ((t : Ty) (ts : Stack) → Holds st (now (scratch .entry)) (t ∷ ts) → delivered r (now (out .exit)) ≡ deliver (accepted (writeTy (intoRow t))) (now (out .entry))) ⌝ }
+{
+    let top = load(st, st.count - 1);
+    let start = top.start;
+    let end = top.end;
+    into_row(&scratch[start..end], &mut *out)
+}
+
+// The join of the top with the one below.
+pub fn join_top(st: Slots, scratch: &[u8], out: &mut [u8]) -> Written
+    requires { ⌜ (2 ≤ st .count) × HasTypes st (now scratch) ⌝ }
+    ensures { λ r. ⌜ ((t u : Ty) (ts : Stack) → Holds st (now (scratch .entry)) (t ∷ u ∷ ts) → delivered r (now (out .exit)) ≡ deliver (accepted (writeTy (joinTypes t u))) (now (out .entry))) ⌝ }
+{
+    let top = load(st, st.count - 1);
+    let start = top.start;
+    let end = top.end;
+    let below = load(st, st.count - 2);
+    let from = below.start;
+    let to = below.end;
+    join(&scratch[start..end], &scratch[from..to], &mut *out)
+}
+
+// The pervading of the top with the one below.
+pub fn pervade_top(
+    st: Slots,
+    scratch: &[u8],
+    top_fill: bool,
+    below_fill: bool,
+    out: &mut [u8],
+) -> Written
+    requires { ⌜ (2 ≤ st .count) × HasTypes st (now scratch) ⌝ }
+    ensures { λ r. ⌜ ((t u : Ty) (ts : Stack) → Holds st (now (scratch .entry)) (t ∷ u ∷ ts) → delivered r (now (out .exit)) ≡ deliver (mapped writeTy (atStart (pervadeTypes «top_fill» «below_fill» t u))) (now (out .entry))) ⌝ }
+{
+    let top = load(st, st.count - 1);
+    let start = top.start;
+    let end = top.end;
+    let below = load(st, st.count - 2);
+    let from = below.start;
+    let to = below.end;
+    pervade_types(
+        &scratch[start..end],
+        &scratch[from..to],
+        top_fill,
+        below_fill,
+        &mut *out,
+    )
+}
+
+// The pervading of two types: that of their shapes with the union of their scalars.
+fn pervade_types(a: &[u8], b: &[u8], a_fill: bool, b_fill: bool, out: &mut [u8]) -> Written
+    ensures { λ r. ⌜ delivered r (now (out .exit)) ≡ deliver (both (λ t u. mapped writeTy (atStart (pervadeTypes «a_fill» «b_fill» t u))) (lone (now (a .entry))) (lone (now (b .entry)))) (now (out .entry)) ⌝ }
+{
+    let read = read_both(a, b);
+    if let Lone::Refused { number, place } = read {
+        return Written::Refused { number, place };
+    }
+    let pervaded = pervade_dyn_shapes(lone_shape(a), lone_shape(b), a_fill, b_fill);
+    let answer = pervaded.answer;
+    if let Verdict::Clash(_) = answer {
+        return Written::Refused {
+            number: UNPERVADED,
+            place: 0,
+        };
+    }
+    let shape = pervaded.shape;
+    write_union(shape, a, b, &mut *out)
+}
+
+// The top, validated without side.
+pub fn validate_top(st: Slots, scratch: &[u8], spec: &[u8], out: &mut [u8]) -> Written
+    requires { ⌜ (1 ≤ st .count) × HasTypes st (now scratch) ⌝ }
+    ensures { λ r. ⌜ ((s t : Ty) (ts : Stack) → Holds st (now (scratch .entry)) (t ∷ ts) → lone (now (spec .entry)) ≡ accepted s → delivered r (now (out .exit)) ≡ deliver (mapped writeTy (validate unsided s t)) (now (out .entry))) ⌝ }
+{
+    let top = load(st, st.count - 1);
+    let start = top.start;
+    let end = top.end;
+    validate(Side::Unsided, spec, &scratch[start..end], &mut *out)
+}

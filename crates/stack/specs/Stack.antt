@@ -1,0 +1,32 @@
+-- How the stack's types lie in the scratch: the k-th from the bottom at the front of a slot of its own, its length beside.
+use Prim.Native.Nat.{ℕ, zero, suc, _*_, _≤_, _<_}
+use mathlib.Core.List.{List, [], _∷_, map}
+use mathlib.Core.Path.{_≡_}
+use lib.ListN.{length, getD, take, drop}
+use Rattle.model.specs.Limits.{maxBytes}
+use Rattle.model.specs.Types.{Ty}
+use Rattle.model.specs.Within.{All, Within}
+use Rattle.format.specs.Records.{writeTy}
+use Rattle.machine.specs.SheetLimits.{maxStack, scratchBytes}
+use Rattle.stack.specs.declared.Slots.{Slots}
+
+abbrev pub slotOf : List ℕ → List ℕ → ℕ → List ℕ
+slotOf lengths d k = take (getD lengths k 0) (drop (k * maxBytes) d)
+
+-- what stands in the first slots, the last of them first
+unfoldable pub slots : List ℕ → List ℕ → ℕ → List (List ℕ)
+slots lengths d zero = []
+slots lengths d (suc k) = slotOf lengths d k ∷ slots lengths d k
+
+-- The scratch holds these types, top first.
+pub record Holds (st : Slots) (d : List ℕ) (ts : List Ty) : Type 0 where
+  pub room : scratchBytes ≤ length d
+  pub few : st .count ≤ maxStack
+  pub short : (k : ℕ) → k < st .count → getD (st .lengths) k 0 ≤ maxBytes
+  pub bytes : slots (st .lengths) d (st .count) ≡ map writeTy ts
+  pub within : All Within ts
+
+-- that it holds some
+pub record HasTypes (st : Slots) (d : List ℕ) : Type 0 where
+  pub types : List Ty
+  pub held : Holds st d types

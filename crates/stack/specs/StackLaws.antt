@@ -1,0 +1,125 @@
+-- What follows where a scratch holds types: how many, which stands where, and that a type stored over a slot leaves those below.
+use Prim.Native.Nat.{ℕ, zero, suc, _+_, _-_, _*_, _≤_, _<_}
+use native.Mathlib.Omega.{arith}
+use native.Mathlib.Numerals.{add-one}
+use native.Mathlib.Nat.{eq-or-lt-of-le}
+use mathlib.Core.List.{List, [], _∷_, _++_, map, append-assoc}
+use mathlib.Core.Logic.{⊎-elim}
+use mathlib.Core.Path.{_≡_, refl, sym, _∙_, ap}
+use lib.ListN.{length, getD, take, drop, set, length-map, length-append, length-set}
+use lib.Seq.{length-take-le, take-append-le, take-take, take-add, drop-at, take-at, getD-set-same, getD-set-other}
+use Rattle.model.specs.Limits.{maxBytes}
+use Rattle.model.specs.Types.{Ty}
+use Rattle.model.specs.Within.{All, Within}
+use Rattle.format.specs.Records.{writeTy}
+use Rattle.lent.specs.Over.{over, length-over}
+use Rattle.machine.specs.SheetLimits.{maxStack, scratchBytes}
+use Rattle.stack.specs.Stack.{slotOf, slots, Holds}
+use Rattle.stack.specs.declared.Slots.{Slots}
+
+-- ---- how many
+
+length-slots : (lengths d : List ℕ) (n : ℕ) → length (slots lengths d n) ≡ n
+unfolding slots
+length-slots lengths d zero = refl
+length-slots lengths d (suc n) = rw (length-slots lengths d n)
+
+module _ (st : Slots) (d : List ℕ) where
+  pub holds-count : {ts : List Ty} → Holds st d ts → length ts ≡ st .count
+  holds-count {ts} h = sym (length-map ts writeTy) ∙ ap length (sym (h .bytes)) ∙ length-slots (st .lengths) d (st .count)
+
+  -- ---- which stands where
+
+  tops : (n : ℕ) (t : Ty) (ts : List Ty) → slots (st .lengths) d n ≡ map writeTy (t ∷ ts) → (slotOf (st .lengths) d (n - 1) ≡ writeTy t) × (slots (st .lengths) d (n - 1) ≡ map writeTy ts)
+  unfolding slots
+  tops zero t ts e = let z : _≡_ {A = ℕ} 0 1 = cc in absurd (omega arith)
+  tops (suc n) t ts e =
+      let a : suc n - 1 ≡ n = omega arith in
+      let b : slotOf (st .lengths) d n ≡ writeTy t = cc in
+      let c : slots (st .lengths) d n ≡ map writeTy ts = cc in
+      rw a (b, c)
+
+  pub holds-top : {t : Ty} {ts : List Ty} → Holds st d (t ∷ ts) → slotOf (st .lengths) d (st .count - 1) ≡ writeTy t
+  holds-top {t} {ts} h = tops (st .count) t ts (h .bytes) .0
+
+  pub holds-below : {t u : Ty} {ts : List Ty} → Holds st d (t ∷ u ∷ ts) → slotOf (st .lengths) d (st .count - 2) ≡ writeTy u
+  holds-below {t} {u} {ts} h =
+      let a : st .count - 1 - 1 ≡ st .count - 2 = omega arith in
+      rw a at (tops (st .count - 1) u ts (tops (st .count) t (u ∷ ts) (h .bytes) .1) .0)
+
+-- ---- a type stored
+
+drop-take : (n a : ℕ) (l : List ℕ) → a ≤ length l → take n (drop a l) ≡ drop a (take (a + n) l)
+drop-take n a l h = sym (ap (drop a) (take-add a n l) ∙ drop-at (take a l) (take n (drop a l)) a (length-take-le a l h))
+
+module _ (d w : List ℕ) (at : ℕ) (fits : at + length w ≤ length d) where
+  head-kept : take at (over d at w) ≡ take at d
+  head-kept =
+      let a : length (take at d) ≡ at = length-take-le at d (omega arith) in
+      ap (take at) (append-assoc (take at d) w (drop (at + length w) d)) ∙ take-at (take at d) (w ++ drop (at + length w) d) at a
+
+  -- what ends before a stretch stays where the stretch is laid
+  part-before : (a n : ℕ) → a + n ≤ at → take n (drop a (over d at w)) ≡ take n (drop a d)
+  part-before a n h =
+      drop-take n a (over d at w) (rw (length-over d at w fits) (omega arith))
+      ∙ ap (drop a) (sym (take-take (a + n) at (over d at w) h) ∙ ap (take (a + n)) head-kept ∙ take-take (a + n) at d h)
+      ∙ sym (drop-take n a d (omega arith))
+
+  part-here : take (length w) (drop at (over d at w)) ≡ w
+  part-here =
+      ap (λ (l : List ℕ). take (length w) (drop at l)) (append-assoc (take at d) w (drop (at + length w) d))
+      ∙ ap (take (length w)) (drop-at (take at d) (w ++ drop (at + length w) d) at (length-take-le at d (omega arith)))
+      ∙ take-at w (drop (at + length w) d) (length w) refl
+
+slots-same : (lengths after d e : List ℕ) (n : ℕ) → ((k : ℕ) → k < n → slotOf after e k ≡ slotOf lengths d k) → slots after e n ≡ slots lengths d n
+unfolding slots
+slots-same lengths after d e zero f = refl
+slots-same lengths after d e (suc n) f = rw (slots-same lengths after d e n (λ k h. f k (omega arith)), f n (omega arith))
+
+-- the lower slots, where the types above them go
+module _ (lengths d : List ℕ) (k : ℕ) where
+  slots-lower : (j n : ℕ) (ts : List Ty) → n ≡ j + k → slots lengths d n ≡ map writeTy ts → slots lengths d k ≡ map writeTy (drop j ts)
+  unfolding slots
+  slots-lower zero n ts e x = let a : n ≡ k = omega arith in rw a at x
+  slots-lower (suc j) zero ts e x = absurd (omega arith)
+  slots-lower (suc j) (suc n) [] e x = let z : _≡_ {A = ℕ} 0 1 = cc in absurd (omega arith)
+  slots-lower (suc j) (suc n) (t ∷ ts) e x = let y : slots lengths d n ≡ map writeTy ts = cc in slots-lower j n ts (omega arith) y
+
+All-drop : (j : ℕ) (ts : List Ty) → All Within ts → All Within (drop j ts)
+All-drop zero ts h = h
+All-drop (suc j) [] h = h
+All-drop (suc j) (t ∷ ts) h = All-drop j ts (h .1)
+
+-- A type stored in slot k, on those below it.
+module _ (st : Slots) (d : List ℕ) (k : ℕ) (w : List ℕ) (low : k < maxStack) (there : k ≤ st .count) (held : length (st .lengths) ≡ maxStack) where
+  abbrev pub storedIn : Slots
+  storedIn = record { lengths = set (st .lengths) k (length w); count = k + 1 }
+
+  pub stored : (ts : List Ty) (t : Ty) → Holds st d ts → Within t → w ≡ writeTy t → length w ≤ maxBytes → Holds storedIn (over d (k * maxBytes) w) (t ∷ drop (st .count - k) ts)
+  unfolding slots
+  stored ts t h v e n =
+      let fits : k * maxBytes + length w ≤ length d = omega (arith, h .room) in
+      record {
+        room = omega (arith, h .room, length-over d (k * maxBytes) w fits);
+        few = omega arith;
+        short = λ i less. shorter h n i less;
+        bytes = lie h fits;
+        within = (v, All-drop (st .count - k) ts (h .within));
+      }
+    where
+      shorter : Holds st d ts → length w ≤ maxBytes → (i : ℕ) → i < k + 1 → getD (set (st .lengths) k (length w)) i 0 ≤ maxBytes
+      shorter h n i less =
+          let q : i ≤ k = omega arith in
+          ⊎-elim
+          (λ x. rw (x, getD-set-same (st .lengths) k (length w) 0 (omega arith)) n)
+          (λ x. rw (getD-set-other (st .lengths) k i (length w) 0 (λ y. omega arith)) (h .short i (omega arith)))
+          (eq-or-lt-of-le q)
+
+      lie : Holds st d ts → k * maxBytes + length w ≤ length d → slots (set (st .lengths) k (length w)) (over d (k * maxBytes) w) (k + 1) ≡ map writeTy (t ∷ drop (st .count - k) ts)
+      lie h fits =
+          let one : k + 1 ≡ suc k = add-one k in
+          let here : slotOf (set (st .lengths) k (length w)) (over d (k * maxBytes) w) k ≡ writeTy t = rw (getD-set-same (st .lengths) k (length w) 0 (omega arith)) (part-here d w (k * maxBytes) fits ∙ e) in
+          let lower : slots (set (st .lengths) k (length w)) (over d (k * maxBytes) w) k ≡ slots (st .lengths) d k =
+          slots-same (st .lengths) (set (st .lengths) k (length w)) d (over d (k * maxBytes) w) k λ i less.
+          rw (getD-set-other (st .lengths) k i (length w) 0 (λ y. omega arith)) (part-before d w (k * maxBytes) fits (i * maxBytes) (getD (st .lengths) i 0) (omega (arith, h .short i (omega arith)))) in
+          rw (one, here, lower, slots-lower (st .lengths) d k (st .count - k) (st .count) ts (omega arith) (h .bytes))

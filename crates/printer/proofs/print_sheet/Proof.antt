@@ -9,31 +9,24 @@ use Rattle.printer.proofs.print_sheet.Reads as reads
 use Rattle.printer.proofs.print_sheet.Lts as lts
 use Rattle.printer.proofs.put_outcome.Reads as put-outcome-reads
 
--- src/lib.rt:31:9
 put-outcome-requires : tie.Need-put-outcome-requires
 put-outcome-requires c κs = search needs
 
--- src/lib.rt:32:5
 slice-write-out : tie.Need-slice-write-out
 slice-write-out c = omega (arith, c .before .before .before .before .before .before .put-outcome .ensures .ends, (text-room (c .before .before .before .before .before .before .before .before .before .before .before .before .before .before .args .sheet .now) (λ i. omega (arith, c .before .before .before .before .before .before .before .before .before .before .before .before .before .shared-slice-known .given i))), c .before .before .before .before .before .before .before .before .before .before .before .before .before .before .pre)
 
--- src/lib.rt:33:5
 add-result : tie.Need-add-result
 add-result c = omega (arith, c .before .before .before .before .before .before .put-outcome .ensures .ends, (text-room (c .before .before .before .before .before .before .before .before .before .before .before .before .before .before .args .sheet .now) (λ i. omega (arith, c .before .before .before .before .before .before .before .before .before .before .before .before .before .shared-slice-known .given i))), c .before .before .before .before .before .before .before .before .before .before .before .before .before .before .pre)
 
--- src/lib.rt:25:1
 same-length : tie.Need-same-length
 same-length c = search needs
 
--- src/lib.rt:25:1
 same-length-2 : tie.Need-same-length-2
 same-length-2 c = search needs
 
--- src/lib.rt:25:1
 same-length-3 : tie.Need-same-length-3
 same-length-3 c = search needs
 
--- src/lib.rt:25:1
 returns : tie.Need-returns
 unfolding printed
 returns c = (line-ended _ _ _ _ (c .before .before .before .before .before .before .put-outcome .ensures) (omega (arith, c .before .before .before .before .before .before .put-outcome .ensures .ends, (text-room (c .before .before .before .before .before .before .before .before .before .before .before .before .before .before .args .sheet .now) (λ i. omega (arith, c .before .before .before .before .before .before .before .before .before .before .before .before .before .shared-slice-known .given i))), c .before .before .before .before .before .before .before .before .before .before .before .before .before .before .pre)), simp length-set (omega (arith, c .before .before .before .before .before .before .put-outcome .ensures .ends, (text-room (c .before .before .before .before .before .before .before .before .before .before .before .before .before .before .args .sheet .now) (λ i. omega (arith, c .before .before .before .before .before .before .before .before .before .before .before .before .before .shared-slice-known .given i))), c .before .before .before .before .before .before .before .before .before .before .before .before .before .before .pre)))

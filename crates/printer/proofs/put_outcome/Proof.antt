@@ -11,81 +11,62 @@ use Rattle.report.proofs.put_left.Reads as put-left-reads
 use Rattle.report.proofs.put_refusal.Reads as put-refusal-reads
 use Rattle.run.proofs.check_sheet.Reads as check-sheet-reads
 
--- src/lib.rt:44:9
 put-refusal-requires : tie.Need-put-refusal-requires
 put-refusal-requires c κs = search needs
 
--- src/lib.rt:44:9
 same-length : tie.Need-same-length
 same-length c = search needs
 
--- src/lib.rt:44:9
 returns : tie.Need-returns
-returns c = laid-long _ (c .before .before .before .before .if1 .taken) (c .before .before .put-refusal .ensures _)
+returns c = laid-long _ (omega (arith, c .before .before .before .before .if1 .taken)) (c .before .before .put-refusal .ensures _)
 
--- src/lib.rt:46:9
 check-sheet-requires : tie.Need-check-sheet-requires
 check-sheet-requires c κs = search needs
 
--- src/lib.rt:48:24
 enum-known-called : tie.Need-enum-known-called
 enum-known-called c = search needs
 
--- src/lib.rt:48:58
 slice-reshare-prefix-put-left : tie.Need-slice-reshare-prefix-put-left
 slice-reshare-prefix-put-left c = omega (arith, left-bytes ((answered _ _ _ _ _ (λ i. omega (arith, c .before .before .before .before .before .before .before .before .before .before .before .before .before .before .shared-slice-known .given i)) (c .before .called .given .1) (c .before .before .before .before .before .before .before .check-sheet .ensures)) .left), c .before .before .before .before .before .before .before .before .before .before .before .before .before .before .before .pre)
 
--- src/lib.rt:48:58
 slice-aggregate-put-left : tie.Need-slice-aggregate-put-left
 slice-aggregate-put-left c = sym (length-take-le _ _ (omega (arith, left-bytes ((answered _ _ _ _ _ (λ i. omega (arith, c .before .before .before .before .before .before .before .before .before .before .before .before .before .before .before .shared-slice-known .given i)) (c .before .before .called .given .1) (c .before .before .before .before .before .before .before .before .check-sheet .ensures)) .left), c .before .before .before .before .before .before .before .before .before .before .before .before .before .before .before .before .pre)))
 
--- src/lib.rt:48:76
 slice-aggregate-put-left-2 : tie.Need-slice-aggregate-put-left-2
 slice-aggregate-put-left-2 c = search needs
 
--- src/lib.rt:48:42
 put-left-requires : tie.Need-put-left-requires
 put-left-requires c κs = (record { types = (answered _ _ _ _ _ (λ i. omega (arith, c .before .before .before .before .before .before .before .before .before .before .before .before .before .before .before .before .before .shared-slice-known .given i)) (c .before .before .before .before .called .given .1) (c .before .before .before .before .before .before .before .before .before .before .check-sheet .ensures)) .types; there = left-is ((answered _ _ _ _ _ (λ i. omega (arith, c .before .before .before .before .before .before .before .before .before .before .before .before .before .before .before .before .before .shared-slice-known .given i)) (c .before .before .before .before .called .given .1) (c .before .before .before .before .before .before .before .before .before .before .check-sheet .ensures)) .left) }, omega (arith, left-room ((answered _ _ _ _ _ (λ i. omega (arith, c .before .before .before .before .before .before .before .before .before .before .before .before .before .before .before .before .before .shared-slice-known .given i)) (c .before .before .before .before .called .given .1) (c .before .before .before .before .before .before .before .before .before .before .check-sheet .ensures)) .left), c .before .before .before .before .before .before .before .before .before .before .before .before .before .before .before .before .before .before .pre))
 
--- src/lib.rt:49:27
 enum-known-called-2 : tie.Need-enum-known-called-2
 enum-known-called-2 c = search needs
 
--- src/lib.rt:49:46
 put-refusal-requires-2 : tie.Need-put-refusal-requires-2
 put-refusal-requires-2 c κs = search needs
 
--- src/lib.rt:37:1
 same-length-2 : tie.Need-same-length-2
 same-length-2 c = search needs
 
--- src/lib.rt:37:1
 same-length-3 : tie.Need-same-length-3
 same-length-3 c = search needs
 
--- src/lib.rt:37:1
 same-length-4 : tie.Need-same-length-4
 same-length-4 c = search needs
 
--- src/lib.rt:37:1
 returns-2 : tie.Need-returns-2
-returns-2 c = laid-left _ ((answered _ _ _ _ _ (λ i. omega (arith, c .before .before .before .before .before .before .before .before .before .before .before .before .before .before .before .before .before .before .before .before .shared-slice-known .given i)) (c .before .before .before .before .before .before .before .called .given .1) (c .before .before .before .before .before .before .before .before .before .before .before .before .before .check-sheet .ensures)) .left) (c .before .before .before .before .before .before .before .before .before .before .before .before .before .before .before .before .if1 .left) (c .before .before .put-left .ensures ((answered _ _ _ _ _ (λ i. omega (arith, c .before .before .before .before .before .before .before .before .before .before .before .before .before .before .before .before .before .before .before .before .shared-slice-known .given i)) (c .before .before .before .before .before .before .before .called .given .1) (c .before .before .before .before .before .before .before .before .before .before .before .before .before .check-sheet .ensures)) .types) (left-is ((answered _ _ _ _ _ (λ i. omega (arith, c .before .before .before .before .before .before .before .before .before .before .before .before .before .before .before .before .before .before .before .before .shared-slice-known .given i)) (c .before .before .before .before .before .before .before .called .given .1) (c .before .before .before .before .before .before .before .before .before .before .before .before .before .check-sheet .ensures)) .left)))
+returns-2 c = laid-left _ ((answered _ _ _ _ _ (λ i. omega (arith, c .before .before .before .before .before .before .before .before .before .before .before .before .before .before .before .before .before .before .before .before .shared-slice-known .given i)) (c .before .before .before .before .before .before .before .called .given .1) (c .before .before .before .before .before .before .before .before .before .before .before .before .before .check-sheet .ensures)) .left) (omega (arith, c .before .before .before .before .before .before .before .before .before .before .before .before .before .before .before .before .if1 .left)) (c .before .before .put-left .ensures ((answered _ _ _ _ _ (λ i. omega (arith, c .before .before .before .before .before .before .before .before .before .before .before .before .before .before .before .before .before .before .before .before .shared-slice-known .given i)) (c .before .before .before .before .before .before .before .called .given .1) (c .before .before .before .before .before .before .before .before .before .before .before .before .before .check-sheet .ensures)) .types) (left-is ((answered _ _ _ _ _ (λ i. omega (arith, c .before .before .before .before .before .before .before .before .before .before .before .before .before .before .before .before .before .before .before .before .shared-slice-known .given i)) (c .before .before .before .before .before .before .before .called .given .1) (c .before .before .before .before .before .before .before .before .before .before .before .before .before .check-sheet .ensures)) .left)))
 
--- src/lib.rt:37:1
 same-length-5 : tie.Need-same-length-5
 same-length-5 c = search needs
 
--- src/lib.rt:37:1
 same-length-6 : tie.Need-same-length-6
 same-length-6 c = search needs
 
--- src/lib.rt:37:1
 same-length-7 : tie.Need-same-length-7
 same-length-7 c = search needs
 
--- src/lib.rt:37:1
 returns-3 : tie.Need-returns-3
-returns-3 c = laid-refused _ _ _ _ _ (λ i. omega (arith, c .before .before .before .before .before .before .before .before .before .before .before .before .before .before .before .before .before .before .shared-slice-known .given i)) (c .before .before .before .before .before .called2 .given .1) (c .before .before .before .before .before .before .before .before .before .before .before .check-sheet .ensures) (c .before .before .before .before .before .before .before .before .before .before .before .before .before .before .before .before .before .before .before .pre .0) (c .before .before .before .before .before .before .before .before .before .before .before .before .before .before .before .before .before .before .before .pre .1 .0) (c .before .before .before .before .before .before .before .before .before .before .before .before .before .before .if1 .left) (c .before .before .put-refusal2 .ensures _)
+returns-3 c = laid-refused _ _ _ _ _ (λ i. omega (arith, c .before .before .before .before .before .before .before .before .before .before .before .before .before .before .before .before .before .before .shared-slice-known .given i)) (c .before .before .before .before .before .called2 .given .1) (c .before .before .before .before .before .before .before .before .before .before .before .check-sheet .ensures) (c .before .before .before .before .before .before .before .before .before .before .before .before .before .before .before .before .before .before .before .pre .0) (c .before .before .before .before .before .before .before .before .before .before .before .before .before .before .before .before .before .before .before .pre .1 .0) (omega (arith, c .before .before .before .before .before .before .before .before .before .before .before .before .before .before .if1 .left)) (c .before .before .put-refusal2 .ensures _)
 
 pub put-outcome-spec : {M : Type 1} → statement M
 put-outcome-spec =

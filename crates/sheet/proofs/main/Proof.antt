@@ -11,63 +11,48 @@ use Rattle.io.proofs.write_all.Reads as write-all-reads
 use Rattle.printer.proofs.print_sheet.Reads as print-sheet-reads
 use Rattle.sheet.proofs.read_input.Reads as read-input-reads
 
--- src/main.rt:19:28
 slice-aggregate-read-input : tie.Need-slice-aggregate-read-input
 slice-aggregate-read-input c = search needs
 
--- src/main.rt:19:9
 read-input-requires : tie.Need-read-input-requires
 read-input-requires c κs = search needs
 
--- src/main.rt:20:22
 enum-known-input : tie.Need-enum-known-input
 enum-known-input c = search needs
 
--- src/main.rt:21:9
 enum-told : tie.Need-enum-told
 enum-told c = search needs
 
--- src/main.rt:21:9
 returns : tie.Need-returns
 returns c = search needs
 
--- src/main.rt:26:27
 array-share-prefix-sheet : tie.Need-array-share-prefix-sheet
 array-share-prefix-sheet c = omega (arith, bytes-read _ (c .before .input .given .1) (c .before .before .before .before .read-input .ensures))
 
--- src/main.rt:26:27
 slice-aggregate-print-sheet : tie.Need-slice-aggregate-print-sheet
 slice-aggregate-print-sheet c = sym (length-take-le _ _ (omega (arith, bytes-read _ (c .before .before .input .given .1) (c .before .before .before .before .before .read-input .ensures))))
 
--- src/main.rt:26:40
 slice-aggregate-print-sheet-2 : tie.Need-slice-aggregate-print-sheet-2
 slice-aggregate-print-sheet-2 c = search needs
 
--- src/main.rt:26:53
 slice-aggregate-print-sheet-3 : tie.Need-slice-aggregate-print-sheet-3
 slice-aggregate-print-sheet-3 c = search needs
 
--- src/main.rt:26:67
 slice-aggregate-print-sheet-4 : tie.Need-slice-aggregate-print-sheet-4
 slice-aggregate-print-sheet-4 c = search needs
 
--- src/main.rt:26:9
 print-sheet-requires : tie.Need-print-sheet-requires
 print-sheet-requires c κs = search needs
 
--- src/main.rt:27:22
 array-share-prefix-out : tie.Need-array-share-prefix-out
 array-share-prefix-out c = search needs
 
--- src/main.rt:27:22
 slice-aggregate-write-all : tie.Need-slice-aggregate-write-all
 slice-aggregate-write-all c = sym (length-take-le _ _ (omega (arith, c .before .before .before .before .print-sheet .ensures .1)))
 
--- src/main.rt:27:5
 write-all-requires : tie.Need-write-all-requires
 write-all-requires c κs = search needs
 
--- src/main.rt:17:1
 returns-2 : tie.Need-returns-2
 returns-2 c = search needs
 

@@ -18,67 +18,51 @@ Inv-loop buf₀ n₀ buf n = (n ≤ length buf₀) × (length buf ≡ length buf
 abbrev μ-loop : tie.MeasureT-loop
 μ-loop buf₀ n₀ buf n = length buf₀ - n
 
--- src/main.rt:35:5
 loop-holds : tie.Need-loop-holds Inv-loop μ-loop
 loop-holds c = search needs
 
--- src/main.rt:36:30
 sub-read-some : tie.Need-sub-read-some Inv-loop μ-loop
 sub-read-some c = search needs
 
--- src/main.rt:36:30
 part-read-some-start : tie.Need-part-read-some-start Inv-loop μ-loop
 part-read-some-start c = search needs
 
--- src/main.rt:36:30
 part-read-some-end : tie.Need-part-read-some-end Inv-loop μ-loop
 part-read-some-end c = search needs
 
--- src/main.rt:36:13
 read-some-requires : tie.Need-read-some-requires Inv-loop μ-loop
 read-some-requires c κs = search needs
 
--- src/main.rt:37:26
 enum-known-more : tie.Need-enum-known-more Inv-loop μ-loop
 enum-known-more c = search needs
 
--- src/main.rt:38:13
 enum-told : tie.Need-enum-told Inv-loop μ-loop
 enum-told c = search needs
 
--- src/main.rt:38:13
 same-length : tie.Need-same-length Inv-loop μ-loop
 same-length c = search needs
 
--- src/main.rt:38:13
 returns : tie.Need-returns Inv-loop μ-loop
 returns c = search needs
 
--- src/main.rt:41:13
 same-length-2 : tie.Need-same-length-2 Inv-loop μ-loop
 same-length-2 c = search needs
 
--- src/main.rt:41:13
 returns-2 : tie.Need-returns-2 Inv-loop μ-loop
 returns-2 c = search needs
 
--- src/main.rt:43:9
 add-n : tie.Need-add-n Inv-loop μ-loop
 add-n c = omega (arith, bytes-read _ (c .before .before .more .given .1) (c .before .before .before .before .before .before .read-some .ensures), mid-len (c .before .before .before .before .before .before .before .before .before .loop .n) (length (c .before .before .before .before .before .before .before .before .before .loop .buf)) (c .before .before .before .before .before .before .before .before .before .loop .buf) (omega arith), c .before .before .before .before .before .before .before .before .before .loop .inv)
 
--- src/main.rt:35:5
 loop-less : tie.Need-loop-less Inv-loop μ-loop
 loop-less c = search needs
 
--- src/main.rt:35:5
 loop-again : tie.Need-loop-again Inv-loop μ-loop
 loop-again c = (omega (arith, bytes-read _ (c .before .before .more .given .1) (c .before .before .before .before .before .before .read-some .ensures), mid-len (c .before .before .before .before .before .before .before .before .before .loop .n) (length (c .before .before .before .before .before .before .before .before .before .loop .buf)) (c .before .before .before .before .before .before .before .before .before .loop .buf) (omega arith), c .before .before .before .before .before .before .before .before .before .loop .inv), same-len-mid (c .before .before .before .before .before .before .before .before .before .loop .n) (length (c .before .before .before .before .before .before .before .before .before .loop .buf) - c .before .before .before .before .before .before .before .before .before .loop .n) (c .before .before .before .before .before .before .before .before .before .loop .buf) (c .before .before .before .before .before .before .read-some .last .0) (c .before .before .before .before .before .before .read-some .kept .0) ∙ c .before .before .before .before .before .before .before .before .before .loop .inv .1)
 
--- src/main.rt:31:1
 same-length-3 : tie.Need-same-length-3 Inv-loop μ-loop
 same-length-3 c = search needs
 
--- src/main.rt:31:1
 returns-3 : tie.Need-returns-3 Inv-loop μ-loop
 returns-3 c = search needs
 

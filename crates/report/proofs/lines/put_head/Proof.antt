@@ -8,31 +8,24 @@ use Rattle.report.proofs.lines.put_head.Lts as lts
 use Rattle.report.proofs.parts.put.Reads as put-reads
 use Rattle.report.proofs.parts.put_number.Reads as put-number-reads
 
--- src/lines.rt:44:9
 put-requires : tie.Need-put-requires
 put-requires c κs = search needs
 
--- src/lines.rt:45:9
 put-number-requires : tie.Need-put-number-requires
 put-number-requires c κs = search needs
 
--- src/lines.rt:46:22
 slice-aggregate-put : tie.Need-slice-aggregate-put
 slice-aggregate-put c = search needs
 
--- src/lines.rt:46:9
 put-requires-2 : tie.Need-put-requires-2
 put-requires-2 c κs = omega (arith, c .before .before .before .before .before .before .before .before .put .ensures .ends, c .before .before .before .before .put-number .ensures .ends, length-decimal 20 (c .before .before .before .before .before .before .before .before .before .before .before .before .args .m), c .before .before .before .before .before .before .before .before .before .before .before .before .pre .0)
 
--- src/lines.rt:47:5
 put-number-requires-2 : tie.Need-put-number-requires-2
 put-number-requires-2 c κs = omega (arith, c .before .before .before .before .before .before .before .before .before .before .before .before .put .ensures .ends, c .before .before .before .before .before .before .before .before .put-number .ensures .ends, c .before .before .before .put2 .ensures .ends, length-decimal 20 (c .before .before .before .before .before .before .before .before .before .before .before .before .before .before .before .before .args .m), c .before .before .before .before .before .before .before .before .before .before .before .before .before .before .before .before .pre .0)
 
--- src/lines.rt:39:1
 same-length : tie.Need-same-length
 same-length c = search needs
 
--- src/lines.rt:39:1
 returns : tie.Need-returns
 returns c = head-laid _ _ _ (c .before .before .before .before .before .before .before .before .before .before .before .before .before .before .before .before .before .before .before .pre .0) _ _ (c .before .before .before .before .before .before .before .before .before .before .before .before .before .before .before .before .before .before .before .pre .1) (c .before .before .before .before .before .before .before .before .before .before .before .before .before .before .before .put .ensures) (c .before .before .before .before .before .before .before .before .before .before .before .put-number .ensures) (c .before .before .before .before .before .before .put2 .ensures) (c .before .before .put-number2 .ensures)
 

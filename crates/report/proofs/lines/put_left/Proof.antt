@@ -12,23 +12,18 @@ use Rattle.report.proofs.lines.put_left.Lts as lts
 use Rattle.report.proofs.lines.put_head.Reads as put-head-reads
 use Rattle.report.proofs.lines.put_types.Reads as put-types-reads
 
--- src/lines.rt:34:25
 slice-aggregate-put-head : tie.Need-slice-aggregate-put-head
 slice-aggregate-put-head c = search needs
 
--- src/lines.rt:34:9
 put-head-requires : tie.Need-put-head-requires
 put-head-requires c κs = search needs
 
--- src/lines.rt:35:5
 put-types-requires : tie.Need-put-types-requires
 put-types-requires c κs = (c .before .before .before .before .before .before .before .before .before .pre .0, omega (arith, c .before .before .before .before .before .before .before .before .before .pre .1, c .before .before .before .put-head .ensures .ends, length-headed okWord (c .before .before .before .before .before .before .before .before .before .args .types) (length (c .before .before .before .before .before .before .before .before .before .args .bytes .now)) refl))
 
--- src/lines.rt:29:1
 same-length : tie.Need-same-length
 same-length c = search needs
 
--- src/lines.rt:29:1
 returns : tie.Need-returns
 returns c = λ ts h. left-laid _ _ _ ts _ _ h (omega (arith, c .before .before .before .before .before .before .before .before .before .before .before .before .pre .1)) (c .before .before .before .before .before .before .put-head .ensures) (c .before .before .put-types .ensures ts h)
 

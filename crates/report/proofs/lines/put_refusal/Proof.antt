@@ -6,19 +6,15 @@ use Rattle.report.proofs.lines.put_refusal.Reads as reads
 use Rattle.report.proofs.lines.put_refusal.Lts as lts
 use Rattle.report.proofs.lines.put_head.Reads as put-head-reads
 
--- src/lines.rt:25:14
 slice-aggregate-put-head : tie.Need-slice-aggregate-put-head
 slice-aggregate-put-head c = search needs
 
--- src/lines.rt:25:5
 put-head-requires : tie.Need-put-head-requires
 put-head-requires c κs = search needs
 
--- src/lines.rt:21:1
 same-length : tie.Need-same-length
 same-length c = search needs
 
--- src/lines.rt:21:1
 returns : tie.Need-returns
 unfolding reported
 returns c = λ between. c .before .before .put-head .ensures

@@ -9,31 +9,24 @@ use Rattle.report.proofs.parts.put.Reads as put-reads
 use Rattle.report.proofs.parts.put_hex.Reads as put-hex-reads
 use Rattle.report.proofs.parts.put_number.Reads as put-number-reads
 
--- src/lines.rt:76:9
 put-requires : tie.Need-put-requires
 put-requires c κs = search needs
 
--- src/lines.rt:77:9
 put-number-requires : tie.Need-put-number-requires
 put-number-requires c κs = search needs
 
--- src/lines.rt:78:22
 slice-aggregate-put : tie.Need-slice-aggregate-put
 slice-aggregate-put c = search needs
 
--- src/lines.rt:78:9
 put-requires-2 : tie.Need-put-requires-2
 put-requires-2 c κs = omega (arith, c .before .before .before .before .before .before .before .before .put .ensures .ends, c .before .before .before .before .put-number .ensures .ends, length-decimal 20 (c .before .before .before .before .before .before .before .before .before .before .before .before .before .args .place))
 
--- src/lines.rt:79:5
 put-hex-requires : tie.Need-put-hex-requires
 put-hex-requires c κs = omega (arith, c .before .before .before .before .before .before .before .before .before .before .before .before .put .ensures .ends, c .before .before .before .before .before .before .before .before .put-number .ensures .ends, c .before .before .before .put2 .ensures .ends, length-decimal 20 (c .before .before .before .before .before .before .before .before .before .before .before .before .before .before .before .before .before .args .place))
 
--- src/lines.rt:72:1
 same-length : tie.Need-same-length
 same-length c = search needs
 
--- src/lines.rt:72:1
 returns : tie.Need-returns
 returns c = line-laid _ _ _ _ _ (c .before .before .before .before .before .before .before .before .before .before .before .before .before .before .before .before .before .before .before .before .pre) (c .before .before .before .before .before .before .before .before .before .before .before .before .before .before .before .put .ensures) (c .before .before .before .before .before .before .before .before .before .before .before .put-number .ensures) (c .before .before .before .before .before .before .put2 .ensures) (c .before .before .put-hex .ensures)
 

@@ -21,65 +21,50 @@ Inv-loop types bytes between out₀ at i₀ from₀ end₀ out i from end = (i �
 abbrev μ-loop : tie.MeasureT-loop
 μ-loop types bytes between out₀ at i₀ from₀ end₀ out i from end = types - i
 
--- src/lines.rt:59:5
 loop-holds : tie.Need-loop-holds Inv-loop μ-loop
 loop-holds c = (omega arith, refl, λ ts h. walk-starts _ _ _ _ _ ts h)
 
--- src/lines.rt:60:13
 read-type-requires : tie.Need-read-type-requires Inv-loop μ-loop
 read-type-requires c κs = search needs
 
--- src/lines.rt:61:37
 enum-known-read : tie.Need-enum-known-read Inv-loop μ-loop
 enum-known-read c = search needs
 
--- src/lines.rt:62:13
 enum-told : tie.Need-enum-told Inv-loop μ-loop
 enum-told c = search needs
 
--- src/lines.rt:62:13
 same-length : tie.Need-same-length Inv-loop μ-loop
 same-length c = search needs
 
--- src/lines.rt:62:13
 returns : tie.Need-returns Inv-loop μ-loop
-returns c = λ ts h. due-refused _ _ _ _ _ ts (c .before .before .before .before .before .before .before .before .pre .1) (c .before .before .before .loop-test .taken) (c .enum-told .given .1) (c .before .before .read-type .ensures) (c .before .before .before .before .loop .inv .2 ts h)
+returns c = λ ts h. due-refused _ _ _ _ _ ts (c .before .before .before .before .before .before .before .before .pre .1) (omega (arith, c .before .before .before .loop-test .taken)) (c .enum-told .given .1) (c .before .before .read-type .ensures) (c .before .before .before .before .loop .inv .2 ts h)
 
--- src/lines.rt:64:27
 sub-put-type : tie.Need-sub-put-type Inv-loop μ-loop
-sub-put-type c = (due-read _ _ _ _ _ _ (c .before .before .before .before .before .before .before .before .before .pre .1) (c .before .before .before .before .loop-test .taken) (c .before .read .given .1) (c .before .before .before .read-type .ensures) (c .before .before .before .before .before .loop .inv .2 (c .before .before .before .before .before .before .before .before .before .pre .0 .types) (c .before .before .before .before .before .before .before .before .before .pre .0 .there))) .onward
+sub-put-type c = (due-read _ _ _ _ _ _ (c .before .before .before .before .before .before .before .before .before .pre .1) (omega (arith, c .before .before .before .before .loop-test .taken)) (c .before .read .given .1) (c .before .before .before .read-type .ensures) (c .before .before .before .before .before .loop .inv .2 (c .before .before .before .before .before .before .before .before .before .pre .0 .types) (c .before .before .before .before .before .before .before .before .before .pre .0 .there))) .onward
 
--- src/lines.rt:64:27
 part-put-type-start : tie.Need-part-put-type-start Inv-loop μ-loop
-part-put-type-start c = (due-read _ _ _ _ _ _ (c .before .before .before .before .before .before .before .before .before .pre .1) (c .before .before .before .before .loop-test .taken) (c .before .read .given .1) (c .before .before .before .read-type .ensures) (c .before .before .before .before .before .loop .inv .2 (c .before .before .before .before .before .before .before .before .before .pre .0 .types) (c .before .before .before .before .before .before .before .before .before .pre .0 .there))) .onward
+part-put-type-start c = (due-read _ _ _ _ _ _ (c .before .before .before .before .before .before .before .before .before .pre .1) (omega (arith, c .before .before .before .before .loop-test .taken)) (c .before .read .given .1) (c .before .before .before .read-type .ensures) (c .before .before .before .before .before .loop .inv .2 (c .before .before .before .before .before .before .before .before .before .pre .0 .types) (c .before .before .before .before .before .before .before .before .before .pre .0 .there))) .onward
 
--- src/lines.rt:64:27
 part-put-type-end : tie.Need-part-put-type-end Inv-loop μ-loop
-part-put-type-end c = (due-read _ _ _ _ _ _ (c .before .before .before .before .before .before .before .before .before .pre .1) (c .before .before .before .before .loop-test .taken) (c .before .read .given .1) (c .before .before .before .read-type .ensures) (c .before .before .before .before .before .loop .inv .2 (c .before .before .before .before .before .before .before .before .before .pre .0 .types) (c .before .before .before .before .before .before .before .before .before .pre .0 .there))) .inside
+part-put-type-end c = (due-read _ _ _ _ _ _ (c .before .before .before .before .before .before .before .before .before .pre .1) (omega (arith, c .before .before .before .before .loop-test .taken)) (c .before .read .given .1) (c .before .before .before .read-type .ensures) (c .before .before .before .before .before .loop .inv .2 (c .before .before .before .before .before .before .before .before .before .pre .0 .types) (c .before .before .before .before .before .before .before .before .before .pre .0 .there))) .inside
 
--- src/lines.rt:64:9
 put-type-requires : tie.Need-put-type-requires Inv-loop μ-loop
-put-type-requires c κs = omega (arith, (due-read _ _ _ _ _ _ (c .before .before .before .before .before .before .before .before .before .before .before .pre .1) (c .before .before .before .before .before .before .loop-test .taken) (c .before .before .before .read .given .1) (c .before .before .before .before .before .read-type .ensures) (c .before .before .before .before .before .before .before .loop .inv .2 (c .before .before .before .before .before .before .before .before .before .before .before .pre .0 .types) (c .before .before .before .before .before .before .before .before .before .before .before .pre .0 .there))) .room, c .before .before .before .before .before .before .before .loop .inv .1)
+put-type-requires c κs = omega (arith, (due-read _ _ _ _ _ _ (c .before .before .before .before .before .before .before .before .before .before .before .pre .1) (omega (arith, c .before .before .before .before .before .before .loop-test .taken)) (c .before .before .before .read .given .1) (c .before .before .before .before .before .read-type .ensures) (c .before .before .before .before .before .before .before .loop .inv .2 (c .before .before .before .before .before .before .before .before .before .before .before .pre .0 .types) (c .before .before .before .before .before .before .before .before .before .before .before .pre .0 .there))) .room, c .before .before .before .before .before .before .before .loop .inv .1)
 
--- src/lines.rt:66:9
 add-i : tie.Need-add-i Inv-loop μ-loop
 add-i c = search needs
 
--- src/lines.rt:59:5
 loop-less : tie.Need-loop-less Inv-loop μ-loop
 loop-less c = search needs
 
--- src/lines.rt:59:5
 loop-again : tie.Need-loop-again Inv-loop μ-loop
-loop-again c = (search needs, c .before .before .put-type .kept .1 .1 .1 .0 ∙ c .before .before .before .before .before .before .before .before .before .before .loop .inv .1, λ ts h. due-read _ _ _ _ _ ts (c .before .before .before .before .before .before .before .before .before .before .before .before .before .before .pre .1) (c .before .before .before .before .before .before .before .before .before .loop-test .taken) (c .before .before .before .before .before .before .read .given .1) (c .before .before .before .before .before .before .before .before .read-type .ensures) (c .before .before .before .before .before .before .before .before .before .before .loop .inv .2 ts h) .more _ _ (c .before .before .put-type .ensures))
+loop-again c = (search needs, c .before .before .put-type .kept .1 .1 .1 .0 ∙ c .before .before .before .before .before .before .before .before .before .before .loop .inv .1, λ ts h. due-read _ _ _ _ _ ts (c .before .before .before .before .before .before .before .before .before .before .before .before .before .before .pre .1) (omega (arith, c .before .before .before .before .before .before .before .before .before .loop-test .taken)) (c .before .before .before .before .before .before .read .given .1) (c .before .before .before .before .before .before .before .before .read-type .ensures) (c .before .before .before .before .before .before .before .before .before .before .loop .inv .2 ts h) .more _ _ (c .before .before .put-type .ensures))
 
--- src/lines.rt:51:1
 same-length-2 : tie.Need-same-length-2 Inv-loop μ-loop
 same-length-2 c = search needs
 
--- src/lines.rt:51:1
 returns-2 : tie.Need-returns-2 Inv-loop μ-loop
-returns-2 c = λ ts h. walk-ends _ _ _ _ _ ts _ _ _ _ (c .loop-test .left) (c .before .loop .inv .2 ts h)
+returns-2 c = λ ts h. walk-ends _ _ _ _ _ ts _ _ _ _ (omega (arith, c .loop-test .left)) (c .before .loop .inv .2 ts h)
 
 pub put-types-spec : {M : Type 1} → statement M
 put-types-spec =

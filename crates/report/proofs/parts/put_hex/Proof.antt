@@ -8,31 +8,24 @@ use Rattle.report.proofs.parts.put_hex.Reads as reads
 use Rattle.report.proofs.parts.put_hex.Lts as lts
 use Rattle.text.proofs.put_hex.Reads as put-hex-reads
 
--- src/parts.rt:36:9
 put-hex-requires : tie.Need-put-hex-requires
 put-hex-requires c κs = search needs
 
--- src/parts.rt:38:20
 enum-known-placed : tie.Need-enum-known-placed
 enum-known-placed c = search needs
 
--- src/parts.rt:39:27
 enum-told : tie.Need-enum-told
 enum-told c = search needs
 
--- src/parts.rt:32:1
 same-length : tie.Need-same-length
 same-length c = search needs
 
--- src/parts.rt:32:1
 returns : tie.Need-returns
 returns c = placed-laid _ _ _ (omega (arith, length-hexOf (c .before .before .before .before .before .before .before .before .before .args .bytes .now))) (c .before .placed .given .1) (c .before .before .before .before .before .put-hex .ensures)
 
--- src/parts.rt:32:1
 same-length-2 : tie.Need-same-length-2
 same-length-2 c = search needs
 
--- src/parts.rt:32:1
 returns-2 : tie.Need-returns-2
 returns-2 c = never-short _ _ _ (omega (arith, length-hexOf (c .before .before .before .before .before .before .before .before .args .bytes .now))) (c .enum-told .given .1) (c .before .before .before .before .put-hex .ensures)
 

@@ -7,31 +7,24 @@ use Rattle.report.proofs.parts.put_number.Reads as reads
 use Rattle.report.proofs.parts.put_number.Lts as lts
 use Rattle.text.proofs.put_decimal.Reads as put-decimal-reads
 
--- src/parts.rt:25:9
 put-decimal-requires : tie.Need-put-decimal-requires
 put-decimal-requires c κs = search needs
 
--- src/parts.rt:27:20
 enum-known-placed : tie.Need-enum-known-placed
 enum-known-placed c = search needs
 
--- src/parts.rt:28:27
 enum-told : tie.Need-enum-told
 enum-told c = search needs
 
--- src/parts.rt:21:1
 same-length : tie.Need-same-length
 same-length c = search needs
 
--- src/parts.rt:21:1
 returns : tie.Need-returns
 returns c = placed-laid _ _ _ (omega (arith, length-decimal 20 (c .before .before .before .before .before .before .before .before .args .n))) (c .before .placed .given .1) (c .before .before .before .before .before .put-decimal .ensures)
 
--- src/parts.rt:21:1
 same-length-2 : tie.Need-same-length-2
 same-length-2 c = search needs
 
--- src/parts.rt:21:1
 returns-2 : tie.Need-returns-2
 returns-2 c = never-short _ _ _ (omega (arith, length-decimal 20 (c .before .before .before .before .before .before .before .args .n))) (c .enum-told .given .1) (c .before .before .before .before .put-decimal .ensures)
 

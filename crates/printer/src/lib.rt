@@ -15,9 +15,6 @@ ghost use Rattle.report.specs.Room.{printRoom};
 // Bytes of a sheet that the program reads.
 pub const MAX_SHEET: usize = 49152;
 
-// Bytes of the result and of the scratch, which no sheet finds too short.
-pub const BUFFER: usize = 39936;
-
 // Bytes that suffice for the text of any sheet.
 pub const TEXT: usize = 80093;
 

@@ -1,8 +1,8 @@
 // The sheet program: a sheet from standard input, what the check says of it to standard output.
-use printer::BUFFER;
 use printer::MAX_SHEET;
 use printer::TEXT;
 use printer::print_sheet;
+use stack::SCRATCH_BYTES;
 ghost use lib.ListN.{length};
 ghost use Rattle.sheet.specs.Answers.{Inside};
 
@@ -20,8 +20,8 @@ fn main() {
     let Input::Bytes(n) = input else {
         return;
     };
-    let mut result = [0u8; BUFFER];
-    let mut scratch = [0u8; BUFFER];
+    let mut result = [0u8; SCRATCH_BYTES];
+    let mut scratch = [0u8; SCRATCH_BYTES];
     let mut out = [0u8; TEXT];
     let end = print_sheet(&sheet[..n], &mut result, &mut scratch, &mut out);
     io::write_all(1, &out[..end]);

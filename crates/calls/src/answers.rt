@@ -16,7 +16,7 @@ use ty::Boxes;
 ghost use mathlib.Core.Path.{_≡_};
 ghost use Prim.Native.Nat.{min};
 
-// What a line comes to. Bytes, and those of a stretch, a type or a text, are the first of the result; a size is all ones for
+// What a line comes to. Bytes, and those of a stretch, a type, a text or a whole line, are the first of the result; a size is all ones for
 // unknown; a fault is one of `fault`.
 pub enum Answer {
     Bytes(usize),
@@ -26,6 +26,7 @@ pub enum Answer {
     Bits(u64),
     Typed(usize),
     Text(usize),
+    Line(usize),
     Less,
     Nothing,
     Refused { number: u8, place: usize },
@@ -53,14 +54,6 @@ pub fn tested(answer: Tested) -> Answer {
         Tested::Yes => Answer::Number(1),
         Tested::No => Answer::Number(0),
         Tested::Refused { number, place } => Answer::Refused { number, place },
-    }
-}
-
-pub fn told(answer: scalar::Tested) -> Answer {
-    match answer {
-        scalar::Tested::Yes => Answer::Number(1),
-        scalar::Tested::No => Answer::Number(0),
-        scalar::Tested::Refused { number, place } => Answer::Refused { number, place },
     }
 }
 
@@ -114,6 +107,7 @@ pub fn say(answer: Answer, result: &[u8], out: &mut [u8], end: usize) -> usize {
         Answer::Bits(bits) => say_bits(bits, out, at),
         Answer::Typed(n) => say_typed(part(result, 0, n), out, at),
         Answer::Text(n) => say_text(part(result, 0, n), out, at),
+        Answer::Line(n) => say_line(part(result, 0, n), out, at),
         Answer::Less => put(b"ok -1\n", out, at),
         Answer::Nothing => put(b"ok none\n", out, at),
         Answer::Refused { number, place } => say_refused(number, place, out, at),
@@ -181,6 +175,20 @@ fn say_text(text: &[u8], out: &mut [u8], at: usize) -> usize {
     let room = room_for(256, &*out, start);
     let end = put(text, &mut *out, room);
     put(b"\n", out, end)
+}
+
+// A text that is the whole answer.
+fn say_line(text: &[u8], out: &mut [u8], start: usize) -> usize {
+    let mut end = start;
+    let mut from = 0usize;
+    while from < text.len() {
+        let to = least(text.len(), from + 4096);
+        let room = room_for(4096, &*out, end);
+        end = put(part(text, from, to), &mut *out, room);
+        from = to;
+    }
+    let room = room_for(1, &*out, end);
+    put(b"\n", out, room)
 }
 
 fn say_refused(number: u8, place: usize, out: &mut [u8], at: usize) -> usize {

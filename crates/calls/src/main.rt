@@ -11,6 +11,7 @@ mod one_type;
 mod pervading;
 mod records;
 mod requests;
+mod sheets;
 mod sided;
 mod size_list;
 mod sizes;

@@ -7,6 +7,7 @@ use crate::numbered;
 use crate::one_type;
 use crate::pervading;
 use crate::records;
+use crate::sheets;
 use crate::sided;
 use crate::sizes;
 use crate::two_types;
@@ -50,6 +51,9 @@ fn answered_otherwise(name: &[u8], line: &[u8], input: &mut [u8], result: &mut [
     }
     if let Found::At(k) = records::number(name) {
         return records::answered(k, line, input, result);
+    }
+    if let Found::At(k) = sheets::number(name) {
+        return sheets::answered(k, line, input, result);
     }
     Answer::Bad(fault::REQUEST)
 }

@@ -3,7 +3,6 @@ use crate::answers::Answer;
 use crate::answers::compared;
 use crate::answers::delivered;
 use crate::answers::tested;
-use crate::answers::told;
 use crate::arguments::Both;
 use crate::arguments::two_hex;
 use crate::fault;
@@ -52,9 +51,9 @@ fn call(k: usize, a: &[u8], b: &[u8], result: &mut [u8]) -> Answer {
         0 => delivered(merge(a, b, result)),
         1 => delivered(join_shapes(a, b, result)),
         2 => tested(compatible_shapes(a, b)),
-        3 => told(superset(a, b)),
-        4 => told(compatible_scalars(a, b)),
-        5 => told(compatible_with_boxes(a, b)),
+        3 => tested(superset(a, b)),
+        4 => tested(compatible_scalars(a, b)),
+        5 => tested(compatible_with_boxes(a, b)),
         6 => compared(compare(a, b)),
         7 => delivered(union(a, b, result)),
         8 => delivered(join(a, b, result)),

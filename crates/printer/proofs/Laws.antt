@@ -1,11 +1,12 @@
 -- From the answer of the sheet call to the program's outcome, and the text's last line feed.
-use Prim.Native.Nat.{ℕ, _+_, _≤_, _<_}
+use Prim.Native.Nat.{ℕ, _+_, _*_, _≤_, _<_}
 use native.Mathlib.Omega.{arith}
 use native.Mathlib.Numerals.{add-one}
+use native.Mathlib.Nat.{mul-le-mul}
 use mathlib.Core.Bool.{Bool, true, false, cond}
 use mathlib.Core.List.{List, _++_}
 use mathlib.Core.Path.{_≡_, refl, sym, _∙_, ap, subst}
-use lib.ListN.{length, set, take}
+use lib.ListN.{length, set, take, length-take}
 use lib.Seq.{take-suc-set}
 use lib.Dec.{leb, ltb}
 use borrow.Author.Tests.{le-ltb, lt-ltb, ltb-true, ltb-false}
@@ -66,10 +67,10 @@ module _ (s result scratch out after : List ℕ) (small : Bytes s) {c : Called} 
 
 -- ---- a call with buffers of any length
 
-tallied : List Ty → Tally
+abbrev tallied : List Ty → Tally
 tallied ts = tally (length ts) (length (writeTypes ts))
 
-answerOf : sheet.Called → Outcome Tally
+abbrev answerOf : sheet.Called → Outcome Tally
 answerOf (called o result scratch) = o
 
 module _ (s result scratch : List ℕ) where
@@ -99,11 +100,11 @@ module _ (s result scratch : List ℕ) where
       by true e = let z : _≡_ {A = ℕ} 0 1 = cc in absurd (omega arith)
       by false e = fits (leb (length (writeTypes ts)) (length result)) e
 
-  module _ {out after : List ℕ} {c : Called} (called-as : calledOf c out after ≡ sheetCall s result scratch) where
+  module _ (out after : List ℕ) (c : Called) (called-as : calledOf c out after ≡ sheetCall s result scratch) where
     told-outcome : answerOf (calledOf c out after) ≡ mapped tallied (callOutcome s (length result) (length scratch))
     told-outcome = ap answerOf called-as ∙ call-answers
 
-    module _ {between : List ℕ} {r : ℕ} {d d₁ : List ℕ} where
+    module _ (between : List ℕ) {r : ℕ} {d d₁ : List ℕ} where
       pub laid-call-refused : {k p : ℕ} → c ≡ Refuses k p → Laid r 0 d d₁ (reported between (refused k p)) → Laid r 0 d d₁ (reported between (callOutcome s (length result) (length scratch)))
       laid-call-refused {k} {p} given h = subst (λ o. Laid r 0 d d₁ (reported between o)) (sym (by (callOutcome s (length result) (length scratch)) (rw given at told-outcome))) h
         where
@@ -123,11 +124,19 @@ module _ {s : List ℕ} {n b : ℕ} {out : List ℕ} {ts : List Ty} (l : LeftBy 
   pub left-is : LeftIs (take b out) n ts
   left-is = record { bytes = l .front; count = l .count; within = l .kept .within }
 
+  pub left-inside : b ≤ length out
+  left-inside = omega (arith, l .bytes, ap length (l .front), length-take b out)
+
   pub left-bytes : b ≤ scratchBytes
   left-bytes = omega (arith, l .bytes, l .kept .suffices)
 
   pub left-call-room : (k : ℕ) → k ≤ 3 → textRoom k n (length (take b out)) ≤ textRoom 3 maxStack scratchBytes
-  left-call-room k h = omega (arith, l .count, l .kept .few, ap length (l .front), l .kept .suffices, mul-le-mul h (l .kept .few))
+  left-call-room k h =
+      let few : n ≤ maxStack = omega (arith, l .count, l .kept .few) in
+      let wide : k + 21 ≤ 24 = omega arith in
+      let each : n * (k + 21) ≤ maxStack * 24 = mul-le-mul few wide in
+      let same : k + 20 + 1 ≡ k + 21 = omega arith in
+      rw same (omega (arith, each, ap length (l .front), l .kept .suffices))
 
   pub left-room : textRoom 1 n (length (take b out)) ≤ textRoom 1 maxStack scratchBytes
   left-room = omega (arith, l .count, l .kept .few, ap length (l .front), l .kept .suffices)

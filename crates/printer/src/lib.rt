@@ -22,7 +22,13 @@ pub const TEXT: usize = 80093;
 pub const CALL_TEXT: usize = 80108;
 
 // What a call with these buffers answers, to the front of `out`, with `between` between two lines. Answers how many bytes it has.
-pub fn put_call(sheet: &[u8], result: &mut [u8], scratch: &mut [u8], between: &[u8], out: &mut [u8]) -> usize
+pub fn put_call(
+    sheet: &[u8],
+    result: &mut [u8],
+    scratch: &mut [u8],
+    between: &[u8],
+    out: &mut [u8],
+) -> usize
     requires { ⌜ length (now between) ≤ 3 ⌝ }
     requires { ⌜ callRoom ≤ length (now out) ⌝ }
     ensures { λ r. ⌜ Laid r 0 (now (out .entry)) (now (out .exit)) (reported (now (between .entry)) (callOutcome (now (sheet .entry)) (length (now (result .entry))) (length (now (scratch .entry))))) ⌝ }

@@ -1,0 +1,3 @@
+-- Laws that the proofs cite.
+mod CodeLaws
+mod SizeLaws

@@ -1,0 +1,35 @@
+use mathlib.Core.Path.{sym, ap, _∙_}
+use mathlib.Core.Bool.{cond}
+use borrow.Author.Tests.{le-leb}
+use Rattle.velgrodis.specs.Answers.{written}
+use Rattle.format.specs.Outcome.{deliver}
+use Rattle.shape_calls.specs.Calls.{pervadeCall}
+use Rattle.machine.specs.Steps.{maxFlag, fillsTop, fillsBelow}
+use Rattle.velgrodis.specs.Codes.{unsaid}
+use Rattle.velgrodis.proofs.CodeLaws.{flag-unsaid, unsaid-written}
+use borrow.Author.Needs.{needs}
+use Rattle.velgrodis.proofs.shapes.vg_pervade.Statement.{statement}
+use Rattle.velgrodis.proofs.shapes.vg_pervade.Tie as tie
+
+refuse-requires : tie.Need-refuse-requires
+refuse-requires c κs = search needs
+
+returns : tie.Need-returns
+returns c = unsaid-written (c .refuse .ensures) (c .before .before .before .before .before .args .result .now) (flag-unsaid (c .before .before .before .before .before .args .flag) (c .before .before .before .before .before .args .a .now) (c .before .before .before .before .before .args .b .now) (c .before .if1 .taken))
+
+pervade-requires : tie.Need-pervade-requires
+pervade-requires c κs = search needs
+
+of-written-requires : tie.Need-of-written-requires
+of-written-requires c κs = search needs
+
+same-length : tie.Need-same-length
+same-length c = search needs
+
+returns-2 : tie.Need-returns-2
+returns-2 c = let s = c .before .before .before .before .before .before .before .before .before .args in c .of-written .ensures _ ∙ ap written (c .before .before .before .pervade .ensures ∙ sym (ap (λ t. deliver (cond t (pervadeCall (fillsTop (s .flag)) (fillsBelow (s .flag)) (s .a .now) (s .b .now)) unsaid) (s .result .now)) (le-leb (s .flag) maxFlag (c .before .before .before .before .before .if1 .left))))
+
+pub vg-pervade-spec : {M : Type 1} → statement M
+vg-pervade-spec =
+    tie.close
+    (tie.spec refuse-requires returns pervade-requires of-written-requires same-length returns-2)

@@ -1,0 +1,21 @@
+use mathlib.Core.Path.{ap, _∙_}
+use Rattle.velgrodis.specs.Answers.{written}
+use borrow.Author.Needs.{needs}
+use Rattle.velgrodis.proofs.validating.vg_check_scalar.Statement.{statement}
+use Rattle.velgrodis.proofs.validating.vg_check_scalar.Tie as tie
+
+check-scalar-requires : tie.Need-check-scalar-requires
+check-scalar-requires c κs = search needs
+
+of-written-requires : tie.Need-of-written-requires
+of-written-requires c κs = search needs
+
+same-length : tie.Need-same-length
+same-length c = search needs
+
+returns : tie.Need-returns
+returns c = c .of-written .ensures _ ∙ ap written (c .before .before .before .check-scalar .ensures)
+
+pub vg-check-scalar-spec : {M : Type 1} → statement M
+vg-check-scalar-spec =
+    tie.close (tie.spec check-scalar-requires of-written-requires same-length returns)

@@ -1,0 +1,50 @@
+use mathlib.Core.Path.{ap, _∙_}
+use Rattle.velgrodis.specs.Answers.{written}
+use Rattle.val.specs.Values.{valueScalar}
+use Rattle.format.specs.Outcome.{mapped, deliver}
+use Rattle.format.specs.Records.{writeScalar}
+use Rattle.velgrodis.proofs.CodeLaws.{value-said, value-unsaid, unsaid-written}
+use borrow.Author.Needs.{needs}
+use Rattle.velgrodis.proofs.values.vg_val_scalar.Statement.{statement}
+use Rattle.velgrodis.proofs.values.vg_val_scalar.Tie as tie
+
+choose-value-requires : tie.Need-choose-value-requires
+choose-value-requires c κs = search needs
+
+enum-known-v : tie.Need-enum-known-v
+enum-known-v c = search needs
+
+enum-told : tie.Need-enum-told
+enum-told c = search needs
+
+refuse-requires : tie.Need-refuse-requires
+refuse-requires c κs = search needs
+
+returns : tie.Need-returns
+returns c = let s = c .before .before .before .before .before .before .before .args in unsaid-written (c .refuse .ensures) (s .result .now) (ap (λ o. mapped writeScalar (mapped valueScalar o)) (value-unsaid (s .kind) (s .x) (c .before .before .before .choose-value .ensures) (s .list .now) (s .ty .now) (c .before .enum-told .given .1)))
+
+scalar-requires : tie.Need-scalar-requires
+scalar-requires c κs = search needs
+
+of-written-requires : tie.Need-of-written-requires
+of-written-requires c κs = search needs
+
+same-length : tie.Need-same-length
+same-length c = search needs
+
+returns-2 : tie.Need-returns-2
+returns-2 c = let s = c .before .before .before .before .before .before .before .before .before .before .before .before .args in c .of-written .ensures _ ∙ ap written (c .before .before .before .scalar .ensures ∙ ap (λ o. deliver (mapped writeScalar (mapped valueScalar o)) (s .result .now)) (value-said (s .kind) (s .x) (c .before .before .before .before .before .before .before .before .choose-value .ensures) (s .list .now) (s .ty .now) (c .before .before .before .before .before .before .v .given .1)))
+
+pub vg-val-scalar-spec : {M : Type 1} → statement M
+vg-val-scalar-spec =
+    tie.close
+    (tie.spec
+    choose-value-requires
+    enum-known-v
+    enum-told
+    refuse-requires
+    returns
+    scalar-requires
+    of-written-requires
+    same-length
+    returns-2)

@@ -1,0 +1,5 @@
+pub mod Answers
+pub mod AnswersLaws
+pub mod ReadBack
+pub mod Codes
+pub mod Chosen

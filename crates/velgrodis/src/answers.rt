@@ -1,0 +1,196 @@
+// Each enum that a call answers, as an answer that crosses.
+use crate::Answer;
+use lent::Counted;
+use lent::Tested;
+use lent::Written;
+use order::Comparison;
+use record::Lone;
+use run::Called;
+use shape::Order;
+use shape_calls::Compared;
+use ty::Boxes;
+use ty::Found;
+use val::MaybeDim;
+use val::Row;
+ghost use mathlib.Core.List.{List};
+ghost use mathlib.Core.Path.{_≡_};
+ghost use Prim.Native.Nat.{ℕ};
+ghost use Rattle.lent.specs.Answers.{testedOf, countedDim, countedNumber};
+ghost use Rattle.lent.specs.Written.{delivered};
+ghost use Rattle.order.specs.Answers.{comparisonOf};
+ghost use Rattle.record.specs.Answers.{loneOf};
+ghost use Rattle.run.specs.Answers.{calledOf};
+ghost use Rattle.shape.specs.Answers.{orderOf};
+ghost use Rattle.shape_calls.specs.Answers.{orderedOf};
+ghost use Rattle.ty.specs.Calls.{boxesOf, foundOf, given};
+ghost use Rattle.val.specs.Answers.{maybeDim, rowDelivered};
+ghost use Rattle.velgrodis.specs.Answers.{no, value, nothing, ordered, counted, tested, sized, sizedOrNone, compared, found, handed, written, listed, rowHanded, rowed, returned, checked};
+
+pub fn of_written(w: Written) -> Answer
+    ensures { λ r. ⌜ ((buffer : List ℕ) → handed r buffer ≡ written (delivered w buffer)) ⌝ }
+{
+    match w {
+        Written::Wrote(n) => give(n as u64, 0),
+        Written::Refused { number, place } => refuse(number, place),
+    }
+}
+
+pub fn of_lone(l: Lone) -> Answer
+    ensures { λ r. ⌜ r ≡ counted (loneOf l) ⌝ }
+{
+    match l {
+        Lone::Accepted => give(0, 0),
+        Lone::Refused { number, place } => refuse(number, place),
+    }
+}
+
+pub fn of_found(f: Found) -> Answer
+    ensures { λ r. ⌜ r ≡ found (foundOf f) ⌝ }
+{
+    match f {
+        Found::At { start, length } => give(start as u64, length as u64),
+        Found::Nothing => nothing(),
+        Found::Refused { number, place } => refuse(number, place),
+    }
+}
+
+pub fn of_boxes(b: Boxes) -> Answer
+    ensures { λ r. ⌜ ((buffer : List ℕ) → handed r buffer ≡ listed (given (boxesOf b) buffer)) ⌝ }
+{
+    match b {
+        Boxes::Wrote(n) => give(n as u64, 0),
+        Boxes::Nothing => nothing(),
+        Boxes::Refused { number, place } => refuse(number, place),
+    }
+}
+
+pub fn of_called(s: Called) -> Answer
+    ensures { λ r. ⌜ ((result scratch : List ℕ) → returned r result scratch ≡ checked (calledOf s result scratch)) ⌝ }
+{
+    match s {
+        Called::Left { types, bytes } => give(types as u64, bytes as u64),
+        Called::Refused { number, place } => refuse(number, place),
+    }
+}
+
+pub fn of_tested(t: Tested) -> Answer
+    ensures { λ r. ⌜ r ≡ tested (testedOf t) ⌝ }
+{
+    match t {
+        Tested::Yes => give(1, 0),
+        Tested::No => give(0, 0),
+        Tested::Refused { number, place } => refuse(number, place),
+    }
+}
+
+// A count that is a number.
+pub fn of_count(c: Counted) -> Answer
+    ensures { λ r. ⌜ r ≡ counted (countedNumber c) ⌝ }
+{
+    match c {
+        Counted::Count(n) => give(n, 0),
+        Counted::Refused { number, place } => refuse(number, place),
+    }
+}
+
+// A count that is a size, all ones for unknown.
+pub fn of_size(c: Counted) -> Answer
+    ensures { λ r. ⌜ r ≡ sized (countedDim c) ⌝ }
+{
+    match c {
+        Counted::Count(n) => give(n, 0),
+        Counted::Refused { number, place } => refuse(number, place),
+    }
+}
+
+pub fn of_dim(d: MaybeDim) -> Answer
+    ensures { λ r. ⌜ r ≡ sizedOrNone (maybeDim d) ⌝ }
+{
+    match d {
+        MaybeDim::Size(n) => give(n, 0),
+        MaybeDim::Nothing => nothing(),
+        MaybeDim::Refused { number, place } => refuse(number, place),
+    }
+}
+
+// Types compared.
+pub fn of_comparison(c: Comparison) -> Answer
+    ensures { λ r. ⌜ r ≡ compared (comparisonOf c) ⌝ }
+{
+    match c {
+        Comparison::Less => give(0, 0),
+        Comparison::Same => give(1, 0),
+        Comparison::More => give(2, 0),
+        Comparison::Refused { number, place } => refuse(number, place),
+    }
+}
+
+// Sizes compared.
+pub fn of_compared(c: Compared) -> Answer
+    ensures { λ r. ⌜ r ≡ compared (orderedOf c) ⌝ }
+{
+    match c {
+        Compared::Ordered(o) => of_order(o),
+        Compared::Refused { number, place } => refuse(number, place),
+    }
+}
+
+fn of_order(o: Order) -> Answer
+    ensures { λ r. ⌜ r ≡ ordered (orderOf o) ⌝ }
+{
+    match o {
+        Order::Less => give(0, 0),
+        Order::Same => give(1, 0),
+        Order::More => give(2, 0),
+    }
+}
+
+// A row that is a number goes to `number`.
+pub fn of_row(row: Row, number: &mut f64) -> Answer
+    ensures { λ r. ⌜ ((buffer : List ℕ) → rowHanded r (now (number .exit)) buffer ≡ rowed (now (number .entry)) (rowDelivered row buffer)) ⌝ }
+{
+    match row {
+        Row::Number(x) => {
+            *number = x;
+            give(0, 1)
+        }
+        Row::Wrote(n) => give(n as u64, 0),
+        Row::Refused { number: k, place } => refuse(k, place),
+    }
+}
+
+pub fn refuse(number: u8, place: usize) -> Answer
+    ensures { λ r. ⌜ r ≡ no number place ⌝ }
+{
+    Answer {
+        kind: 0,
+        number: number as u64,
+        place: place as u64,
+        first: 0,
+        second: 0,
+    }
+}
+
+pub fn give(first: u64, second: u64) -> Answer
+    ensures { λ r. ⌜ r ≡ value first second ⌝ }
+{
+    Answer {
+        kind: 1,
+        number: 0,
+        place: 0,
+        first,
+        second,
+    }
+}
+
+pub fn nothing() -> Answer
+    ensures { λ r. ⌜ r ≡ nothing ⌝ }
+{
+    Answer {
+        kind: 2,
+        number: 0,
+        place: 0,
+        first: 0,
+        second: 0,
+    }
+}

@@ -1,0 +1,68 @@
+/* Checks a sheet that is in a file, and prints what the program `sheet` prints of it.
+ *
+ *   check_sheet FILE
+ */
+#include <inttypes.h>
+#include <stdio.h>
+#include "velgrodis.h"
+
+/* Bytes of a sheet that the program `sheet` reads; a longer one it refuses 7 at 0. The library has no such limit. */
+#define SHEET_BYTES 49152
+
+static uint8_t sheet[SHEET_BYTES + 1];
+static uint8_t result[VG_SHEET_RESULT_BYTES];
+static uint8_t scratch[VG_SCRATCH_BYTES];
+
+static void print_refusal(uint64_t number, uint64_t place)
+{
+    printf("no %" PRIu64 " %" PRIu64 "\n", number, place);
+}
+
+/* The length of the first of the types that stand one after the other: all bytes, or those before the first extra one. */
+static size_t first_length(const uint8_t *types, size_t length)
+{
+    vg_answer answer = vg_read(types, length);
+    return answer.kind == VG_REFUSED ? (size_t)answer.place : length;
+}
+
+static void print_types(uint64_t count, size_t bytes)
+{
+    size_t at = 0;
+    printf("ok %" PRIu64 " %zu\n", count, bytes);
+    for (uint64_t i = 0; i < count; i++) {
+        size_t end = at + first_length(result + at, bytes - at);
+        printf("%" PRIu64 " ", i);
+        for (; at < end; at++) {
+            printf("%02x", result[at]);
+        }
+        printf("\n");
+    }
+}
+
+int main(int argc, char **argv)
+{
+    FILE *file;
+    size_t length;
+    vg_answer answer;
+    if (argc != 2 || (file = fopen(argv[1], "rb")) == NULL) {
+        fprintf(stderr, "check_sheet: a sheet's file is wanted\n");
+        return 2;
+    }
+    length = fread(sheet, 1, sizeof sheet, file);
+    if (ferror(file)) {
+        fprintf(stderr, "check_sheet: the file cannot be read\n");
+        return 2;
+    }
+    fclose(file);
+    if (length > SHEET_BYTES) {
+        print_refusal(VG_TOO_SHORT, 0);
+        return 0;
+    }
+    answer = vg_check_sheet(sheet, length, result, sizeof result, scratch, sizeof scratch);
+    if (answer.kind == VG_REFUSED) {
+        print_refusal(answer.number, answer.place);
+    } else {
+        print_types(answer.first, (size_t)answer.second);
+    }
+    return 0;
+}

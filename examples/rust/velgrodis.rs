@@ -1,0 +1,71 @@
+//! The calls of libvelgrodis.a that the example needs, each as a safe function: a slice's pointer and length are true, and Rust lends
+//! nothing to be written twice. The other calls of include/velgrodis.h are declared alike.
+
+/// Bytes that the sheet check asks for as a scratch; as many always suffice for its result.
+pub const SCRATCH_BYTES: usize = 39936;
+
+#[repr(C)]
+struct Answer {
+    kind: u64,
+    number: u64,
+    place: u64,
+    first: u64,
+    second: u64,
+}
+
+#[link(name = "velgrodis", kind = "static")]
+extern "C" {
+    fn vg_read(ty: *const u8, ty_len: usize) -> Answer;
+    fn vg_check_sheet(
+        sheet: *const u8,
+        sheet_len: usize,
+        result: *mut u8,
+        result_len: usize,
+        scratch: *mut u8,
+        scratch_len: usize,
+    ) -> Answer;
+}
+
+/// A refusal: its number, and the place that it names.
+#[derive(Clone, Copy, Debug, PartialEq)]
+pub struct Refusal {
+    pub number: u64,
+    pub place: u64,
+}
+
+/// What a sheet leaves: how many types, and how many bytes of the result they are.
+#[derive(Clone, Copy, Debug, PartialEq)]
+pub struct Left {
+    pub types: u64,
+    pub bytes: usize,
+}
+
+impl Answer {
+    /// Both numbers of a value. Neither of the calls here answers none.
+    fn value(self) -> Result<(u64, u64), Refusal> {
+        match self.kind {
+            0 => Err(Refusal { number: self.number, place: self.place }),
+            _ => Ok((self.first, self.second)),
+        }
+    }
+}
+
+/// Whether the bytes are a lone type.
+pub fn read(ty: &[u8]) -> Result<(), Refusal> {
+    unsafe { vg_read(ty.as_ptr(), ty.len()) }.value().map(|_| ())
+}
+
+/// Checks a sheet. The types left go to the front of the result, bottom first.
+pub fn check_sheet(sheet: &[u8], result: &mut [u8], scratch: &mut [u8]) -> Result<Left, Refusal> {
+    let answer = unsafe {
+        vg_check_sheet(
+            sheet.as_ptr(),
+            sheet.len(),
+            result.as_mut_ptr(),
+            result.len(),
+            scratch.as_mut_ptr(),
+            scratch.len(),
+        )
+    };
+    answer.value().map(|(types, bytes)| Left { types, bytes: bytes as usize })
+}

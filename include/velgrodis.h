@@ -1,0 +1,278 @@
+/* velgrodis.h: the checker of partial array types, for hosts written in C or another language that calls C.
+ *
+ * Link with libvelgrodis.a (rt staticlib velgrodis; x86-64 Linux). The library holds no state, allocates nothing, and calls
+ * nothing of the host's but memcpy, memmove and memset. Every call ends, and is proved to answer what is said here for every
+ * input that a host can hand in; the bytes of records and sheets are in docs/FORMAT.md.
+ *
+ * What the host guarantees, since no proof can:
+ * - A length is true: the pointer before it points to as many elements, initialised, readable, and writable where it is not const.
+ * - No pointer is null, and each is aligned for its elements, also where the length is 0. For length 0 any such pointer serves,
+ *   as one to a byte or a number of the host's own; nothing is read or written there.
+ * - What is lent to be written (result, scratch, number, sizes) overlaps nothing else that is lent to the same call. What is only
+ *   read may overlap: one type may be handed in twice.
+ * - Nobody else writes what is lent while a call runs, nor reads what is lent to be written. Calls on memory of their own may run
+ *   side by side.
+ */
+#ifndef VELGRODIS_H
+#define VELGRODIS_H
+
+#include <stddef.h>
+#include <stdint.h>
+
+#ifdef __cplusplus
+extern "C" {
+#endif
+
+/* ---- limits ---------------------------------------------------------------------------------------------------------------- */
+
+#define VG_MAX_SIZE UINT64_C(9007199254740992)      /* the largest static size, 2^53 */
+#define VG_UNKNOWN UINT64_C(18446744073709551615)   /* ?, an unknown size: all ones */
+#define VG_MAX_SIZES 8                              /* opening sizes of a shape; and closing sizes */
+#define VG_MAX_NAME 16                              /* bytes of a Def's name */
+#define VG_MAX_FIELDS 31                            /* fields of a Def; and copies that vg_as_boxes lists */
+#define VG_MAX_TYPES 32                             /* types in one type, itself counted */
+#define VG_MAX_DEPTH 8                              /* depth of a type; the outermost is at depth 1 */
+#define VG_MAX_STACK 8                              /* types on a sheet's stack */
+#define VG_MAX_STEPS 64                             /* steps of a sheet */
+
+/* Bytes that always suffice: for a type, a shape's record or a scalar's; for the list of vg_as_boxes; for the types that a sheet
+ * leaves. The sheet check asks for a scratch of VG_SCRATCH_BYTES at least. */
+#define VG_TYPE_BYTES 4992
+#define VG_BOXES_BYTES 154754
+#define VG_SHEET_RESULT_BYTES 39936
+#define VG_SCRATCH_BYTES 39936
+
+/* ---- answers --------------------------------------------------------------------------------------------------------------- */
+
+/* What an answer is. */
+enum vg_kind {
+    VG_REFUSED = 0, /* refused: `number` says why and `place` where; `first` and `second` are 0 */
+    VG_VALUE = 1,   /* accepted: `first` and `second` are as the call says; `number` and `place` are 0 */
+    VG_NONE = 2     /* accepted, and there is none of what was asked for; all else is 0 */
+};
+
+/* The answer of every call. */
+typedef struct vg_answer {
+    uint64_t kind;   /* of enum vg_kind */
+    uint64_t number; /* of enum vg_refusal */
+    uint64_t place;
+    uint64_t first;
+    uint64_t second;
+} vg_answer;
+
+/* Why an input is refused. In a lone type a place is a byte of the type; of two types that were handed in, the one that was
+ * refused (vg_read tells which: the first, or the spec, is read whole before the other). In a sheet a place is a byte of the sheet. */
+enum vg_refusal {
+    VG_ENDED = 1,         /* The bytes end inside a record or a type. Place: first byte of the record begun or due. */
+    VG_UNMARKED = 2,      /* Two bytes that are no mark allowed there. Place: the first of them. */
+    VG_OUT_OF_RANGE = 3,  /* A count, a code, a flag or a byte of a name that is out of range. Place: first byte of its record or
+                           * step; 0 for more than VG_MAX_SIZES numbers, and for a flag, side or kind handed in beside the bytes. */
+    VG_OVERSIZED = 4,     /* A size above VG_MAX_SIZE that is not VG_UNKNOWN. Place: first byte of its shape's record; its index
+                           * for a number. */
+    VG_TOO_MANY = 5,      /* More than VG_MAX_TYPES types, VG_MAX_DEPTH deep or VG_MAX_FIELDS copies. Place: first byte of the type
+                           * that is one too many; where a rule would make it, 0, in a sheet its step's mark. */
+    VG_TRAILING = 6,      /* Bytes after a lone type. Place: the first of them, which is the length of the type before them. */
+    VG_TOO_SHORT = 7,     /* A result too short for what is to be written; it is found last, after any other refusal. Place: 0, for a
+                           * sheet its length. Or a scratch under VG_SCRATCH_BYTES; it is found first of all. Place: 0. */
+    VG_UNPERVADED = 8,    /* Two shapes that cannot pervade. Place: 0, in a sheet the step's mark; so for the next two. */
+    VG_WRONG_SCALAR = 9,  /* A spec's scalar that is no superset of the type's. */
+    VG_WRONG_SHAPE = 10,  /* A type's shape that does not pass the spec's. */
+    VG_UNDERFLOW = 11,    /* A step that lacks types on the stack. Place: its mark. */
+    VG_OVERFLOW = 12,     /* A ninth type on the stack, or a 65th step. Place: the step's mark. */
+    VG_NOT_A_SIZE = 13    /* NaN, a negative number or a fraction where a size is wanted. Place: its index; 0 for a lone number. */
+};
+
+/* Every comment below has: what a value says; the refusals, in the order in which they are found.
+ * "Reading X" is: 1, 2, 3, 4 or 5, whichever comes first from left to right, else 6, with its place in X.
+ * "Result" is: 7 at place 0, if the result is too short for what is to be written.
+ * A value of a call with a result has in `first` how many bytes were written to its front; the bytes after them stay as lent, and
+ * `second` is 0. A refusal, or none, leaves the whole result as lent. */
+
+/* ---- the sheet ------------------------------------------------------------------------------------------------------------- */
+
+/* Checks a sheet: works its steps in order on a stack of types, and writes the types left to the result, bottom first, one after the
+ * other. To part them: vg_read what is left of the result; it is one type, or refused VG_TRAILING at the length of the first.
+ * Value: `first` types are left, `second` bytes in all were written; the result's bytes after them stay as lent.
+ * Refused: 7 at 0, if the scratch is under VG_SCRATCH_BYTES. Then the first that is met, step by step, and in a step in this order:
+ *   12 at the step, if it is the 65th, whatever its bytes are; 1 or 2 at the step, for its mark;
+ *   11 at the step, if the stack lacks the types it takes; 12 at the step, if it puts a ninth;
+ *   1 to 5 for the type that follows its mark, places in the sheet; 1 or 3 at the step, for a flag byte;
+ *   8, 9, 10 or 5 at the step, for its rule.
+ *   At last 7 at the sheet's length, if the result is too short for the types left.
+ * A refusal leaves the whole result as lent. Whatever is answered, bytes 0 to VG_SCRATCH_BYTES - 1 of the scratch are then 0 and
+ * later ones as lent; a scratch that is too short stays as lent. What the scratch held before makes no difference. */
+vg_answer vg_check_sheet(const uint8_t *sheet, size_t sheet_len, uint8_t *result, size_t result_len, uint8_t *scratch, size_t scratch_len);
+
+/* ---- types ----------------------------------------------------------------------------------------------------------------- */
+
+/* Whether the bytes are a lone type.
+ * Value: 0. Refused: reading ty. */
+vg_answer vg_read(const uint8_t *ty, size_t ty_len);
+
+/* The record of a type's shape; of its scalar.
+ * Value: bytes written. Refused: reading ty; result. */
+vg_answer vg_shape_record(const uint8_t *ty, size_t ty_len, uint8_t *result, size_t result_len);
+vg_answer vg_scalar_record(const uint8_t *ty, size_t ty_len, uint8_t *result, size_t result_len);
+
+/* The row of a type, its first row, its last, and its n-th from 0: the shape loses its first opening size, else its first closing
+ * one. At rank 1 the row of a Def is a box All of its field: the first for vg_row, and again where there is no n-th; [..] Any where
+ * it has no field.
+ * Value: bytes written, a type. Refused: reading ty; result. */
+vg_answer vg_row(const uint8_t *ty, size_t ty_len, uint8_t *result, size_t result_len);
+vg_answer vg_first_row(const uint8_t *ty, size_t ty_len, uint8_t *result, size_t result_len);
+vg_answer vg_last_row(const uint8_t *ty, size_t ty_len, uint8_t *result, size_t result_len);
+vg_answer vg_nth_row(const uint8_t *ty, size_t ty_len, uint64_t n, uint8_t *result, size_t result_len);
+
+/* What stands in a box of shape []: the content of an All, the first field of a Def, [..] Any where nothing is inside. Any other type
+ * is itself.
+ * Value: bytes written, a type. Refused: reading ty; result. */
+vg_answer vg_unboxed(const uint8_t *ty, size_t ty_len, uint8_t *result, size_t result_len);
+
+/* A box as a list of types, written as name, count and types in a Def's layout: a Def's own; of an All as many copies of its content
+ * as there are rows, of an Any as many of [..] Any, one where the row count is ?.
+ * Value: bytes written. None: the type is no box, and needs no result. Refused: reading ty; 5 at 0 for more than VG_MAX_FIELDS
+ * copies; result. */
+vg_answer vg_as_boxes(const uint8_t *ty, size_t ty_len, uint8_t *result, size_t result_len);
+
+/* Where field n of a Def stands, from 0.
+ * Value: `first` is the place in ty where its type starts, `second` how many bytes it has. None: the type is no Def, or has no field
+ * n. Refused: reading ty. */
+vg_answer vg_field(const uint8_t *ty, size_t ty_len, uint64_t n);
+
+/* The join of two types: the join of their shapes, the union of their scalars.
+ * Value: bytes written, a type. Refused: reading a; reading b; result. */
+vg_answer vg_join(const uint8_t *a, size_t a_len, const uint8_t *b, size_t b_len, uint8_t *result, size_t result_len);
+
+/* ---- shapes of types ------------------------------------------------------------------------------------------------------- */
+
+/* The shape of a, merged from that of b; their join; the row of a shape.
+ * Value: bytes written, a shape's record. Refused: reading a (ty); reading b; result. */
+vg_answer vg_merge(const uint8_t *a, size_t a_len, const uint8_t *b, size_t b_len, uint8_t *result, size_t result_len);
+vg_answer vg_join_shapes(const uint8_t *a, size_t a_len, const uint8_t *b, size_t b_len, uint8_t *result, size_t result_len);
+vg_answer vg_row_shape(const uint8_t *ty, size_t ty_len, uint8_t *result, size_t result_len);
+
+/* The pervading of two shapes. Bit 0 of the flag fills a, bit 1 fills b.
+ * Value: bytes written, a shape's record. Refused: 3 at 0 for a flag above 3; reading a; reading b; 8 at 0 for shapes that cannot
+ * pervade; result. */
+vg_answer vg_pervade(uint64_t flag, const uint8_t *a, size_t a_len, const uint8_t *b, size_t b_len, uint8_t *result, size_t result_len);
+
+/* Whether two shapes are compatible: equal counts of opening sizes, and at each index equal ones, or 1 or ? on either side.
+ * Value: 1 or 0. Refused: reading a; reading b. */
+vg_answer vg_compatible_shapes(const uint8_t *a, size_t a_len, const uint8_t *b, size_t b_len);
+
+/* Whether the shape is [..]; whether it is [].
+ * Value: 1 or 0. Refused: reading ty. */
+vg_answer vg_shape_is_any(const uint8_t *ty, size_t ty_len);
+vg_answer vg_shape_is_scalar(const uint8_t *ty, size_t ty_len);
+
+/* The row count: the first opening size; without one VG_UNKNOWN for an open shape, 1 for a closed one. The rank: the opening and the
+ * closing sizes, counted together.
+ * Value: the number. Refused: reading ty. */
+vg_answer vg_row_count(const uint8_t *ty, size_t ty_len);
+vg_answer vg_rank(const uint8_t *ty, size_t ty_len);
+
+/* ---- scalars of types, and the order of types ------------------------------------------------------------------------------ */
+
+/* The union of two scalars; the scalar unrefined, in boxes too: Bool, Nat and Int become Num, Ascii becomes Char.
+ * Value: bytes written, a scalar's record. Refused: reading a (ty); reading b; result. */
+vg_answer vg_union(const uint8_t *a, size_t a_len, const uint8_t *b, size_t b_len, uint8_t *result, size_t result_len);
+vg_answer vg_unrefine(const uint8_t *ty, size_t ty_len, uint8_t *result, size_t result_len);
+
+/* Whether the scalar of a is a superset of that of b; whether they are compatible; the same with a look into All boxes.
+ * Value: 1 or 0. Refused: reading a; reading b. */
+vg_answer vg_superset(const uint8_t *a, size_t a_len, const uint8_t *b, size_t b_len);
+vg_answer vg_compatible_scalars(const uint8_t *a, size_t a_len, const uint8_t *b, size_t b_len);
+vg_answer vg_compatible_with_boxes(const uint8_t *a, size_t a_len, const uint8_t *b, size_t b_len);
+
+/* The order of two types, scalars first and then shapes.
+ * Value: 0 if a is less than b, 1 if they are the same, 2 if it is more. Refused: reading a; reading b. */
+vg_answer vg_compare(const uint8_t *a, size_t a_len, const uint8_t *b, size_t b_len);
+
+/* ---- two sizes ------------------------------------------------------------------------------------------------------------- */
+
+/* Each is 0 to VG_MAX_SIZE, or VG_UNKNOWN for ?. Refused, all six: 4 at 0 if a is no size; 4 at 1 if b is none.
+ * vg_dim_cmp, vg_dim_cmp_defined: 0 if a is less than b, 1 if they are the same, 2 if it is more, where 0 < 1 < ? < 0 and ? is less
+ *   than every other static size; where ? is less than all statics.
+ * vg_dim_max, vg_dim_join: the larger by vg_dim_cmp; the size itself where both are the same, else VG_UNKNOWN.
+ * vg_dim_compatible, vg_dim_row_compatible: 1 if they are equal or either is ?, else 0; 1 if either is 1, too. */
+vg_answer vg_dim_cmp(uint64_t a, uint64_t b);
+vg_answer vg_dim_cmp_defined(uint64_t a, uint64_t b);
+vg_answer vg_dim_max(uint64_t a, uint64_t b);
+vg_answer vg_dim_join(uint64_t a, uint64_t b);
+vg_answer vg_dim_compatible(uint64_t a, uint64_t b);
+vg_answer vg_dim_row_compatible(uint64_t a, uint64_t b);
+
+/* ---- values handed in ------------------------------------------------------------------------------------------------------ */
+
+/* Which of the three a value is; what is handed in for the others is not looked at, but its pointers are valid all the same. */
+enum vg_value {
+    VG_NUMBER = 0,  /* the number x */
+    VG_NUMBERS = 1, /* the list of numbers */
+    VG_TYPE = 2     /* the type whose bytes are ty */
+};
+
+/* Refused, in every call with a kind, first of all: 3 at 0 for a kind above 2. A VG_TYPE is read next, also where it could not change
+ * the answer. "Length" is: 4 at 0 for a list of more than VG_MAX_SIZE numbers.
+ * A number is a size if it is whole, not negative (-0 is 0) and at most VG_MAX_SIZE; plus infinity is ?. "Sizes" is: 3 at 0 for a list
+ * of more than VG_MAX_SIZES; then for the first that is no size 13, or 4 if it is whole and above VG_MAX_SIZE, at its index. */
+
+/* The type of a value: [] Num for a number, [length] Num for a list, a type itself.
+ * Value: bytes written, a type. Refused: reading ty; length; result. */
+vg_answer vg_val_ty(uint64_t kind, double x, const double *list, size_t list_len, const uint8_t *ty, size_t ty_len, uint8_t *result, size_t result_len);
+
+/* The spec that a value stands for: [x] Any for a number, its sizes with Any for a list, a type itself.
+ * Value: bytes written, a type. Refused: reading ty; sizes, also for a number, whose index is 0; result. */
+vg_answer vg_val_spec(uint64_t kind, double x, const double *list, size_t list_len, const uint8_t *ty, size_t ty_len, uint8_t *result, size_t result_len);
+
+/* The scalar of a value: for numbers Num if one is a fraction, NaN or infinite, else Int if one is negative, else Nat if one is above
+ * 1, else Bool; for a type its own. vg_nums_scalar: the same of a list.
+ * Value: bytes written, a scalar's record. Refused: reading ty; result. */
+vg_answer vg_val_scalar(uint64_t kind, double x, const double *list, size_t list_len, const uint8_t *ty, size_t ty_len, uint8_t *result, size_t result_len);
+vg_answer vg_nums_scalar(const double *list, size_t list_len, uint8_t *result, size_t result_len);
+
+/* The row count of a value: 1 for a number, the length of a list, a type's own, VG_UNKNOWN for ?. Refused: reading ty; length.
+ * The rank: 0 for a number, 1 for a list, a type's own. Refused: reading ty.
+ * Value: the number. */
+vg_answer vg_val_row_count(uint64_t kind, double x, const double *list, size_t list_len, const uint8_t *ty, size_t ty_len);
+vg_answer vg_val_rank(uint64_t kind, double x, const double *list, size_t list_len, const uint8_t *ty, size_t ty_len);
+
+/* The row of a value, its first and its last row, each a value again. A number is its own. The row of a list is its number if it has
+ * one alone, else [] Num; its first and last row are its first and last number, [] Num if it has none. A type's are vg_row,
+ * vg_first_row and vg_last_row.
+ * Value: if `second` is 1, the row is a number, which is in *number; `first` is 0 and the result as lent. If it is 0, the row is a
+ * type, of which `first` bytes were written; *number is as lent. (A NaN stays a NaN.)
+ * Refused: reading ty; result. *number and the result are as lent. */
+vg_answer vg_val_row(uint64_t kind, double x, const double *list, size_t list_len, const uint8_t *ty, size_t ty_len, double *number, uint8_t *result, size_t result_len);
+vg_answer vg_val_first_row(uint64_t kind, double x, const double *list, size_t list_len, const uint8_t *ty, size_t ty_len, double *number, uint8_t *result, size_t result_len);
+vg_answer vg_val_last_row(uint64_t kind, double x, const double *list, size_t list_len, const uint8_t *ty, size_t ty_len, double *number, uint8_t *result, size_t result_len);
+
+/* The size that a number stands for, where minus infinity is ? too.
+ * Value: the size, VG_UNKNOWN for ?. None: the value is no number. Refused: reading ty; 13 or 4 at 0 for a number that is no size. */
+vg_answer vg_as_dim(uint64_t kind, double x, const double *list, size_t list_len, const uint8_t *ty, size_t ty_len);
+
+/* The sizes that a list stands for, written to the front of `sizes`, VG_UNKNOWN for ?; VG_MAX_SIZES numbers always suffice.
+ * Value: how many sizes were written; the numbers after them stay as lent. None: the value is no list, and needs no room.
+ * Refused: reading ty; sizes; 7 at 0 if there is too little room. A refusal, or none, leaves `sizes` as lent. */
+vg_answer vg_as_dims(uint64_t kind, double x, const double *list, size_t list_len, const uint8_t *ty, size_t ty_len, uint64_t *sizes, size_t sizes_len);
+
+/* ---- validation ------------------------------------------------------------------------------------------------------------ */
+
+enum vg_side {
+    VG_UNSIDED = 0,
+    VG_LEFT = 1,
+    VG_RIGHT = 2
+};
+
+/* A spec on a type: the type as it then is. vg_validate checks the scalar and then the shape; vg_check_shape the shape alone, and keeps
+ * the type's scalar; vg_check_scalar the scalar alone, without side, and keeps the type's shape.
+ * Value: bytes written, a type. Refused: 3 at 0 for a side above 2; reading spec; reading ty; then at 0 the first that is met of
+ * 9, 10 or 5, contents of boxes first (vg_check_shape: 10; vg_check_scalar: a 10 comes from inside a box); result. */
+vg_answer vg_validate(uint64_t side, const uint8_t *spec, size_t spec_len, const uint8_t *ty, size_t ty_len, uint8_t *result, size_t result_len);
+vg_answer vg_check_shape(uint64_t side, const uint8_t *spec, size_t spec_len, const uint8_t *ty, size_t ty_len, uint8_t *result, size_t result_len);
+vg_answer vg_check_scalar(const uint8_t *spec, size_t spec_len, const uint8_t *ty, size_t ty_len, uint8_t *result, size_t result_len);
+
+#ifdef __cplusplus
+}
+#endif
+
+#endif

@@ -72,7 +72,7 @@ fn weight(word: &str) -> usize {
 }
 
 /// The arguments, each after a space.
-fn arguments(r: &mut Random, word: &str, call: &Call) -> String {
+pub fn arguments(r: &mut Random, word: &str, call: &Call) -> String {
     match call {
         Call::One(_) => one(r),
         Call::Two(_) => two(r, word == "check_scalar"),
@@ -141,7 +141,7 @@ fn sheet_call(r: &mut Random) -> String {
 }
 
 /// Steps, most of which suit what the steps before have left on the stack.
-fn sheet_bytes(r: &mut Random) -> Vec<u8> {
+pub fn sheet_bytes(r: &mut Random) -> Vec<u8> {
     let steps = if r.one_in(60) { r.pick(&[63, 64, 65]) } else { r.below(14) };
     let puts = r.pick(&[0, 0, 0, 0, 0, 7]);
     let mut bytes: Vec<u8> = (0..puts).flat_map(|_| put(&invent::ty(r))).collect();
@@ -189,7 +189,7 @@ fn on_two(r: &mut Random) -> Vec<u8> {
 }
 
 /// A step that the stack or its own bytes may not allow.
-fn any_step(r: &mut Random) -> Vec<u8> {
+pub fn any_step(r: &mut Random) -> Vec<u8> {
     let marks = [*b"PU", *b"RW", *b"PV", *b"JN", *b"VA", *b"SH", *b"UP"];
     let mut bytes = r.pick(&marks).to_vec();
     if r.one_in(2) {

@@ -1,0 +1,112 @@
+//! What a call must answer and leave in the bytes lent, told from the oracle's answer: one function for each kind of answer.
+
+use crate::library::Answer;
+
+/// The answer, and what must stand at the front of the result (bytes or sizes) and in the lone number.
+#[derive(Clone, Debug, Default, PartialEq)]
+pub struct Expected {
+    pub answer: Answer,
+    pub bytes: Vec<u8>,
+    pub sizes: Vec<u64>,
+    pub number: Option<u64>,
+    /// The bytes of the type at `first`, of which there are `second`.
+    pub stretch: Option<Vec<u8>>,
+}
+
+pub const VALUE: u64 = 1;
+pub const NONE: u64 = 2;
+
+pub fn refusal(number: u64, place: u64) -> Expected {
+    Expected {
+        answer: Answer { kind: 0, number, place, ..Answer::default() },
+        ..Expected::default()
+    }
+}
+
+fn value(first: u64, second: u64) -> Expected {
+    Expected {
+        answer: Answer { kind: VALUE, first, second, ..Answer::default() },
+        ..Expected::default()
+    }
+}
+
+/// A refusal, or none, or else `accepted` of the words after `ok`.
+fn told(text: &str, accepted: impl Fn(&[&str]) -> Expected) -> Expected {
+    let words: Vec<&str> = text.split(' ').collect();
+    match words[..] {
+        ["no", number, place] => refusal(parsed(number), parsed(place)),
+        ["ok", "none"] => {
+            Expected { answer: Answer { kind: NONE, ..Answer::default() }, ..Expected::default() }
+        }
+        ["ok", ..] => accepted(&words[1..]),
+        _ => panic!("the oracle answered {text}"),
+    }
+}
+
+fn parsed(word: &str) -> u64 {
+    word.parse().unwrap_or_else(|_| panic!("{word} is no number"))
+}
+
+fn size(word: &str) -> u64 {
+    if word == "?" { u64::MAX } else { parsed(word) }
+}
+
+pub fn unhex(word: &str) -> Vec<u8> {
+    let digits = if word == "-" { "" } else { word };
+    let byte = |at| u8::from_str_radix(&digits[at..at + 2], 16).expect("hexadecimal digits");
+    (0..digits.len()).step_by(2).map(byte).collect()
+}
+
+pub fn nothing(text: &str) -> Expected {
+    told(text, |_| value(0, 0))
+}
+
+pub fn bytes(text: &str) -> Expected {
+    told(text, |words| {
+        let bytes = unhex(words[0]);
+        Expected { bytes: bytes.clone(), ..value(bytes.len() as u64, 0) }
+    })
+}
+
+pub fn number(text: &str) -> Expected {
+    told(text, |words| value(size(words[0]), 0))
+}
+
+pub fn order(text: &str) -> Expected {
+    told(text, |words| value((words[0].parse::<i64>().expect("-1, 0 or 1") + 1) as u64, 0))
+}
+
+pub fn stretch(text: &str) -> Expected {
+    told(text, |words| {
+        let stretch = Some(unhex(words[2]));
+        Expected { stretch, ..value(parsed(words[0]), parsed(words[1])) }
+    })
+}
+
+pub fn row(text: &str) -> Expected {
+    told(text, |words| match words {
+        ["num", bits] => {
+            let bits = u64::from_str_radix(bits, 16).expect("hexadecimal digits");
+            Expected { number: Some(bits), ..value(0, 1) }
+        }
+        _ => {
+            let bytes = unhex(words[1]);
+            Expected { bytes: bytes.clone(), ..value(bytes.len() as u64, 0) }
+        }
+    })
+}
+
+pub fn sizes(text: &str) -> Expected {
+    told(text, |words| {
+        let sizes = words[1..].iter().map(|word| size(word)).collect();
+        Expected { sizes, ..value(parsed(words[0]), 0) }
+    })
+}
+
+/// `ok COUNT LENGTH | 0 HEX | 1 HEX ..`
+pub fn types_left(text: &str) -> Expected {
+    told(text, |words| {
+        let bytes = words[2..].chunks(3).flat_map(|line| unhex(line[2])).collect();
+        Expected { bytes, ..value(parsed(words[0]), parsed(words[1])) }
+    })
+}

@@ -1,5 +1,5 @@
 #!/usr/bin/env python3
-"""Prints requests at the corners of the rules: of sizes, shapes, scalars, types, values and validation.
+"""Prints requests at the corners of the rules: of sizes, shapes, scalars, types, values, validation and sheets.
 
 The paper's cases (a) to (m) come first, then each rule's corners, then those of bytes and of lines.
 Bytes are built from the paper's notation: `num("2 ?..3")` is [2 ?..3] Num.
@@ -10,7 +10,7 @@ import sys
 
 sys.dont_write_bytecode = True
 
-from base1 import LARGEST, LINE, UNKNOWN, boxed, full, kind, largest, named, nested, of, word
+from base1 import LARGEST, LENT, LINE, UNKNOWN, boxed, full, kind, largest, named, nested, of, word
 
 BOOL, NAT, INT, NUM, COMPLEX, ASCII, CHAR, STREAM = KINDS = [kind(code) for code in range(8)]
 ANY = kind(9)
@@ -318,6 +318,104 @@ def grown():
     yield from (request for a in (taker, largest()) for request in checks(largest(), a))
 
 
+# ---- sheets
+
+ROW, JOIN, PERVADE = b"RW", b"JN", b"PV\0"
+
+
+def put(*types):
+    return b"".join(b"PU" + a for a in types)
+
+
+def check(spec):
+    return b"VA" + spec
+
+
+def sheet(*steps):
+    return ask("sheet", b"".join(steps))
+
+
+def sheet_call(scratch, result, *steps):
+    return ask("sheet_call", scratch, result, b"".join(steps))
+
+
+def judged():
+    """Whether it is the 65th, the mark, the stack, the bytes, the rule: what comes first of two things wrong."""
+    three, four, char = num("3"), num("4"), ty("3", CHAR)
+    broken = (b"", b"S", b"SX", b"SH", b"SH\x09", num(str(LARGEST + 1)), nested(8), three[:-1])
+    many, named_spec = ty("33", ANY), ty("..", fields(name=b"n"))
+    # a 65th step, whatever its bytes are
+    for step in (b"P", b"XX", b"RW", b"JN", b"PV\x04", b"PU", b"VASX", put(three)):
+        yield sheet(put(three), ROW * 63, step)
+        yield sheet(put(three), ROW * 62, step)
+    # a mark before the stack, the stack before the bytes
+    for height in range(10):
+        for step in (b"X", b"XX", b"PW", b"RW", b"JN", b"PV", b"PV\0", b"PV\x03", b"PV\x04", b"PV\xff", b"PU", b"VA", *(b"PU" + a for a in broken[1:4]), *(b"VA" + a for a in broken[1:4])):
+            yield sheet(put(three) * height, step)
+    # bytes before the rule; places are the sheet's, and bytes after a type are the next step
+    for a in broken:
+        yield sheet(put(three), b"PU" + a)
+        yield sheet(put(char), b"VA" + a)
+        yield sheet(put(three), b"PU" + a, put(three))
+    yield sheet(put(three), b"\0")
+    yield sheet(put(three, four), b"PV\x04")
+    yield sheet(put(three, four), b"PV")
+    # the rule's refusal at its step, and nothing after it is looked at
+    for after in (b"", b"XX", ROW, put(three)):
+        yield sheet(put(three, four), PERVADE, after)
+        yield sheet(put(char), check(three), after)
+        yield sheet(put(four), check(three), after)
+        yield sheet(put(many), check(named_spec), after)
+    yield sheet(put(three), check(ty("..", ANY)), put(num("2 3")), ROW, put(many), check(named_spec))
+
+
+def worked():
+    """What each step takes and leaves."""
+    three, four, unknown = num("3"), num("4"), num("?")
+    boxes = (ty("", BOX), ty("", box(three)), ty("2", fields(three, four)), ty("..", ANY), ty("..3", INT), ty("3", NAT), ty("0", BOOL))
+    for first, second in ((a, b) for a in (*boxes, unknown) for b in (*boxes, unknown)):
+        yield from (sheet(put(first, second), step) for step in (JOIN, PERVADE, check(first)))
+    for flag in range(4):
+        yield from (sheet(put(a, b), b"PV" + bytes([flag])) for a, b in ((three, four), (four, three), (num("0"), num("1")), (num("3 2"), num("4"))))
+    for a in (*boxes, num("2 3"), num("2..3"), num("..")):
+        yield from (sheet(put(a), ROW * rows) for rows in range(4))
+    # validation has no side here; it makes fields, and takes the spec's
+    for spec in (ty("..", ANY), num("3"), num("2 3"), ty("..", box(three)), ty("..", fields(three, name=b"n"))):
+        yield from (sheet(put(a), check(spec), ROW) for a in (*boxes, num("2 3")))
+    # as many types as the stack holds; taken off and laid down again
+    yield from (sheet(put(three) * height) for height in range(10))
+    yield sheet(put(three) * 8, JOIN * 7, put(four) * 7)
+    yield sheet(put(three) * 8, PERVADE * 7)
+    yield sheet(put(three) * 8, JOIN * 8)
+    yield sheet((put(unknown, three) + PERVADE + ROW) * 7)
+    yield sheet(put(three), (put(three) + PERVADE) * 31, ROW)
+    yield sheet(put(three), (put(three) + PERVADE) * 31, ROW, ROW)
+
+
+def buffers():
+    """A short scratch first of all, a short result last of all."""
+    three, good = num("3"), put(num("3"), ty("", CHAR))
+    for steps, left in ((b"", 0), (good, 22), (good + ROW, 22), (good + PERVADE, 15), (put(three) * 8, 120), (b"XX", 0), (put(three) * 9, 0), (put(three) + ROW * 64, 0)):
+        for scratch in (0, 1, 39935, 39936, 39937, LENT):
+            yield from (sheet_call(scratch, result, steps) for result in (0, left - 1, left, left + 1, LENT) if result >= 0)
+    whole = put(largest()) * 8
+    for scratch, result in ((39936, 39936), (39936, 39935)):
+        yield sheet_call(scratch, result, whole)
+    # the program's own limit
+    yield sheet(bytes(49153))
+
+
+def sheet_lines():
+    """What these requests' lines may lack or have too much of."""
+    good = word(put(num("3")))
+    yield from ("sheet", "sheet ", "sheet  -", "sheet - ", "sheet - -", "sheet 5", "sheet g0", "sheets -", f"sheet {good.upper()}", f"sheet {good} {good}")
+    for rest in ("", " ", " 0", " 0 0", " 0 0 ", " 0 0 - -", " 0  0 -", f" 39936 15 {good} {good}", " x x g", " 0 x g", " 0 0 g", " 0 0 5", " - 0 -", " ? 0 -", " 0 ? -"):
+        yield "sheet_call" + rest
+    for number in ("39936", "039936", "65536", "65537", str(2**64 - 1), str(2**64), "-1", "+1", "0x9c00"):
+        yield f"sheet_call {number} 15 {good}"
+        yield f"sheet_call 39936 {number} {good}"
+
+
 # ---- bytes that are no types, and lines
 
 def refused():
@@ -363,7 +461,7 @@ def lines():
 
 PARTS = (
     cases, dims, shapes, scalars, orders, rows, boxes, looked_up, joins, values, kinds, shape_checks, scalar_checks,
-    grown, refused, lines,
+    grown, judged, worked, buffers, sheet_lines, refused, lines,
 )  # fmt: skip
 
 

@@ -164,7 +164,7 @@ pub const KINDS: [Scalar; 10] = [
     Scalar::Any,
 ];
 
-fn kind(scalar: &Scalar) -> u8 {
+pub fn kind(scalar: &Scalar) -> u8 {
     let same = |kind: &Scalar| std::mem::discriminant(kind) == std::mem::discriminant(scalar);
     KINDS.iter().position(same).expect("a kind of the list") as u8
 }

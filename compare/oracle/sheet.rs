@@ -35,6 +35,14 @@ pub fn length(types: &[Type]) -> usize {
 
 /// The types left, bottom first.
 pub fn run(sheet: &[u8]) -> Result<Vec<Type>, No> {
+    run_with(sheet, |spec, ty| rules::validated(None, spec, ty))
+}
+
+/// How a spec, the first, is held against a type.
+type Validation = fn(Type, Type) -> Result<Type, No>;
+
+/// The same with another validation.
+pub fn run_with(sheet: &[u8], validated: Validation) -> Result<Vec<Type>, No> {
     let mut reader = Reader::new(sheet);
     let mut stack = Vec::new();
     let mut steps = 0;
@@ -42,14 +50,14 @@ pub fn run(sheet: &[u8]) -> Result<Vec<Type>, No> {
         if steps == STEPS {
             return no(12, reader.at);
         }
-        step(&mut reader, &mut stack)?;
+        step(&mut reader, &mut stack, validated)?;
         steps += 1;
     }
     Ok(stack)
 }
 
 /// One step: first its mark is judged, then the stack, then the step's bytes, then its rule.
-fn step(reader: &mut Reader, stack: &mut Vec<Type>) -> Result<(), No> {
+fn step(reader: &mut Reader, stack: &mut Vec<Type>, validated: Validation) -> Result<(), No> {
     let place = reader.at;
     let mark = reader.mark()?;
     let Some((takes, lays)) = needs(mark) else {
@@ -75,7 +83,7 @@ fn step(reader: &mut Reader, stack: &mut Vec<Type>) -> Result<(), No> {
         }
         _ => {
             let spec = reader.outermost()?;
-            rules::validated(None, spec, taken(stack))
+            validated(spec, taken(stack))
         }
     };
     stack.push(made.map_err(|refusal| No { place, ..refusal })?);

@@ -1,0 +1,379 @@
+//! How long the calls of libvelgrodis.a take, beside the cut Rust on the same bytes.
+//!
+//!     bench [ROUNDS]    so many samples of each side, by turns
+//!
+//! The Rust's side reads the bytes into its `Type`s, works its rules on them, writes what is left straight to the result and clears a
+//! scratch of the same length. Validation calls the cut `validate` once: the limits are not measured. Both sides must answer the same.
+
+#![allow(dead_code)]
+
+#[path = "../oracle/bytes.rs"]
+mod bytes;
+#[path = "../oracle/edges.rs"]
+mod edges;
+mod expected;
+#[path = "../oracle/generate.rs"]
+mod generate;
+#[path = "../oracle/invent.rs"]
+mod invent;
+mod library;
+#[path = "../oracle/requests.rs"]
+mod requests;
+#[path = "../oracle/rules.rs"]
+mod rules;
+#[path = "../oracle/sheet.rs"]
+mod sheet;
+mod sheets;
+#[path = "../oracle/specs.rs"]
+mod specs;
+#[path = "../oracle/standins.rs"]
+mod standins;
+#[path = "../target/uiua.rs"]
+mod uiua;
+
+use bytes::{No, no, type_bytes};
+use generate::{put, validate};
+use invent::{Random, largest};
+use library::{Answer, SCRATCH};
+use std::hint::black_box;
+use std::time::Instant;
+use uiua::{Dim, DynShape, Scalar, ScalarBox, Type, TypeError};
+
+fn fail(why: &str) -> ! {
+    eprintln!("bench: {why}");
+    std::process::exit(2)
+}
+
+// The Rust's side.
+
+/// Bytes written one after the other; too many are counted and left out.
+struct Writer<'a> {
+    to: &'a mut [u8],
+    at: usize,
+}
+
+impl Writer<'_> {
+    fn bytes(&mut self, bytes: &[u8]) {
+        if let Some(to) = self.to.get_mut(self.at..self.at + bytes.len()) {
+            to.copy_from_slice(bytes);
+        }
+        self.at += bytes.len();
+    }
+    fn sizes(&mut self, sizes: &[Dim]) {
+        for size in sizes {
+            let number = match *size {
+                Dim::Static(size) => size as u64,
+                Dim::Dyn => u64::MAX,
+            };
+            self.bytes(&number.to_le_bytes());
+        }
+    }
+    fn ty(&mut self, ty: &Type) {
+        let closing = ty.shape.suffix.as_deref();
+        let count = closing.map_or(255, |sizes| sizes.len() as u8);
+        self.bytes(&[b'S', b'H', ty.shape.dims.len() as u8, count]);
+        self.sizes(&ty.shape.dims);
+        self.sizes(closing.unwrap_or(&[]));
+        self.bytes(&[b'S', b'C', bytes::kind(&ty.scalar)]);
+        match &ty.scalar {
+            Scalar::Box(ScalarBox::Any) => self.bytes(b"BX\0"),
+            Scalar::Box(ScalarBox::All(ty)) => {
+                self.bytes(b"BX\x01");
+                self.ty(ty);
+            }
+            Scalar::Box(ScalarBox::Def(name, fields)) => {
+                self.bytes(b"BX\x02");
+                self.bytes(&[name.as_ref().map_or(255, |name| name.len() as u8)]);
+                self.bytes(name.as_deref().unwrap_or("").as_bytes());
+                self.bytes(&[fields.len() as u8]);
+                fields.iter().for_each(|field| self.ty(field));
+            }
+            _ => {}
+        }
+    }
+}
+
+fn validated(spec: Type, mut ty: Type) -> Result<Type, No> {
+    match uiua::validate(spec, &mut ty, None) {
+        Ok(()) => Ok(ty),
+        Err(TypeError::ScalarMismatch(..)) => no(9, 0),
+        Err(_) => no(10, 0),
+    }
+}
+
+fn answered(outcome: Result<(usize, usize), No>) -> Answer {
+    match outcome {
+        Ok((first, second)) => {
+            Answer { kind: 1, first: first as u64, second: second as u64, ..Answer::default() }
+        }
+        Err(No { number, place }) => {
+            Answer { number: number as u64, place: place as u64, ..Answer::default() }
+        }
+    }
+}
+
+fn rust_sheet(sheet: &[u8], result: &mut [u8], scratch: &mut [u8], clears: bool) -> Answer {
+    if scratch.len() < SCRATCH {
+        return answered(no(7, 0));
+    }
+    let outcome = sheet::run_with(sheet, validated).and_then(|left| {
+        let mut writer = Writer { to: result, at: 0 };
+        left.iter().for_each(|ty| writer.ty(ty));
+        if writer.at > writer.to.len() { no(7, sheet.len()) } else { Ok((left.len(), writer.at)) }
+    });
+    if clears {
+        black_box(&mut scratch[..SCRATCH]).fill(0);
+    }
+    answered(outcome)
+}
+
+fn rust_read(ty: &[u8]) -> Answer {
+    answered(bytes::read_lone(ty).map(|ty| {
+        black_box(&ty);
+        (0, 0)
+    }))
+}
+
+fn rust_validate(spec: &[u8], ty: &[u8], result: &mut [u8]) -> Answer {
+    let both = bytes::read_lone(spec).and_then(|spec| Ok((spec, bytes::read_lone(ty)?)));
+    answered(both.and_then(|(spec, ty)| validated(spec, ty)).map(|ty| {
+        let mut writer = Writer { to: result, at: 0 };
+        writer.ty(&ty);
+        (writer.at, 0)
+    }))
+}
+
+// Ours.
+
+fn our_sheet(sheet: &[u8], result: &mut [u8], scratch: &mut [u8]) -> Answer {
+    let (to, room) = (result.as_mut_ptr(), result.len());
+    unsafe {
+        library::vg_check_sheet(
+            sheet.as_ptr(),
+            sheet.len(),
+            to,
+            room,
+            scratch.as_mut_ptr(),
+            scratch.len(),
+        )
+    }
+}
+
+fn our_validate(spec: &[u8], ty: &[u8], result: &mut [u8]) -> Answer {
+    let (to, room) = (result.as_mut_ptr(), result.len());
+    unsafe { library::vg_validate(0, spec.as_ptr(), spec.len(), ty.as_ptr(), ty.len(), to, room) }
+}
+
+// What is measured.
+
+enum Work {
+    Sheets(Vec<Vec<u8>>),
+    Read(Vec<u8>),
+    Validate(Vec<u8>, Vec<u8>),
+}
+
+struct Buffers {
+    result: Vec<u8>,
+    scratch: Vec<u8>,
+}
+
+/// The last answer, so that nothing can be left out.
+fn ours(work: &Work, to: &mut Buffers) -> Answer {
+    match work {
+        Work::Sheets(sheets) => {
+            let all = sheets
+                .iter()
+                .map(|sheet| our_sheet(black_box(sheet), &mut to.result, &mut to.scratch));
+            all.last().expect("a sheet")
+        }
+        Work::Read(ty) => unsafe { library::vg_read(black_box(ty).as_ptr(), ty.len()) },
+        Work::Validate(spec, ty) => our_validate(black_box(spec), ty, &mut to.result),
+    }
+}
+
+fn rusts(work: &Work, to: &mut Buffers, clears: bool) -> Answer {
+    match work {
+        Work::Sheets(sheets) => {
+            let mut one =
+                |sheet| rust_sheet(black_box(sheet), &mut to.result, &mut to.scratch, clears);
+            sheets.iter().map(|sheet| one(sheet)).last().expect("a sheet")
+        }
+        Work::Read(ty) => rust_read(black_box(ty)),
+        Work::Validate(spec, ty) => rust_validate(black_box(spec), ty, &mut to.result),
+    }
+}
+
+/// Steps in turns that hold the stack between one type and four: put, put, pervade, row, put, join, validate, put ..
+fn turns(steps: usize, first: &Type, second: &Type, spec: &Type) -> Vec<u8> {
+    let pervade = [&sheet::PERVADE[..], &[0]].concat();
+    let turn = [
+        put(second),
+        put(first),
+        pervade,
+        sheet::JOIN.into(),
+        put(first),
+        sheet::JOIN.into(),
+        validate(spec),
+    ];
+    let mut bytes = put(first);
+    bytes.extend((1..steps).flat_map(|step| turn[(step - 1) % turn.len()].clone()));
+    bytes
+}
+
+/// The same with a row of every second put.
+fn small_turns(steps: usize) -> Vec<u8> {
+    let of = |dims: Vec<Dim>| Scalar::Num.shaped(DynShape { dims, suffix: None });
+    let (first, second) = (of(vec![Dim::Static(3)]), of(vec![Dim::Dyn]));
+    let pair = of(vec![Dim::Static(2), Dim::Static(3)]);
+    let pervade = [&sheet::PERVADE[..], &[0]].concat();
+    let turn = [
+        put(&pair),
+        sheet::ROW.into(),
+        pervade,
+        put(&second),
+        sheet::JOIN.into(),
+        validate(&second),
+        put(&first),
+        [&sheet::PERVADE[..], &[0]].concat(),
+    ];
+    let mut bytes = put(&first);
+    bytes.extend((1..steps).flat_map(|step| turn[(step - 1) % turn.len()].clone()));
+    bytes
+}
+
+/// The largest type with closed shapes of eight sizes inside and a shape that pervades with itself.
+fn large_turns(steps: usize) -> Vec<u8> {
+    let large = largest();
+    turns(steps, &large, &large, &Scalar::Any.shaped(DynShape::ANY))
+}
+
+fn example() -> Vec<u8> {
+    let of = |dim: Dim| Scalar::Num.shaped(DynShape { dims: vec![dim], suffix: None });
+    [put(&of(Dim::Static(3))), put(&of(Dim::Dyn)), b"PV\0".to_vec()].concat()
+}
+
+/// As the requests draw them, without those whose validation grows over a limit: that is not measured on the Rust's side.
+fn season(count: usize) -> Vec<Vec<u8>> {
+    let mut random = Random(2026);
+    let drawn = std::iter::from_fn(|| Some(sheets::any(&mut random)));
+    drawn
+        .filter(|bytes| !matches!(sheet::run(bytes), Err(No { number: 5, .. })))
+        .take(count)
+        .collect()
+}
+
+fn works() -> Vec<(String, Work)> {
+    let one = |sheet| Work::Sheets(vec![sheet]);
+    let deep = |ty: Type| type_bytes(&invent::nested(ty, 7));
+    let of = |dim: Dim| Scalar::Num.shaped(DynShape { dims: vec![dim], suffix: None });
+    let mut works = vec![
+        ("no step at all".into(), one(Vec::new())),
+        ("the paper's example, 3 steps".into(), one(example())),
+    ];
+    for steps in [8, 16, 32, 64] {
+        works.push((format!("small types, {steps} steps"), one(small_turns(steps))));
+    }
+    for steps in [8, 16, 32, 64] {
+        works.push((format!("largest types, {steps} steps"), one(large_turns(steps))));
+    }
+    works.push(("reading the largest type".into(), Work::Read(type_bytes(&largest()))));
+    works.push((
+        "validating eight deep".into(),
+        Work::Validate(deep(of(Dim::Dyn)), deep(of(Dim::Static(3)))),
+    ));
+    works.push(("a season of 1,000 sheets".into(), Work::Sheets(season(1_000))));
+    works
+}
+
+/// Both sides answer the same and write the same.
+fn held(name: &str, work: &Work) {
+    let single = |work: &Work| {
+        let [mut one, mut other] = [0, 0].map(|byte| buffers(byte));
+        let (our, rust) = (ours(work, &mut one), rusts(work, &mut other, true));
+        if our != rust || one.result != other.result || one.scratch != other.scratch {
+            fail(&format!("{name}: {our:?}, the Rust {rust:?}"));
+        }
+        our
+    };
+    let accepted = match work {
+        Work::Sheets(sheets) => {
+            let each =
+                sheets.iter().map(|sheet| single(&Work::Sheets(vec![sheet.clone()])).kind as usize);
+            each.sum::<usize>()
+        }
+        _ => single(work).kind as usize,
+    };
+    let (count, length) = match work {
+        Work::Sheets(sheets) => (sheets.len(), sheets.iter().map(Vec::len).sum::<usize>()),
+        Work::Read(ty) => (1, ty.len()),
+        Work::Validate(spec, ty) => (1, spec.len() + ty.len()),
+    };
+    println!("# {name}: {accepted} of {count} accepted, {length} bytes");
+}
+
+fn buffers(byte: u8) -> Buffers {
+    Buffers { result: vec![byte; SCRATCH], scratch: vec![byte; SCRATCH] }
+}
+
+/// Nanoseconds for one turn of the work.
+fn timed(times: u32, mut work: impl FnMut() -> Answer) -> f64 {
+    let start = Instant::now();
+    for _ in 0..times {
+        black_box(work());
+    }
+    start.elapsed().as_nanos() as f64 / times as f64
+}
+
+/// A sorted list's value so far along it.
+fn along(mut list: Vec<f64>, part: f64) -> f64 {
+    list.sort_by(f64::total_cmp);
+    list[((list.len() - 1) as f64 * part).round() as usize]
+}
+
+fn main() {
+    let rounds = std::env::args()
+        .nth(1)
+        .map_or(301, |word| word.parse().unwrap_or_else(|_| fail("bench [ROUNDS]")));
+    let works = works();
+    // Drawing sheets has stopped validations on its way; those measured go to their end.
+    standins::stop_after(usize::MAX);
+    works.iter().for_each(|(name, work)| held(name, work));
+    let mut to = buffers(0);
+    let mut empty = None;
+    println!(
+        "{:<30}{:>11}{:>11}{:>8}{:>16}{:>9}{:>12}{:>12}{:>8}",
+        "case",
+        "ours, us",
+        "Rust, us",
+        "ratio",
+        "10% to 90%",
+        "of min",
+        "ours bare",
+        "Rust bare",
+        "ratio"
+    );
+    for (name, work) in &works {
+        let once = timed(3, || ours(work, &mut to)).max(timed(3, || rusts(work, &mut to, true)));
+        let times = (200_000.0 / once).clamp(1.0, 20_000.0) as u32;
+        let (mut our, mut rust, mut bare) = (Vec::new(), Vec::new(), Vec::new());
+        for _ in 0..rounds {
+            our.push(timed(times, || ours(work, &mut to)));
+            rust.push(timed(times, || rusts(work, &mut to, true)));
+            bare.push(timed(times, || rusts(work, &mut to, false)));
+        }
+        let ratios: Vec<f64> = our.iter().zip(&rust).map(|(our, rust)| rust / our).collect();
+        let (low, high) = (along(ratios.clone(), 0.1), along(ratios.clone(), 0.9));
+        let least = along(rust.clone(), 0.0) / along(our.clone(), 0.0);
+        let middle = |list: Vec<f64>| along(list, 0.5);
+        let (our, rust, bare) = (middle(our), middle(rust), middle(bare));
+        let clearing = *empty.get_or_insert(our);
+        let calls = match work {
+            Work::Sheets(sheets) => sheets.len() as f64,
+            _ => 0.0,
+        };
+        let rest = our - clearing * calls;
+        print!("{name:<30}{:>11.3}{:>11.3}{:>8.2}", our / 1e3, rust / 1e3, middle(ratios));
+        print!("{:>16}{least:>9.2}", format!("{low:.2} to {high:.2}"));
+        println!("{:>12.3}{:>12.3}{:>8.2}", rest / 1e3, bare / 1e3, bare / rest);
+    }
+}

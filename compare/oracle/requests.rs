@@ -10,6 +10,7 @@ use crate::{rules, sheet};
 
 pub const LINE: usize = 131_072;
 pub const LENT: u64 = 65_536;
+const NAN_BITS: u64 = 0x7ff8_0000_0000_0000;
 
 type Answer = Result<String, No>;
 
@@ -142,6 +143,8 @@ fn scalar(scalar: &Scalar) -> Answer {
 
 fn value(value: TypeVal) -> Answer {
     Ok(match value {
+        // There is one NaN, whichever of its patterns was handed in.
+        TypeVal::Num(n) if n.is_nan() => format!("num {NAN_BITS:016x}"),
         TypeVal::Num(n) => format!("num {:016x}", n.to_bits()),
         TypeVal::Type(ty) => format!("type {}", hex(&type_bytes(&ty))),
         TypeVal::NumList(_) => unreachable!("no row is a list"),

@@ -16,25 +16,21 @@ use ty::Boxes;
 ghost use mathlib.Core.Path.{_≡_};
 ghost use Prim.Native.Nat.{min};
 
-// What a line comes to. Bytes, and those of a stretch, are the first of the result; a size is all ones for unknown.
+// What a line comes to. Bytes, and those of a stretch, a type, a text or a whole line, are the first of the result; a size is all ones for
+// unknown; a fault is one of `fault`.
 pub enum Answer {
     Bytes(usize),
     Stretch { start: usize, length: usize },
     Number(u64),
     Size(u64),
+    Bits(u64),
+    Typed(usize),
+    Text(usize),
+    Line(usize),
     Less,
     Nothing,
     Refused { number: u8, place: usize },
-    Bad(Fault),
-}
-
-// Why a line is no request.
-pub enum Fault {
-    Long,
-    Request,
-    Words,
-    Number,
-    Hex,
+    Bad(usize),
 }
 
 // What a call wrote to its result.
@@ -58,14 +54,6 @@ pub fn tested(answer: Tested) -> Answer {
         Tested::Yes => Answer::Number(1),
         Tested::No => Answer::Number(0),
         Tested::Refused { number, place } => Answer::Refused { number, place },
-    }
-}
-
-pub fn told(answer: scalar::Tested) -> Answer {
-    match answer {
-        scalar::Tested::Yes => Answer::Number(1),
-        scalar::Tested::No => Answer::Number(0),
-        scalar::Tested::Refused { number, place } => Answer::Refused { number, place },
     }
 }
 
@@ -116,6 +104,10 @@ pub fn say(answer: Answer, result: &[u8], out: &mut [u8], end: usize) -> usize {
         Answer::Stretch { start, length } => say_stretch(start, part(result, 0, length), out, at),
         Answer::Number(n) => say_number(n, out, at),
         Answer::Size(n) => say_size(n, out, at),
+        Answer::Bits(bits) => say_bits(bits, out, at),
+        Answer::Typed(n) => say_typed(part(result, 0, n), out, at),
+        Answer::Text(n) => say_text(part(result, 0, n), out, at),
+        Answer::Line(n) => say_line(part(result, 0, n), out, at),
         Answer::Less => put(b"ok -1\n", out, at),
         Answer::Nothing => put(b"ok none\n", out, at),
         Answer::Refused { number, place } => say_refused(number, place, out, at),
@@ -133,12 +125,14 @@ fn say_bytes(bytes: &[u8], out: &mut [u8], at: usize) -> usize {
     say_hex(bytes, out, start)
 }
 
+fn say_typed(bytes: &[u8], out: &mut [u8], at: usize) -> usize {
+    let start = put(b"ok type ", &mut *out, at);
+    say_hex(bytes, out, start)
+}
+
 fn say_stretch(start: usize, bytes: &[u8], out: &mut [u8], at: usize) -> usize {
-    let first = put(b"ok ", &mut *out, at);
-    let space = after(put_decimal(start as u64, &mut *out, first));
-    let second = put(b" ", &mut *out, space);
-    let third = after(put_decimal(bytes.len() as u64, &mut *out, second));
-    let end = put(b" ", &mut *out, third);
+    let second = put_number(b"ok ", start as u64, b" ", &mut *out, at);
+    let end = put_number(b"", bytes.len() as u64, b" ", &mut *out, second);
     say_hex(bytes, out, end)
 }
 
@@ -164,38 +158,59 @@ fn say_size(n: u64, out: &mut [u8], at: usize) -> usize {
 }
 
 fn say_number(n: u64, out: &mut [u8], at: usize) -> usize {
-    let digits = put(b"ok ", &mut *out, at);
-    let end = after(put_decimal(n, &mut *out, digits));
+    put_number(b"ok ", n, b"\n", out, at)
+}
+
+fn say_bits(bits: u64, out: &mut [u8], at: usize) -> usize {
+    let mut digits = [0u8; 16];
+    let n = io::hex(bits, 16, &mut digits);
+    let start = put(b"ok num ", &mut *out, at);
+    let end = put(&digits[..n], &mut *out, start);
     put(b"\n", out, end)
+}
+
+// A text of less than 256 bytes.
+fn say_text(text: &[u8], out: &mut [u8], at: usize) -> usize {
+    let start = put(b"ok ", &mut *out, at);
+    let room = room_for(256, &*out, start);
+    let end = put(text, &mut *out, room);
+    put(b"\n", out, end)
+}
+
+// A text that is the whole answer.
+fn say_line(text: &[u8], out: &mut [u8], start: usize) -> usize {
+    let mut end = start;
+    let mut from = 0usize;
+    while from < text.len() {
+        let to = least(text.len(), from + 4096);
+        let room = room_for(4096, &*out, end);
+        end = put(part(text, from, to), &mut *out, room);
+        from = to;
+    }
+    let room = room_for(1, &*out, end);
+    put(b"\n", out, room)
 }
 
 fn say_refused(number: u8, place: usize, out: &mut [u8], at: usize) -> usize {
-    let first = put(b"no ", &mut *out, at);
-    let space = after(put_decimal(number as u64, &mut *out, first));
-    let second = put(b" ", &mut *out, space);
-    let end = after(put_decimal(place as u64, &mut *out, second));
-    put(b"\n", out, end)
+    let second = put_number(b"no ", number as u64, b" ", &mut *out, at);
+    put_number(b"", place as u64, b"\n", out, second)
 }
 
-fn say_bad(fault: Fault, out: &mut [u8], at: usize) -> usize {
+fn say_bad(fault: usize, out: &mut [u8], at: usize) -> usize {
     let why = put(b"bad ", &mut *out, at);
-    let word = nth(b"long request words number hex", place(fault));
+    let word = nth(b"long request words value side number hex", fault);
     let end = put(word, &mut *out, why);
     put(b"\n", out, end)
 }
 
-// Its word's place among those of `say_bad`.
-fn place(fault: Fault) -> usize {
-    match fault {
-        Fault::Long => 0,
-        Fault::Request => 1,
-        Fault::Words => 2,
-        Fault::Number => 3,
-        Fault::Hex => 4,
-    }
+// A number between two texts.
+fn put_number(before: &[u8], n: u64, behind: &[u8], out: &mut [u8], at: usize) -> usize {
+    let digits = put(before, &mut *out, at);
+    let end = after(put_decimal(n, &mut *out, digits));
+    put(behind, out, end)
 }
 
-fn put(bytes: &[u8], out: &mut [u8], at: usize) -> usize {
+pub fn put(bytes: &[u8], out: &mut [u8], at: usize) -> usize {
     after(put_bytes(bytes, out, at))
 }
 
@@ -210,7 +225,7 @@ fn room_for(n: usize, out: &[u8], end: usize) -> usize {
     0
 }
 
-fn after(placed: Placed) -> usize {
+pub fn after(placed: Placed) -> usize {
     match placed {
         Placed::To(next) => next,
         Placed::NoRoom => 0,

@@ -14,6 +14,25 @@ pub fn hex(word: &[u8], input: &mut [u8], at: usize) -> Decoded {
     decode_hex(word, input, at)
 }
 
+// Where the bytes end that two words stand for, one after the other.
+pub enum Both {
+    To { middle: usize, end: usize },
+    Other,
+}
+
+// HEX HEX, into `input` from its front on.
+pub fn two_hex(a: &[u8], b: &[u8], input: &mut [u8]) -> Both {
+    let first = hex(a, &mut *input, 0);
+    let Decoded::To(middle) = first else {
+        return Both::Other;
+    };
+    let second = hex(b, input, middle);
+    let Decoded::To(end) = second else {
+        return Both::Other;
+    };
+    Both::To { middle, end }
+}
+
 // N: a decimal number, at most `most`.
 pub fn decimal(word: &[u8], most: u64) -> Number {
     let parsed = parse_decimal(word);

@@ -2,14 +2,21 @@
 // The program decides nothing: a line is taken apart, the call made, its outcome rendered.
 mod answers;
 mod arguments;
+mod fault;
 mod lines;
+mod number_list;
 mod numbered;
+mod numbers;
 mod one_type;
 mod pervading;
 mod records;
 mod requests;
+mod sheets;
+mod sided;
+mod size_list;
 mod sizes;
 mod two_types;
+mod values;
 mod words;
 
 use answers::flush;

@@ -1,8 +1,8 @@
 // NAME N HEX: requests with a number on one type.
 use crate::answers::Answer;
-use crate::answers::Fault;
 use crate::answers::delivered;
 use crate::arguments::hex;
+use crate::fault;
 use crate::words::Found;
 use crate::words::count;
 use crate::words::find;
@@ -21,15 +21,15 @@ pub fn number(name: &[u8]) -> Found {
 
 pub fn answered(k: usize, line: &[u8], input: &mut [u8], result: &mut [u8]) -> Answer {
     if count(line) != 3 {
-        return Answer::Bad(Fault::Words);
+        return Answer::Bad(fault::WORDS);
     }
     let parsed = parse_decimal(nth(line, 1));
     let Number::Value(n) = parsed else {
-        return Answer::Bad(Fault::Number);
+        return Answer::Bad(fault::NUMBER);
     };
     let decoded = hex(nth(line, 2), &mut *input, 0);
     let Decoded::To(end) = decoded else {
-        return Answer::Bad(Fault::Hex);
+        return Answer::Bad(fault::HEX);
     };
     call(k, n, part(&*input, 0, end), result)
 }
@@ -38,7 +38,7 @@ fn call(k: usize, n: u64, a: &[u8], result: &mut [u8]) -> Answer {
     match k {
         0 => delivered(into_nth_row(a, n, result)),
         1 => field(n, a, result),
-        _ => Answer::Bad(Fault::Request),
+        _ => Answer::Bad(fault::REQUEST),
     }
 }
 

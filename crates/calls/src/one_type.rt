@@ -1,12 +1,12 @@
 // NAME HEX: requests on one type.
 use crate::answers::Answer;
-use crate::answers::Fault;
 use crate::answers::counted;
 use crate::answers::delivered;
 use crate::answers::listed;
 use crate::answers::sized;
 use crate::answers::tested;
 use crate::arguments::hex;
+use crate::fault;
 use crate::words::Found;
 use crate::words::count;
 use crate::words::find;
@@ -38,11 +38,11 @@ pub fn number(name: &[u8]) -> Found {
 
 pub fn answered(k: usize, line: &[u8], input: &mut [u8], result: &mut [u8]) -> Answer {
     if count(line) != 2 {
-        return Answer::Bad(Fault::Words);
+        return Answer::Bad(fault::WORDS);
     }
     let decoded = hex(nth(line, 1), &mut *input, 0);
     let Decoded::To(end) = decoded else {
-        return Answer::Bad(Fault::Hex);
+        return Answer::Bad(fault::HEX);
     };
     call(k, part(&*input, 0, end), result)
 }
@@ -61,7 +61,7 @@ fn call(k: usize, a: &[u8], result: &mut [u8]) -> Answer {
         9 => delivered(unboxed(a, result)),
         10 => listed(as_boxes(a, result)),
         11 => delivered(unrefine(a, result)),
-        _ => Answer::Bad(Fault::Request),
+        _ => Answer::Bad(fault::REQUEST),
     }
 }
 

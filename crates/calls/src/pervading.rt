@@ -1,16 +1,16 @@
 // NAME FLAG HEX HEX: the pervading of two types, bit 0 of the flag fills the first, bit 1 the second.
 use crate::answers::Answer;
-use crate::answers::Fault;
 use crate::answers::delivered;
+use crate::arguments::Both;
 use crate::arguments::decimal;
-use crate::arguments::hex;
+use crate::arguments::two_hex;
+use crate::fault;
 use crate::words::Found;
 use crate::words::count;
 use crate::words::find;
 use crate::words::nth;
 use crate::words::part;
 use shape_calls::pervade;
-use text::Decoded;
 use text::Number;
 
 pub fn number(name: &[u8]) -> Found {
@@ -21,19 +21,15 @@ const MAX_FLAG: u64 = 3;
 
 pub fn answered(line: &[u8], input: &mut [u8], result: &mut [u8]) -> Answer {
     if count(line) != 4 {
-        return Answer::Bad(Fault::Words);
+        return Answer::Bad(fault::WORDS);
     }
     let parsed = decimal(nth(line, 1), MAX_FLAG);
     let Number::Value(flag) = parsed else {
-        return Answer::Bad(Fault::Number);
+        return Answer::Bad(fault::NUMBER);
     };
-    let first = hex(nth(line, 2), &mut *input, 0);
-    let Decoded::To(middle) = first else {
-        return Answer::Bad(Fault::Hex);
-    };
-    let second = hex(nth(line, 3), &mut *input, middle);
-    let Decoded::To(end) = second else {
-        return Answer::Bad(Fault::Hex);
+    let decoded = two_hex(nth(line, 2), nth(line, 3), &mut *input);
+    let Both::To { middle, end } = decoded else {
+        return Answer::Bad(fault::HEX);
     };
     let a = part(&*input, 0, middle);
     let b = part(&*input, middle, end);

@@ -1,9 +1,9 @@
 // NAME ROOM HEX: a record of a type, written to a result buffer of ROOM bytes.
 use crate::answers::Answer;
-use crate::answers::Fault;
 use crate::answers::delivered;
 use crate::arguments::decimal;
 use crate::arguments::hex;
+use crate::fault;
 use crate::words::Found;
 use crate::words::count;
 use crate::words::find;
@@ -24,15 +24,15 @@ const MAX_ROOM: u64 = 65536;
 
 pub fn answered(k: usize, line: &[u8], input: &mut [u8], result: &mut [u8]) -> Answer {
     if count(line) != 3 {
-        return Answer::Bad(Fault::Words);
+        return Answer::Bad(fault::WORDS);
     }
     let parsed = decimal(nth(line, 1), MAX_ROOM);
     let Number::Value(room) = parsed else {
-        return Answer::Bad(Fault::Number);
+        return Answer::Bad(fault::NUMBER);
     };
     let decoded = hex(nth(line, 2), &mut *input, 0);
     let Decoded::To(end) = decoded else {
-        return Answer::Bad(Fault::Hex);
+        return Answer::Bad(fault::HEX);
     };
     call(k, part(&*input, 0, end), front(result, room as usize))
 }
@@ -41,6 +41,6 @@ fn call(k: usize, a: &[u8], result: &mut [u8]) -> Answer {
     match k {
         0 => delivered(shape_record(a, result)),
         1 => delivered(scalar_record(a, result)),
-        _ => Answer::Bad(Fault::Request),
+        _ => Answer::Bad(fault::REQUEST),
     }
 }

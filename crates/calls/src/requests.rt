@@ -1,19 +1,23 @@
 // The requests by the arguments that they take. A request's number is its place among those that take the same.
 use crate::MAX_LINE;
 use crate::answers::Answer;
-use crate::answers::Fault;
+use crate::fault;
+use crate::number_list;
 use crate::numbered;
 use crate::one_type;
 use crate::pervading;
 use crate::records;
+use crate::sheets;
+use crate::sided;
 use crate::sizes;
 use crate::two_types;
+use crate::values;
 use crate::words::Found;
 use crate::words::nth;
 
 pub fn answered(line: &[u8], input: &mut [u8], result: &mut [u8]) -> Answer {
     if MAX_LINE < line.len() {
-        return Answer::Bad(Fault::Long);
+        return Answer::Bad(fault::LONG);
     }
     let name = nth(line, 0);
     if let Found::At(k) = one_type::number(name) {
@@ -25,8 +29,22 @@ pub fn answered(line: &[u8], input: &mut [u8], result: &mut [u8]) -> Answer {
     if let Found::At(_) = pervading::number(name) {
         return pervading::answered(line, input, result);
     }
+    if let Found::At(k) = sided::number(name) {
+        return sided::answered(k, line, input, result);
+    }
     if let Found::At(k) = numbered::number(name) {
         return numbered::answered(k, line, input, result);
+    }
+    answered_otherwise(name, line, input, result)
+}
+
+// Requests that are not on types alone.
+fn answered_otherwise(name: &[u8], line: &[u8], input: &mut [u8], result: &mut [u8]) -> Answer {
+    if let Found::At(k) = values::number(name) {
+        return values::answered(k, line, input, result);
+    }
+    if let Found::At(_) = number_list::number(name) {
+        return number_list::answered(line, result);
     }
     if let Found::At(k) = sizes::number(name) {
         return sizes::answered(k, line);
@@ -34,5 +52,8 @@ pub fn answered(line: &[u8], input: &mut [u8], result: &mut [u8]) -> Answer {
     if let Found::At(k) = records::number(name) {
         return records::answered(k, line, input, result);
     }
-    Answer::Bad(Fault::Request)
+    if let Found::At(k) = sheets::number(name) {
+        return sheets::answered(k, line, input, result);
+    }
+    Answer::Bad(fault::REQUEST)
 }

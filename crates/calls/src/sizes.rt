@@ -1,10 +1,10 @@
 // NAME SIZE SIZE: requests on two sizes.
 use crate::answers::Answer;
-use crate::answers::Fault;
 use crate::answers::ordered;
 use crate::answers::sized;
 use crate::answers::tested;
 use crate::arguments::size;
+use crate::fault;
 use crate::words::Found;
 use crate::words::count;
 use crate::words::find;
@@ -27,15 +27,15 @@ pub fn number(name: &[u8]) -> Found {
 
 pub fn answered(k: usize, line: &[u8]) -> Answer {
     if count(line) != 3 {
-        return Answer::Bad(Fault::Words);
+        return Answer::Bad(fault::WORDS);
     }
     let first = size(nth(line, 1));
     let Number::Value(a) = first else {
-        return Answer::Bad(Fault::Number);
+        return Answer::Bad(fault::NUMBER);
     };
     let second = size(nth(line, 2));
     let Number::Value(b) = second else {
-        return Answer::Bad(Fault::Number);
+        return Answer::Bad(fault::NUMBER);
     };
     call(k, a, b)
 }
@@ -48,6 +48,6 @@ fn call(k: usize, a: u64, b: u64) -> Answer {
         3 => sized(dim_join(a, b)),
         4 => tested(dim_compatible(a, b)),
         5 => tested(dim_row_compatible(a, b)),
-        _ => Answer::Bad(Fault::Request),
+        _ => Answer::Bad(fault::REQUEST),
     }
 }

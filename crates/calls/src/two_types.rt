@@ -1,11 +1,11 @@
 // NAME HEX HEX: requests on two types.
 use crate::answers::Answer;
-use crate::answers::Fault;
 use crate::answers::compared;
 use crate::answers::delivered;
 use crate::answers::tested;
-use crate::answers::told;
-use crate::arguments::hex;
+use crate::arguments::Both;
+use crate::arguments::two_hex;
+use crate::fault;
 use crate::words::Found;
 use crate::words::count;
 use crate::words::find;
@@ -20,27 +20,23 @@ use scalar::union;
 use shape_calls::compatible_shapes;
 use shape_calls::join_shapes;
 use shape_calls::merge;
-use text::Decoded;
+use validate::check_scalar;
 
 // In the order of `call`'s arms.
 pub fn number(name: &[u8]) -> Found {
     find(
-        b"merge join_shapes compatible_shapes superset compatible_scalars compatible_with_boxes compare union join",
+        b"merge join_shapes compatible_shapes superset compatible_scalars compatible_with_boxes compare union join check_scalar",
         name,
     )
 }
 
 pub fn answered(k: usize, line: &[u8], input: &mut [u8], result: &mut [u8]) -> Answer {
     if count(line) != 3 {
-        return Answer::Bad(Fault::Words);
+        return Answer::Bad(fault::WORDS);
     }
-    let first = hex(nth(line, 1), &mut *input, 0);
-    let Decoded::To(middle) = first else {
-        return Answer::Bad(Fault::Hex);
-    };
-    let second = hex(nth(line, 2), &mut *input, middle);
-    let Decoded::To(end) = second else {
-        return Answer::Bad(Fault::Hex);
+    let decoded = two_hex(nth(line, 1), nth(line, 2), &mut *input);
+    let Both::To { middle, end } = decoded else {
+        return Answer::Bad(fault::HEX);
     };
     call(
         k,
@@ -55,12 +51,13 @@ fn call(k: usize, a: &[u8], b: &[u8], result: &mut [u8]) -> Answer {
         0 => delivered(merge(a, b, result)),
         1 => delivered(join_shapes(a, b, result)),
         2 => tested(compatible_shapes(a, b)),
-        3 => told(superset(a, b)),
-        4 => told(compatible_scalars(a, b)),
-        5 => told(compatible_with_boxes(a, b)),
+        3 => tested(superset(a, b)),
+        4 => tested(compatible_scalars(a, b)),
+        5 => tested(compatible_with_boxes(a, b)),
         6 => compared(compare(a, b)),
         7 => delivered(union(a, b, result)),
         8 => delivered(join(a, b, result)),
-        _ => Answer::Bad(Fault::Request),
+        9 => delivered(check_scalar(a, b, result)),
+        _ => Answer::Bad(fault::REQUEST),
     }
 }

@@ -30,6 +30,14 @@ pub fn join(a: &[u8], b: &[u8], result: &mut [u8]) -> Written
     if let Lone::Refused { number, place } = read {
         return Written::Refused { number, place };
     }
+    join_known(a, b, &mut *result)
+}
+
+// The same of bytes that are known to be types.
+pub fn join_known(a: &[u8], b: &[u8], result: &mut [u8]) -> Written
+    requires { ⌜ both nothings (lone (now a)) (lone (now b)) ≡ accepted 0 ⌝ }
+    ensures { λ r. ⌜ delivered r (now (result .exit)) ≡ deliver (joinCall (now (a .entry)) (now (b .entry))) (now (result .entry)) ⌝ }
+{
     let shape = join_shapes(lone_shape(a), lone_shape(b));
     write_union(shape, a, b, &mut *result)
 }

@@ -13,6 +13,7 @@ pub mod StepsReads
 pub mod SheetWorked
 pub mod StepsWithin
 pub mod Sheets
+pub mod CallLaws
 pub mod Fitting
 pub mod Bare
 pub mod PervadeHolds

@@ -1,4 +1,3 @@
-mod MarkLaws
 mod RuleLaws
 mod StepLaws
 mod SheetLaws

@@ -1,5 +1,5 @@
 -- What the answers of this crate say, in the terms of the definitions: for each case of each, the paper's number and values.
-use Prim.Native.Nat.{ℕ, _+_, _≤_, _<_}
+use Prim.Native.Nat.{ℕ, _≤_, _<_}
 use mathlib.Core.List.{List}
 use mathlib.Core.Path.{_≡_}
 use lib.ListN.{length}
@@ -12,15 +12,12 @@ use Rattle.format.specs.Outcome.{Outcome, accepted, refused, mapped, deliver}
 use Rattle.lent.specs.Written.{delivered}
 use Rattle.lent.specs.declared.Written.{Written}
 use Rattle.machine.specs.SheetLimits.{maxStack}
-use Rattle.machine.specs.Steps.{Opcode, aPut, aRow, aPervading, aJoin, aValidating}
 use Rattle.machine.specs.Run as rules
 use Rattle.machine.specs.Run.{gives, refuses, Stack}
 use Rattle.machine.specs.Call as sheet
 use Rattle.machine.specs.Call.{called, tally}
 use Rattle.stack.specs.Stack.{Holds}
 use Rattle.stack.specs.declared.Slots.{Slots}
-use Rattle.run.specs.declared.marks.Marked.{Marked}
-use Rattle.run.specs.declared.marks.Marked.the-variants.{Put, Row, Pervading, Join, Validating, Refused as Unmarked}
 use Rattle.run.specs.declared.Reached.{Reached}
 use Rattle.run.specs.declared.Reached.the-variants.{At, Refused}
 use Rattle.run.specs.declared.Called.{Called}
@@ -30,15 +27,6 @@ use Rattle.run.specs.declared.Called.the-variants.{Left, Refused as Refu
 abbrev pub calledOf : Called → List ℕ → List ℕ → sheet.Called
 calledOf (Left types bytes) result scratch = called (accepted (tally types bytes)) result scratch
 calledOf (Refuses k p) result scratch = called (refused k p) result scratch
-
--- A mark at a place has two bytes; its refusal names it.
-abbrev pub markedOf : Marked → ℕ → Read Opcode
-markedOf Put at = got aPut (at + 2)
-markedOf Row at = got aRow (at + 2)
-markedOf Pervading at = got aPervading (at + 2)
-markedOf Join at = got aJoin (at + 2)
-markedOf Validating at = got aValidating (at + 2)
-markedOf (Unmarked k) at = stopped k at
 
 -- One step, or all: the place reached, where the scratch holds the stack that was read, or the refusal.
 abbrev pub Works : Reached → Slots → List ℕ → Read Stack → Type 0

@@ -1,5 +1,4 @@
 // The sheet check: steps on a stack of types in a lent scratch, one call for a sheet of any bytes.
-mod marks;
 mod sheet;
 mod steps;
 mod tops;

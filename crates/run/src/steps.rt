@@ -1,12 +1,12 @@
 // One step: its mark, the stack, its bytes, its rule, in that order.
 use crate::Reached;
 use crate::Worked;
-use crate::marks::Marked;
-use crate::marks::read_mark;
 use crate::tops::join_top;
 use crate::tops::pervade_top;
 use crate::tops::row_top;
 use crate::tops::validate_top;
+use cursor::Marked;
+use cursor::mark_at;
 use lent::Written;
 use limits::MAX_DEPTH;
 use limits::MAX_TYPES;
@@ -32,10 +32,10 @@ ghost use Rattle.run.specs.Answers.{Works, Ruled};
 
 // The step whose mark stands at a place. `work` is a buffer that holds any type.
 pub fn work_step(s: &[u8], at: usize, st: Slots, scratch: &mut [u8], work: &mut [u8]) -> Worked
-    requires { ⌜ (at ≤ length (now s)) × (maxBytes ≤ length (now work)) × HasTypes st (now scratch) ⌝ }
+    requires { ⌜ (maxBytes ≤ length (now work)) × HasTypes st (now scratch) ⌝ }
     ensures { λ r. ⌜ ((ts : Stack) → Holds st (now (scratch .entry)) ts → Works (r .answer) (r .st) (now (scratch .exit)) (workFrom (now (s .entry)) ts at at)) ⌝ }
 {
-    let marked = read_mark(s, at);
+    let marked = mark_at(s, at);
     match marked {
         Marked::Put => put(s, at, st, &mut *scratch),
         Marked::Row => row(s, at, st, &mut *scratch, &mut *work),

@@ -1,16 +1,15 @@
 // The rules of the steps on the types on top of the stack. What a rule makes of them goes to a buffer that holds any type.
-use join::join;
+use join::join_known;
 use join::write_union;
 use lent::Written;
 use limits::refusal::UNPERVADED;
-use record::Lone;
 use record::lone_shape;
-use record::read_both;
 use shape::Verdict;
 use shape::pervade_dyn_shapes;
 use stack::Slots;
 use stack::load;
-use ty::into_row;
+use ty::Which;
+use ty::row_known;
 use validate::Side;
 use validate::validate;
 ghost use mathlib.Core.Path.{_≡_};
@@ -20,6 +19,7 @@ ghost use Rattle.model.specs.Types.{Ty};
 ghost use Rattle.format.specs.Records.{writeTy};
 ghost use Rattle.format.specs.Outcome.{accepted, deliver, mapped, both, lone};
 ghost use Rattle.lent.specs.Written.{delivered};
+ghost use Rattle.record.specs.Answers.{nothings};
 ghost use Rattle.rules.specs.Types.{intoRow, joinTypes};
 ghost use Rattle.validation.specs.CheckShape.{unsided};
 ghost use Rattle.validation.specs.Validate.{validate};
@@ -35,7 +35,7 @@ pub fn row_top(st: Slots, scratch: &[u8], out: &mut [u8]) -> Written
     let top = load(st, st.count - 1);
     let start = top.start;
     let end = top.end;
-    into_row(&scratch[start..end], &mut *out)
+    row_known(&scratch[start..end], Which::First, &mut *out)
 }
 
 // The join of the top with the one below.
@@ -49,7 +49,7 @@ pub fn join_top(st: Slots, scratch: &[u8], out: &mut [u8]) -> Written
     let below = load(st, st.count - 2);
     let from = below.start;
     let to = below.end;
-    join(&scratch[start..end], &scratch[from..to], &mut *out)
+    join_known(&scratch[start..end], &scratch[from..to], &mut *out)
 }
 
 // The pervading of the top with the one below.
@@ -78,14 +78,11 @@ pub fn pervade_top(
     )
 }
 
-// The pervading of two types: that of their shapes with the union of their scalars.
+// The pervading of bytes that are known to be types: that of their shapes with the union of their scalars.
 fn pervade_types(a: &[u8], b: &[u8], a_fill: bool, b_fill: bool, out: &mut [u8]) -> Written
+    requires { ⌜ both nothings (lone (now a)) (lone (now b)) ≡ accepted 0 ⌝ }
     ensures { λ r. ⌜ delivered r (now (out .exit)) ≡ deliver (both (λ t u. mapped writeTy (atStart (pervadeTypes «a_fill» «b_fill» t u))) (lone (now (a .entry))) (lone (now (b .entry)))) (now (out .entry)) ⌝ }
 {
-    let read = read_both(a, b);
-    if let Lone::Refused { number, place } = read {
-        return Written::Refused { number, place };
-    }
     let pervaded = pervade_dyn_shapes(lone_shape(a), lone_shape(b), a_fill, b_fill);
     let answer = pervaded.answer;
     if let Verdict::Clash(_) = answer {

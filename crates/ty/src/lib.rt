@@ -10,10 +10,12 @@ mod rows;
 pub use content::unboxed;
 pub use fields::field;
 pub use listing::as_boxes;
+pub use rows::Which;
 pub use rows::into_first_row;
 pub use rows::into_last_row;
 pub use rows::into_nth_row;
 pub use rows::into_row;
+pub use rows::row_known;
 pub use rows::write_parts;
 
 // The bytes of [..] of Any.

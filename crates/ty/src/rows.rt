@@ -70,6 +70,14 @@ fn row_by(ty: &[u8], which: Which, result: &mut [u8]) -> Written
     if let Lone::Refused { number, place } = answer {
         return Written::Refused { number, place };
     }
+    row_known(ty, which, &mut *result)
+}
+
+// The same of bytes that are known to be a type.
+pub fn row_known(ty: &[u8], which: Which, result: &mut [u8]) -> Written
+    requires { ⌜ mapped nothing (lone (now ty)) ≡ accepted 0 ⌝ }
+    ensures { λ r. ⌜ delivered r (now (result .exit)) ≡ deliver (mapped (λ t. writeTy (rowBy (chosen which) t)) (lone (now (ty .entry)))) (now (result .entry)) ⌝ }
+{
     let shape = lone_shape(ty);
     let row = shape_row(shape);
     let ranked = rank(shape);

@@ -13,10 +13,8 @@ use Rattle.join.proofs.join.Statement.{statement}
 use Rattle.join.proofs.join.Tie as tie
 use Rattle.join.proofs.join.Reads as reads
 use Rattle.join.proofs.join.Lts as lts
-use Rattle.join.proofs.write_union.Reads as write-union-reads
-use Rattle.record.proofs.lone_shape.Reads as lone-shape-reads
+use Rattle.join.proofs.join_known.Reads as join-known-reads
 use Rattle.record.proofs.read_both.Reads as read-both-reads
-use Rattle.shape.proofs.join.Reads as join-reads
 
 -- src/lib.rt:29:9
 read-both-requires : tie.Need-read-both-requires
@@ -33,21 +31,9 @@ returns c = sym (deliver-refused _ (both-refused (lone (c .before .before .befor
 enum-told : tie.Need-enum-told
 enum-told c = search needs
 
--- src/lib.rt:33:29
-lone-shape-requires : tie.Need-lone-shape-requires
-lone-shape-requires c κs = first-good _ _ (sym (c .before .before .read-both .ensures) ∙ ap loneOf (c .enum-told .given .1))
-
--- src/lib.rt:33:44
-lone-shape-requires-2 : tie.Need-lone-shape-requires-2
-lone-shape-requires-2 c κs = second-good _ _ (sym (c .before .before .before .read-both .ensures) ∙ ap loneOf (c .before .enum-told .given .1))
-
--- src/lib.rt:33:9
-join-requires : tie.Need-join-requires
-join-requires c κs = search needs
-
--- src/lib.rt:34:5
-write-union-requires : tie.Need-write-union-requires
-write-union-requires c κs = (sym (c .before .before .before .before .before .before .read-both .ensures) ∙ ap loneOf (c .before .before .before .before .enum-told .given .1))
+-- src/lib.rt:33:5
+join-known-requires : tie.Need-join-known-requires
+join-known-requires c κs = (sym (c .before .before .before .read-both .ensures) ∙ ap loneOf (c .before .enum-told .given .1))
 
 -- src/lib.rt:26:1
 same-length : tie.Need-same-length
@@ -55,8 +41,7 @@ same-length c = search needs
 
 -- src/lib.rt:26:1
 returns-2 : tie.Need-returns-2
-unfolding joinTypes
-returns-2 c = c .before .before .write-union .ensures ∙ ap (λ o. deliver o (c .before .before .before .before .before .before .before .before .before .before .before .before .before .args .result .now)) (sym (by-scalars (lone (c .before .before .before .before .before .before .before .before .before .before .before .before .before .args .a .now)) (lone (c .before .before .before .before .before .before .before .before .before .before .before .before .before .args .b .now)) (c .before .before .before .before .before .before .lone-shape .ensures) (c .before .before .before .before .before .lone-shape2 .ensures) (λ t u. accepted (writeTy (joinTypes t u))) (λ k l. accepted (writeTy (ty (shapeFor (c .before .before .before .before .join .result)) (union k l)))) (λ k l. ap (λ s. accepted (writeTy (ty s (union k l)))) (sym (c .before .before .before .before .join .ensures)))))
+returns-2 c = search needs
 
 pub join-spec : {M : Type 1} → statement M
 join-spec =
@@ -66,9 +51,6 @@ join-spec =
     enum-known-read
     returns
     enum-told
-    lone-shape-requires
-    lone-shape-requires-2
-    join-requires
-    write-union-requires
+    join-known-requires
     same-length
     returns-2)

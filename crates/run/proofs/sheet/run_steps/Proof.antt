@@ -42,7 +42,7 @@ returns c = going-over (c .before .before .before .before .before .before .befor
 
 -- src/sheet.rt:77:13
 work-step-requires : tie.Need-work-step-requires Inv-loop μ-loop
-work-step-requires c κs = (omega (arith, c .before .before .before .loop-test .taken), omega (arith, c .before .before .before .before .loop .inv .1, c .before .before .before .before .before .before .before .before .before .pre .1), record { types = (c .before .before .before .before .loop .inv .2) .types; held = (c .before .before .before .before .loop .inv .2) .held })
+work-step-requires c κs = (omega (arith, c .before .before .before .before .loop .inv .1, c .before .before .before .before .before .before .before .before .before .pre .1), record { types = (c .before .before .before .before .loop .inv .2) .types; held = (c .before .before .before .before .loop .inv .2) .held })
 
 -- src/sheet.rt:79:25
 enum-known-answer : tie.Need-enum-known-answer Inv-loop μ-loop

@@ -5,7 +5,7 @@ use Prim.Native.Nat.{_+_, _-_, _≤_, _<_}
 use lib.ListN.{length}
 use Rattle.format.specs.Suffices.{suffices}
 use Rattle.stack.specs.StackLaws.{holds-count}
-use Rattle.run.proofs.MarkLaws.{mark-there}
+use Rattle.cursor.specs.MarkLaws.{mark-there}
 use Rattle.run.proofs.RuleLaws.{type-read, type-unread}
 use Rattle.run.proofs.StepLaws.{put-full, put-unread, put-worked}
 use borrow.Author.Needs.{needs}

@@ -1,13 +1,13 @@
 use mathlib.Core.Path.{_≡_, refl, sym, _∙_, ap}
 use native.Mathlib.Omega.{arith}
-use Rattle.run.specs.Answers.{markedOf}
+use Rattle.cursor.specs.Marks.{markedOf}
 use Rattle.machine.specs.SheetSteps.{work-unmarked}
 use borrow.Author.Needs.{needs}
 use Rattle.run.proofs.steps.work_step.Statement.{statement}
 use Rattle.run.proofs.steps.work_step.Tie as tie
 use Rattle.run.proofs.steps.work_step.Reads as reads
 use Rattle.run.proofs.steps.work_step.Lts as lts
-use Rattle.run.proofs.marks.read_mark.Reads as read-mark-reads
+use Rattle.cursor.proofs.mark_at.Reads as mark-at-reads
 use Rattle.run.proofs.steps.join.Reads as join-reads
 use Rattle.run.proofs.steps.pervade.Reads as pervade-reads
 use Rattle.run.proofs.steps.put.Reads as put-reads
@@ -16,8 +16,8 @@ use Rattle.run.proofs.steps.row.Reads as row-reads
 use Rattle.run.proofs.steps.validate.Reads as validate-reads
 
 -- src/steps.rt:38:9
-read-mark-requires : tie.Need-read-mark-requires
-read-mark-requires c κs = search needs
+mark-at-requires : tie.Need-mark-at-requires
+mark-at-requires c κs = search needs
 
 -- src/steps.rt:40:39
 enum-told : tie.Need-enum-told
@@ -25,7 +25,7 @@ enum-told c = search needs
 
 -- src/steps.rt:40:24
 put-requires : tie.Need-put-requires
-put-requires c κs = (sym (c .before .before .before .read-mark .ensures) ∙ ap (λ m. markedOf m (c .before .before .before .before .before .before .before .args .at)) (c .before .enum-told .given .1), c .before .before .before .before .before .before .before .pre .2)
+put-requires c κs = (sym (c .before .before .before .mark-at .ensures) ∙ ap (λ m. markedOf m (c .before .before .before .before .before .before .before .args .at)) (c .before .enum-told .given .1), c .before .before .before .before .before .before .before .pre .1)
 
 -- src/steps.rt:41:39
 enum-told-2 : tie.Need-enum-told-2
@@ -33,7 +33,7 @@ enum-told-2 c = search needs
 
 -- src/steps.rt:41:24
 row-requires : tie.Need-row-requires
-row-requires c κs = (sym (c .before .before .before .before .read-mark .ensures) ∙ ap (λ m. markedOf m (c .before .before .before .before .before .before .before .before .args .at)) (c .before .before .enum-told2 .given .1), c .before .before .before .before .before .before .before .before .pre .1, c .before .before .before .before .before .before .before .before .pre .2)
+row-requires c κs = (sym (c .before .before .before .before .mark-at .ensures) ∙ ap (λ m. markedOf m (c .before .before .before .before .before .before .before .before .args .at)) (c .before .before .enum-told2 .given .1), c .before .before .before .before .before .before .before .before .pre .0, c .before .before .before .before .before .before .before .before .pre .1)
 
 -- src/steps.rt:42:49
 enum-told-3 : tie.Need-enum-told-3
@@ -41,7 +41,7 @@ enum-told-3 c = search needs
 
 -- src/steps.rt:42:30
 pervade-requires : tie.Need-pervade-requires
-pervade-requires c κs = (sym (c .before .before .before .before .read-mark .ensures) ∙ ap (λ m. markedOf m (c .before .before .before .before .before .before .before .before .args .at)) (c .before .before .enum-told3 .given .1), c .before .before .before .before .before .before .before .before .pre .1, c .before .before .before .before .before .before .before .before .pre .2)
+pervade-requires c κs = (sym (c .before .before .before .before .mark-at .ensures) ∙ ap (λ m. markedOf m (c .before .before .before .before .before .before .before .before .args .at)) (c .before .before .enum-told3 .given .1), c .before .before .before .before .before .before .before .before .pre .0, c .before .before .before .before .before .before .before .before .pre .1)
 
 -- src/steps.rt:43:41
 enum-told-4 : tie.Need-enum-told-4
@@ -49,7 +49,7 @@ enum-told-4 c = search needs
 
 -- src/steps.rt:43:25
 join-requires : tie.Need-join-requires
-join-requires c κs = (sym (c .before .before .before .before .read-mark .ensures) ∙ ap (λ m. markedOf m (c .before .before .before .before .before .before .before .before .args .at)) (c .before .before .enum-told4 .given .1), c .before .before .before .before .before .before .before .before .pre .1, c .before .before .before .before .before .before .before .before .pre .2)
+join-requires c κs = (sym (c .before .before .before .before .mark-at .ensures) ∙ ap (λ m. markedOf m (c .before .before .before .before .before .before .before .before .args .at)) (c .before .before .enum-told4 .given .1), c .before .before .before .before .before .before .before .before .pre .0, c .before .before .before .before .before .before .before .before .pre .1)
 
 -- src/steps.rt:44:51
 enum-told-5 : tie.Need-enum-told-5
@@ -57,7 +57,7 @@ enum-told-5 c = search needs
 
 -- src/steps.rt:44:31
 validate-requires : tie.Need-validate-requires
-validate-requires c κs = (sym (c .before .before .before .before .read-mark .ensures) ∙ ap (λ m. markedOf m (c .before .before .before .before .before .before .before .before .args .at)) (c .before .before .enum-told5 .given .1), c .before .before .before .before .before .before .before .before .pre .1, c .before .before .before .before .before .before .before .before .pre .2)
+validate-requires c κs = (sym (c .before .before .before .before .mark-at .ensures) ∙ ap (λ m. markedOf m (c .before .before .before .before .before .before .before .before .args .at)) (c .before .before .enum-told5 .given .1), c .before .before .before .before .before .before .before .before .pre .0, c .before .before .before .before .before .before .before .before .pre .1)
 
 -- src/steps.rt:45:27
 enum-known-marked : tie.Need-enum-known-marked
@@ -125,13 +125,13 @@ returns-5 c = search needs
 
 -- src/steps.rt:34:1
 returns-6 : tie.Need-returns-6
-returns-6 c = λ ts h. rw (c .refuse .ensures) (work-unmarked (c .before .before .before .before .before .before .before .before .args .s .now) ts (c .before .before .before .before .before .before .before .before .args .at) (c .before .before .before .before .before .before .before .before .args .at) _ _ (sym (c .before .before .before .before .read-mark .ensures) ∙ ap (λ m. markedOf m (c .before .before .before .before .before .before .before .before .args .at)) (c .before .before .marked .given .1)))
+returns-6 c = λ ts h. rw (c .refuse .ensures) (work-unmarked (c .before .before .before .before .before .before .before .before .args .s .now) ts (c .before .before .before .before .before .before .before .before .args .at) (c .before .before .before .before .before .before .before .before .args .at) _ _ (sym (c .before .before .before .before .mark-at .ensures) ∙ ap (λ m. markedOf m (c .before .before .before .before .before .before .before .before .args .at)) (c .before .before .marked .given .1)))
 
 pub work-step-spec : {M : Type 1} → statement M
 work-step-spec =
     tie.close
     (tie.spec
-    read-mark-requires
+    mark-at-requires
     enum-told
     put-requires
     enum-told-2

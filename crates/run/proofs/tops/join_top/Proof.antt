@@ -2,12 +2,15 @@ use mathlib.Core.Path.{_≡_, refl, sym, _∙_, ap}
 use native.Mathlib.Omega.{arith}
 use Rattle.stack.specs.StackLaws.{holds-top, holds-below, holds-count}
 use Rattle.run.proofs.RuleLaws.{held-lone}
+use mathlib.Core.List.{_∷_}
+use Rattle.stack.specs.Stack.{Holds}
+use Rattle.run.proofs.StepLaws.{two-held}
 use borrow.Author.Needs.{needs}
 use Rattle.run.proofs.tops.join_top.Statement.{statement}
 use Rattle.run.proofs.tops.join_top.Tie as tie
 use Rattle.run.proofs.tops.join_top.Reads as reads
 use Rattle.run.proofs.tops.join_top.Lts as lts
-use Rattle.join.proofs.join.Reads as join-reads
+use Rattle.join.proofs.join_known.Reads as join-known-reads
 use Rattle.stack.proofs.load.Reads as load-reads
 
 -- src/tops.rt:46:24
@@ -26,33 +29,33 @@ sub-load-2 c = search needs
 load-requires-2 : tie.Need-load-requires-2
 load-requires-2 c κs = search needs
 
--- src/tops.rt:52:10
-sub-join : tie.Need-sub-join
-sub-join c = search needs
+-- src/tops.rt:52:16
+sub-join-known : tie.Need-sub-join-known
+sub-join-known c = search needs
 
--- src/tops.rt:52:10
-part-join-start : tie.Need-part-join-start
-part-join-start c = search needs
+-- src/tops.rt:52:16
+part-join-known-start : tie.Need-part-join-known-start
+part-join-known-start c = search needs
 
--- src/tops.rt:52:10
-part-join-end : tie.Need-part-join-end
-part-join-end c = search needs
+-- src/tops.rt:52:16
+part-join-known-end : tie.Need-part-join-known-end
+part-join-known-end c = search needs
 
--- src/tops.rt:52:32
-sub-join-2 : tie.Need-sub-join-2
-sub-join-2 c = search needs
+-- src/tops.rt:52:38
+sub-join-known-2 : tie.Need-sub-join-known-2
+sub-join-known-2 c = search needs
 
--- src/tops.rt:52:32
-part-join-start-2 : tie.Need-part-join-start-2
-part-join-start-2 c = search needs
+-- src/tops.rt:52:38
+part-join-known-start-2 : tie.Need-part-join-known-start-2
+part-join-known-start-2 c = search needs
 
--- src/tops.rt:52:32
-part-join-end-2 : tie.Need-part-join-end-2
-part-join-end-2 c = search needs
+-- src/tops.rt:52:38
+part-join-known-end-2 : tie.Need-part-join-known-end-2
+part-join-known-end-2 c = search needs
 
 -- src/tops.rt:52:5
-join-requires : tie.Need-join-requires
-join-requires c κs = search needs
+join-known-requires : tie.Need-join-known-requires
+join-known-requires c κs = two-held (c .before .before .before .before .before .before .before .before .before .pre .1 .types) (c .before .before .before .before .before .before .before .before .before .pre .1 .held) (c .before .before .before .before .before .before .before .before .before .pre .0) λ t u us e. let hh : Holds (c .before .before .before .before .before .before .before .before .before .args .st) (c .before .before .before .before .before .before .before .before .before .args .scratch .now) (t ∷ u ∷ us) = rw e at (c .before .before .before .before .before .before .before .before .before .pre .1 .held) in rw (held-lone (c .before .before .before .before .before .load .ensures .1 (c .before .before .before .before .before .before .before .before .before .args .scratch .now) ∙ holds-top (c .before .before .before .before .before .before .before .before .before .args .st) (c .before .before .before .before .before .before .before .before .before .args .scratch .now) hh) (hh .within .0), held-lone (c .before .before .before .load2 .ensures .1 (c .before .before .before .before .before .before .before .before .before .args .scratch .now) ∙ holds-below (c .before .before .before .before .before .before .before .before .before .args .st) (c .before .before .before .before .before .before .before .before .before .args .scratch .now) hh) (hh .within .1 .0))
 
 -- src/tops.rt:42:1
 same-length : tie.Need-same-length
@@ -60,7 +63,7 @@ same-length c = search needs
 
 -- src/tops.rt:42:1
 returns : tie.Need-returns
-returns c = λ t u ts h. c .before .before .join .ensures ∙ rw (held-lone (c .before .before .before .before .before .before .before .before .load .ensures .1 (c .before .before .before .before .before .before .before .before .before .before .before .before .args .scratch .now) ∙ holds-top (c .before .before .before .before .before .before .before .before .before .before .before .before .args .st) (c .before .before .before .before .before .before .before .before .before .before .before .before .args .scratch .now) h) (h .within .0), held-lone (c .before .before .before .before .before .before .load2 .ensures .1 (c .before .before .before .before .before .before .before .before .before .before .before .before .args .scratch .now) ∙ holds-below (c .before .before .before .before .before .before .before .before .before .before .before .before .args .st) (c .before .before .before .before .before .before .before .before .before .before .before .before .args .scratch .now) h) (h .within .1 .0))
+returns c = λ t u ts h. c .before .before .join-known .ensures ∙ rw (held-lone (c .before .before .before .before .before .before .before .before .load .ensures .1 (c .before .before .before .before .before .before .before .before .before .before .before .before .args .scratch .now) ∙ holds-top (c .before .before .before .before .before .before .before .before .before .before .before .before .args .st) (c .before .before .before .before .before .before .before .before .before .before .before .before .args .scratch .now) h) (h .within .0), held-lone (c .before .before .before .before .before .before .load2 .ensures .1 (c .before .before .before .before .before .before .before .before .before .before .before .before .args .scratch .now) ∙ holds-below (c .before .before .before .before .before .before .before .before .before .before .before .before .args .st) (c .before .before .before .before .before .before .before .before .before .before .before .before .args .scratch .now) h) (h .within .1 .0))
 
 pub join-top-spec : {M : Type 1} → statement M
 join-top-spec =
@@ -70,12 +73,12 @@ join-top-spec =
     load-requires
     sub-load-2
     load-requires-2
-    sub-join
-    part-join-start
-    part-join-end
-    sub-join-2
-    part-join-start-2
-    part-join-end-2
-    join-requires
+    sub-join-known
+    part-join-known-start
+    part-join-known-end
+    sub-join-known-2
+    part-join-known-start-2
+    part-join-known-end-2
+    join-known-requires
     same-length
     returns)

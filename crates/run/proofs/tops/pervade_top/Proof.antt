@@ -2,6 +2,9 @@ use mathlib.Core.Path.{_≡_, refl, sym, _∙_, ap}
 use native.Mathlib.Omega.{arith}
 use Rattle.stack.specs.StackLaws.{holds-top, holds-below, holds-count}
 use Rattle.run.proofs.RuleLaws.{held-lone}
+use mathlib.Core.List.{_∷_}
+use Rattle.stack.specs.Stack.{Holds}
+use Rattle.run.proofs.StepLaws.{two-held}
 use borrow.Author.Needs.{needs}
 use Rattle.run.proofs.tops.pervade_top.Statement.{statement}
 use Rattle.run.proofs.tops.pervade_top.Tie as tie
@@ -52,7 +55,7 @@ part-pervade-types-end-2 c = search needs
 
 -- src/tops.rt:72:5
 pervade-types-requires : tie.Need-pervade-types-requires
-pervade-types-requires c κs = search needs
+pervade-types-requires c κs = two-held (c .before .before .before .before .before .before .before .before .before .pre .1 .types) (c .before .before .before .before .before .before .before .before .before .pre .1 .held) (c .before .before .before .before .before .before .before .before .before .pre .0) λ t u us e. let hh : Holds (c .before .before .before .before .before .before .before .before .before .args .st) (c .before .before .before .before .before .before .before .before .before .args .scratch .now) (t ∷ u ∷ us) = rw e at (c .before .before .before .before .before .before .before .before .before .pre .1 .held) in rw (held-lone (c .before .before .before .before .before .load .ensures .1 (c .before .before .before .before .before .before .before .before .before .args .scratch .now) ∙ holds-top (c .before .before .before .before .before .before .before .before .before .args .st) (c .before .before .before .before .before .before .before .before .before .args .scratch .now) hh) (hh .within .0), held-lone (c .before .before .before .load2 .ensures .1 (c .before .before .before .before .before .before .before .before .before .args .scratch .now) ∙ holds-below (c .before .before .before .before .before .before .before .before .before .args .st) (c .before .before .before .before .before .before .before .before .before .args .scratch .now) hh) (hh .within .1 .0))
 
 -- src/tops.rt:56:1
 same-length : tie.Need-same-length

@@ -20,73 +20,53 @@ use Rattle.run.proofs.tops.pervade_types.Reads as reads
 use Rattle.run.proofs.tops.pervade_types.Lts as lts
 use Rattle.join.proofs.write_union.Reads as write-union-reads
 use Rattle.record.proofs.lone_shape.Reads as lone-shape-reads
-use Rattle.record.proofs.read_both.Reads as read-both-reads
 use Rattle.shape.proofs.pervade_dyn_shapes.Reads as pervade-dyn-shapes-reads
 
--- src/tops.rt:85:9
-read-both-requires : tie.Need-read-both-requires
-read-both-requires c κs = search needs
-
--- src/tops.rt:86:28
-enum-known-read : tie.Need-enum-known-read
-enum-known-read c = search needs
-
--- src/tops.rt:87:9
-returns : tie.Need-returns
-returns c = sym (deliver-refused _ (both-refused (lone (c .before .before .before .before .before .before .before .args .a .now)) (lone (c .before .before .before .before .before .before .before .args .b .now)) (λ t u. mapped writeTy (atStart (pervadeTypes (c .before .before .before .before .before .before .before .args .a-fill) (c .before .before .before .before .before .before .before .args .b-fill) t u))) (sym (c .before .before .before .read-both .ensures) ∙ ap loneOf (c .before .read .given .1))))
-
-enum-told : tie.Need-enum-told
-enum-told c = search needs
-
--- src/tops.rt:89:39
+-- src/tops.rt:85:39
 lone-shape-requires : tie.Need-lone-shape-requires
-lone-shape-requires c κs = first-good _ _ (sym (c .before .before .read-both .ensures) ∙ ap loneOf (c .enum-told .given .1))
+lone-shape-requires c κs = first-good _ _ (c .before .before .before .pre)
 
--- src/tops.rt:89:54
+-- src/tops.rt:85:54
 lone-shape-requires-2 : tie.Need-lone-shape-requires-2
-lone-shape-requires-2 c κs = second-good _ _ (sym (c .before .before .before .read-both .ensures) ∙ ap loneOf (c .before .enum-told .given .1))
+lone-shape-requires-2 c κs = second-good _ _ (c .before .before .before .before .pre)
 
--- src/tops.rt:89:9
+-- src/tops.rt:85:9
 pervade-dyn-shapes-requires : tie.Need-pervade-dyn-shapes-requires
 pervade-dyn-shapes-requires c κs = search needs
 
--- src/tops.rt:92:9
+-- src/tops.rt:88:9
+enum-told : tie.Need-enum-told
+enum-told c = search needs
+
+-- src/tops.rt:88:9
+returns : tie.Need-returns
+returns c = sym (deliver-refused _ (by-scalars (lone (c .before .before .before .before .before .before .before .before .args .a .now)) (lone (c .before .before .before .before .before .before .before .before .args .b .now)) (c .before .before .before .before .lone-shape .ensures) (c .before .before .before .lone-shape2 .ensures) (λ t u. mapped writeTy (atStart (pervadeTypes (c .before .before .before .before .before .before .before .before .args .a-fill) (c .before .before .before .before .before .before .before .before .args .b-fill) t u))) (λ k l. refused unpervaded 0) (λ k l. shapes-clash (c .before .before .before .before .before .before .before .before .args .a-fill) (c .before .before .before .before .before .before .before .before .args .b-fill) (shapeFor (c .before .before .before .before .lone-shape .result)) (shapeFor (c .before .before .before .lone-shape2 .result)) k l (sym (c .before .before .pervade-dyn-shapes .ensures) ∙ ap (λ v. shapeBeside v (shapeFor (c .before .before .pervade-dyn-shapes .result .shape))) (c .enum-told .given .1))) ∙ both-refuse (lone (c .before .before .before .before .before .before .before .before .args .a .now)) (lone (c .before .before .before .before .before .before .before .before .args .b .now)) (c .before .before .before .before .before .before .before .before .pre) unpervaded 0))
+
 enum-told-2 : tie.Need-enum-told-2
 enum-told-2 c = search needs
 
--- src/tops.rt:92:9
-returns-2 : tie.Need-returns-2
-returns-2 c = sym (deliver-refused _ (by-scalars (lone (c .before .before .before .before .before .before .before .before .before .before .before .args .a .now)) (lone (c .before .before .before .before .before .before .before .before .before .before .before .args .b .now)) (c .before .before .before .before .lone-shape .ensures) (c .before .before .before .lone-shape2 .ensures) (λ t u. mapped writeTy (atStart (pervadeTypes (c .before .before .before .before .before .before .before .before .before .before .before .args .a-fill) (c .before .before .before .before .before .before .before .before .before .before .before .args .b-fill) t u))) (λ k l. refused unpervaded 0) (λ k l. shapes-clash (c .before .before .before .before .before .before .before .before .before .before .before .args .a-fill) (c .before .before .before .before .before .before .before .before .before .before .before .args .b-fill) (shapeFor (c .before .before .before .before .lone-shape .result)) (shapeFor (c .before .before .before .lone-shape2 .result)) k l (sym (c .before .before .pervade-dyn-shapes .ensures) ∙ ap (λ v. shapeBeside v (shapeFor (c .before .before .pervade-dyn-shapes .result .shape))) (c .enum-told2 .given .1))) ∙ both-refuse (lone (c .before .before .before .before .before .before .before .before .before .before .before .args .a .now)) (lone (c .before .before .before .before .before .before .before .before .before .before .before .args .b .now)) (sym (c .before .before .before .before .before .before .before .read-both .ensures) ∙ ap loneOf (c .before .before .before .before .before .enum-told .given .1)) unpervaded 0))
-
-enum-told-3 : tie.Need-enum-told-3
-enum-told-3 c = search needs
-
--- src/tops.rt:98:5
+-- src/tops.rt:94:5
 write-union-requires : tie.Need-write-union-requires
-write-union-requires c κs = (sym (c .before .before .before .before .before .before .before .before .before .read-both .ensures) ∙ ap loneOf (c .before .before .before .before .before .before .before .enum-told .given .1))
+write-union-requires c κs = (c .before .before .before .before .before .before .before .before .before .before .pre)
 
 -- src/tops.rt:82:1
 same-length : tie.Need-same-length
 same-length c = search needs
 
 -- src/tops.rt:82:1
-returns-3 : tie.Need-returns-3
-returns-3 c = c .before .before .write-union .ensures ∙ ap (λ o. deliver o (c .before .before .before .before .before .before .before .before .before .before .before .before .before .before .before .before .args .out .now)) (sym (by-scalars (lone (c .before .before .before .before .before .before .before .before .before .before .before .before .before .before .before .before .args .a .now)) (lone (c .before .before .before .before .before .before .before .before .before .before .before .before .before .before .before .before .args .b .now)) (c .before .before .before .before .before .before .before .before .before .lone-shape .ensures) (c .before .before .before .before .before .before .before .before .lone-shape2 .ensures) (λ t u. mapped writeTy (atStart (pervadeTypes (c .before .before .before .before .before .before .before .before .before .before .before .before .before .before .before .before .args .a-fill) (c .before .before .before .before .before .before .before .before .before .before .before .before .before .before .before .before .args .b-fill) t u))) (λ k l. accepted (writeTy (ty (shapeFor (c .before .before .before .before .before .before .before .pervade-dyn-shapes .result .shape)) (union k l)))) (λ k l. shapes-pervade (c .before .before .before .before .before .before .before .before .before .before .before .before .before .before .before .before .args .a-fill) (c .before .before .before .before .before .before .before .before .before .before .before .before .before .before .before .before .args .b-fill) (shapeFor (c .before .before .before .before .before .before .before .before .before .lone-shape .result)) (shapeFor (c .before .before .before .before .before .before .before .before .lone-shape2 .result)) k l (sym (c .before .before .before .before .before .before .before .pervade-dyn-shapes .ensures) ∙ ap (λ v. shapeBeside v (shapeFor (c .before .before .before .before .before .before .before .pervade-dyn-shapes .result .shape))) (c .before .before .before .before .before .enum-told3 .given .1)))))
+returns-2 : tie.Need-returns-2
+returns-2 c = c .before .before .write-union .ensures ∙ ap (λ o. deliver o (c .before .before .before .before .before .before .before .before .before .before .before .before .before .args .out .now)) (sym (by-scalars (lone (c .before .before .before .before .before .before .before .before .before .before .before .before .before .args .a .now)) (lone (c .before .before .before .before .before .before .before .before .before .before .before .before .before .args .b .now)) (c .before .before .before .before .before .before .before .before .before .lone-shape .ensures) (c .before .before .before .before .before .before .before .before .lone-shape2 .ensures) (λ t u. mapped writeTy (atStart (pervadeTypes (c .before .before .before .before .before .before .before .before .before .before .before .before .before .args .a-fill) (c .before .before .before .before .before .before .before .before .before .before .before .before .before .args .b-fill) t u))) (λ k l. accepted (writeTy (ty (shapeFor (c .before .before .before .before .before .before .before .pervade-dyn-shapes .result .shape)) (union k l)))) (λ k l. shapes-pervade (c .before .before .before .before .before .before .before .before .before .before .before .before .before .args .a-fill) (c .before .before .before .before .before .before .before .before .before .before .before .before .before .args .b-fill) (shapeFor (c .before .before .before .before .before .before .before .before .before .lone-shape .result)) (shapeFor (c .before .before .before .before .before .before .before .before .lone-shape2 .result)) k l (sym (c .before .before .before .before .before .before .before .pervade-dyn-shapes .ensures) ∙ ap (λ v. shapeBeside v (shapeFor (c .before .before .before .before .before .before .before .pervade-dyn-shapes .result .shape))) (c .before .before .before .before .before .enum-told2 .given .1)))))
 
 pub pervade-types-spec : {M : Type 1} → statement M
 pervade-types-spec =
     tie.close
     (tie.spec
-    read-both-requires
-    enum-known-read
-    returns
-    enum-told
     lone-shape-requires
     lone-shape-requires-2
     pervade-dyn-shapes-requires
+    enum-told
+    returns
     enum-told-2
-    returns-2
-    enum-told-3
     write-union-requires
     same-length
-    returns-3)
+    returns-2)

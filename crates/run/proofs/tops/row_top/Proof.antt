@@ -5,13 +5,16 @@ use Rattle.format.specs.Outcome.{accepted, mapped, deliver}
 use Rattle.rules.specs.Types.{intoRow}
 use Rattle.stack.specs.StackLaws.{holds-top, holds-below, holds-count}
 use Rattle.run.proofs.RuleLaws.{held-lone}
+use mathlib.Core.List.{_∷_}
+use Rattle.stack.specs.Stack.{Holds}
+use Rattle.run.proofs.StepLaws.{one-held}
 use borrow.Author.Needs.{needs}
 use Rattle.run.proofs.tops.row_top.Statement.{statement}
 use Rattle.run.proofs.tops.row_top.Tie as tie
 use Rattle.run.proofs.tops.row_top.Reads as reads
 use Rattle.run.proofs.tops.row_top.Lts as lts
 use Rattle.stack.proofs.load.Reads as load-reads
-use Rattle.ty.proofs.into_row.Reads as into-row-reads
+use Rattle.ty.proofs.row_known.Reads as row-known-reads
 
 -- src/tops.rt:35:24
 sub-load : tie.Need-sub-load
@@ -21,21 +24,21 @@ sub-load c = search needs
 load-requires : tie.Need-load-requires
 load-requires c κs = search needs
 
--- src/tops.rt:38:14
-sub-into-row : tie.Need-sub-into-row
-sub-into-row c = search needs
+-- src/tops.rt:38:15
+sub-row-known : tie.Need-sub-row-known
+sub-row-known c = search needs
 
--- src/tops.rt:38:14
-part-into-row-start : tie.Need-part-into-row-start
-part-into-row-start c = search needs
+-- src/tops.rt:38:15
+part-row-known-start : tie.Need-part-row-known-start
+part-row-known-start c = search needs
 
--- src/tops.rt:38:14
-part-into-row-end : tie.Need-part-into-row-end
-part-into-row-end c = search needs
+-- src/tops.rt:38:15
+part-row-known-end : tie.Need-part-row-known-end
+part-row-known-end c = search needs
 
 -- src/tops.rt:38:5
-into-row-requires : tie.Need-into-row-requires
-into-row-requires c κs = search needs
+row-known-requires : tie.Need-row-known-requires
+row-known-requires c κs = one-held (c .before .before .before .before .before .before .pre .1 .types) (c .before .before .before .before .before .before .pre .1 .held) (c .before .before .before .before .before .before .pre .0) λ t us e. let hh : Holds (c .before .before .before .before .before .before .args .st) (c .before .before .before .before .before .before .args .scratch .now) (t ∷ us) = rw e at (c .before .before .before .before .before .before .pre .1 .held) in rw (held-lone (c .before .before .load .ensures .1 (c .before .before .before .before .before .before .args .scratch .now) ∙ holds-top (c .before .before .before .before .before .before .args .st) (c .before .before .before .before .before .before .args .scratch .now) hh) (hh .within .0))
 
 -- src/tops.rt:31:1
 same-length : tie.Need-same-length
@@ -43,7 +46,7 @@ same-length c = search needs
 
 -- src/tops.rt:31:1
 returns : tie.Need-returns
-returns c = λ t ts h. c .before .before .into-row .ensures ∙ ap (λ o. deliver (mapped (λ x. writeTy (intoRow x)) o) (c .before .before .before .before .before .before .before .before .before .args .out .now)) (held-lone (c .before .before .before .before .before .load .ensures .1 (c .before .before .before .before .before .before .before .before .before .args .scratch .now) ∙ holds-top (c .before .before .before .before .before .before .before .before .before .args .st) (c .before .before .before .before .before .before .before .before .before .args .scratch .now) h) (h .within .0))
+returns c = λ t ts hh. c .before .before .row-known .ensures ∙ rw (held-lone (c .before .before .before .before .before .load .ensures .1 (c .before .before .before .before .before .before .before .before .before .args .scratch .now) ∙ holds-top (c .before .before .before .before .before .before .before .before .before .args .st) (c .before .before .before .before .before .before .before .before .before .args .scratch .now) hh) (hh .within .0))
 
 pub row-top-spec : {M : Type 1} → statement M
 row-top-spec =
@@ -51,9 +54,9 @@ row-top-spec =
     (tie.spec
     sub-load
     load-requires
-    sub-into-row
-    part-into-row-start
-    part-into-row-end
-    into-row-requires
+    sub-row-known
+    part-row-known-start
+    part-row-known-end
+    row-known-requires
     same-length
     returns)

@@ -14,35 +14,35 @@ use Rattle.run.proofs.tops.validate_top.Lts as lts
 use Rattle.stack.proofs.load.Reads as load-reads
 use Rattle.validate.proofs.validate.Reads as validate-reads
 
--- src/tops.rt:106:24
+-- src/tops.rt:102:24
 sub-load : tie.Need-sub-load
 sub-load c = search needs
 
--- src/tops.rt:106:9
+-- src/tops.rt:102:9
 load-requires : tie.Need-load-requires
 load-requires c κs = search needs
 
--- src/tops.rt:109:35
+-- src/tops.rt:105:35
 sub-validate : tie.Need-sub-validate
 sub-validate c = search needs
 
--- src/tops.rt:109:35
+-- src/tops.rt:105:35
 part-validate-start : tie.Need-part-validate-start
 part-validate-start c = search needs
 
--- src/tops.rt:109:35
+-- src/tops.rt:105:35
 part-validate-end : tie.Need-part-validate-end
 part-validate-end c = search needs
 
--- src/tops.rt:109:5
+-- src/tops.rt:105:5
 validate-requires : tie.Need-validate-requires
 validate-requires c κs = search needs
 
--- src/tops.rt:102:1
+-- src/tops.rt:98:1
 same-length : tie.Need-same-length
 same-length c = search needs
 
--- src/tops.rt:102:1
+-- src/tops.rt:98:1
 returns : tie.Need-returns
 returns c = λ s t ts h e. c .before .before .validate .ensures ∙ rw (e, held-lone (c .before .before .before .before .before .load .ensures .1 (c .before .before .before .before .before .before .before .before .before .before .args .scratch .now) ∙ holds-top (c .before .before .before .before .before .before .before .before .before .before .args .st) (c .before .before .before .before .before .before .before .before .before .before .args .scratch .now) h) (h .within .0))
 

@@ -12,94 +12,35 @@ use Rattle.ty.proofs.rows.row_by.Statement.{statement}
 use Rattle.ty.proofs.rows.row_by.Tie as tie
 use Rattle.ty.proofs.rows.row_by.Reads as reads
 use Rattle.ty.proofs.rows.row_by.Lts as lts
-use Rattle.record.proofs.lone_shape.Reads as lone-shape-reads
 use Rattle.record.proofs.read_lone.Reads as read-lone-reads
-use Rattle.shape.proofs.into_row.Reads as into-row-reads
-use Rattle.shape.proofs.rank.Reads as rank-reads
-use Rattle.ty.proofs.parts.look_inside.Reads as look-inside-reads
-use Rattle.ty.proofs.rows.keep_scalar.Reads as keep-scalar-reads
-use Rattle.ty.proofs.rows.take_field.Reads as take-field-reads
+use Rattle.ty.proofs.rows.row_known.Reads as row-known-reads
 
+-- src/rows.rt:69:9
 read-lone-requires : tie.Need-read-lone-requires
 read-lone-requires c κs = search needs
 
+-- src/rows.rt:70:28
 enum-known-answer : tie.Need-enum-known-answer
 enum-known-answer c = search needs
 
+-- src/rows.rt:71:9
 returns : tie.Need-returns
 returns c = sym (deliver-refused _ (mapped-refused (λ t. writeTy (rowBy (chosen (c .before .before .before .before .before .before .args .which)) t)) (passed-refused (lone (c .before .before .before .before .before .before .args .ty .now)) (sym (c .before .before .before .read-lone .ensures) ∙ ap loneOf (c .before .answer .given .1)))))
 
 enum-told : tie.Need-enum-told
 enum-told c = search needs
 
-lone-shape-requires : tie.Need-lone-shape-requires
-lone-shape-requires c κs = (sym (c .before .before .read-lone .ensures) ∙ ap loneOf (c .enum-told .given .1))
+-- src/rows.rt:73:5
+row-known-requires : tie.Need-row-known-requires
+row-known-requires c κs = (sym (c .before .before .before .read-lone .ensures) ∙ ap loneOf (c .before .enum-told .given .1))
 
-into-row-requires : tie.Need-into-row-requires
-into-row-requires c κs = search needs
-
-rank-requires : tie.Need-rank-requires
-rank-requires c κs = search needs
-
-keep-scalar-requires : tie.Need-keep-scalar-requires
-keep-scalar-requires c κs = (sym (c .before .before .before .before .before .before .before .read-lone .ensures) ∙ ap loneOf (c .before .before .before .before .before .enum-told .given .1))
-
+-- src/rows.rt:66:1
 same-length : tie.Need-same-length
 same-length c = search needs
 
+-- src/rows.rt:66:1
 returns-2 : tie.Need-returns-2
-returns-2 c = c .before .before .keep-scalar .ensures ∙ ap (λ o. deliver o (c .before .before .before .before .before .before .before .before .before .before .before .before .before .args .result .now)) (sym (row-ranked (c .before .before .before .before .before .before .before .before .before .before .before .before .before .args .ty .now) (c .before .before .before .before .before .before .before .lone-shape .ensures) (c .before .before .before .before .before .before .into-row .ensures) (c .before .before .before .before .before .before .before .before .before .before .before .before .before .args .which) (λ e. c .before .before .before .before .if1 .taken (c .before .before .before .before .before .rank .ensures .0 ∙ e))))
-
-look-inside-requires : tie.Need-look-inside-requires
-look-inside-requires c κs = (sym (c .before .before .before .before .before .before .read-lone .ensures) ∙ ap loneOf (c .before .before .before .before .enum-told .given .1))
-
-enum-told-2 : tie.Need-enum-told-2
-enum-told-2 c = search needs
-
-keep-scalar-requires-2 : tie.Need-keep-scalar-requires-2
-keep-scalar-requires-2 c κs = (sym (c .before .before .before .before .before .before .before .before .before .before .read-lone .ensures) ∙ ap loneOf (c .before .before .before .before .before .before .before .before .enum-told .given .1))
-
-enum-told-3 : tie.Need-enum-told-3
-enum-told-3 c = search needs
-
-keep-scalar-requires-3 : tie.Need-keep-scalar-requires-3
-keep-scalar-requires-3 c κs = (sym (c .before .before .before .before .before .before .before .before .before .before .read-lone .ensures) ∙ ap loneOf (c .before .before .before .before .before .before .before .before .enum-told .given .1))
-
-enum-told-4 : tie.Need-enum-told-4
-enum-told-4 c = search needs
-
-keep-scalar-requires-4 : tie.Need-keep-scalar-requires-4
-keep-scalar-requires-4 c κs = (sym (c .before .before .before .before .before .before .before .before .before .before .read-lone .ensures) ∙ ap loneOf (c .before .before .before .before .before .before .before .before .enum-told .given .1))
-
-enum-known-held : tie.Need-enum-known-held
-enum-known-held c = search needs
-
-take-field-requires : tie.Need-take-field-requires
-take-field-requires c κs = (c .before .before .before .before .look-inside .ensures ∙ ap accepted (c .before .before .held .given .1))
-
-same-length-2 : tie.Need-same-length-2
-same-length-2 c = search needs
-
-returns-3 : tie.Need-returns-3
-returns-3 c = c .before .before .keep-scalar2 .ensures ∙ ap (λ o. deliver o (c .before .before .before .before .before .before .before .before .before .before .before .before .before .before .before .before .args .result .now)) (sym (row-kept (c .before .before .before .before .before .before .before .before .before .before .before .before .before .before .before .before .args .ty .now) (c .before .before .before .before .before .before .before .before .before .before .lone-shape .ensures) (c .before .before .before .before .before .before .before .before .before .into-row .ensures) (c .before .before .before .before .before .before .before .before .before .before .before .before .before .before .before .before .args .which) _ (c .before .before .before .before .before .before .look-inside .ensures ∙ ap accepted (c .before .before .before .before .enum-told2 .given .1)) tt))
-
-same-length-3 : tie.Need-same-length-3
-same-length-3 c = search needs
-
-returns-4 : tie.Need-returns-4
-returns-4 c = c .before .before .keep-scalar3 .ensures ∙ ap (λ o. deliver o (c .before .before .before .before .before .before .before .before .before .before .before .before .before .before .before .before .args .result .now)) (sym (row-kept (c .before .before .before .before .before .before .before .before .before .before .before .before .before .before .before .before .args .ty .now) (c .before .before .before .before .before .before .before .before .before .before .lone-shape .ensures) (c .before .before .before .before .before .before .before .before .before .into-row .ensures) (c .before .before .before .before .before .before .before .before .before .before .before .before .before .before .before .before .args .which) _ (c .before .before .before .before .before .before .look-inside .ensures ∙ ap accepted (c .before .before .before .before .enum-told3 .given .1)) tt))
-
-same-length-4 : tie.Need-same-length-4
-same-length-4 c = search needs
-
-returns-5 : tie.Need-returns-5
-returns-5 c = c .before .before .keep-scalar4 .ensures ∙ ap (λ o. deliver o (c .before .before .before .before .before .before .before .before .before .before .before .before .before .before .before .before .args .result .now)) (sym (row-kept (c .before .before .before .before .before .before .before .before .before .before .before .before .before .before .before .before .args .ty .now) (c .before .before .before .before .before .before .before .before .before .before .lone-shape .ensures) (c .before .before .before .before .before .before .before .before .before .into-row .ensures) (c .before .before .before .before .before .before .before .before .before .before .before .before .before .before .before .before .args .which) _ (c .before .before .before .before .before .before .look-inside .ensures ∙ ap accepted (c .before .before .before .before .enum-told4 .given .1)) tt))
-
-same-length-5 : tie.Need-same-length-5
-same-length-5 c = search needs
-
-returns-6 : tie.Need-returns-6
-returns-6 c = c .before .before .take-field .ensures ∙ ap (λ o. deliver o (c .before .before .before .before .before .before .before .before .before .before .before .before .before .before .before .before .before .args .result .now)) (sym (row-taken (c .before .before .before .before .before .before .before .before .before .before .before .before .before .before .before .before .before .args .ty .now) (c .before .before .before .before .before .before .before .before .before .before .before .lone-shape .ensures) (c .before .before .before .before .before .before .before .before .before .before .into-row .ensures) (c .before .before .before .before .before .before .before .before .before .before .before .before .before .before .before .before .before .args .which) (c .before .before .before .before .before .before .before .look-inside .ensures ∙ ap accepted (c .before .before .before .before .before .held .given .1)) (sym (c .before .before .before .before .before .before .before .before .before .rank .ensures .0) ∙ c .before .before .before .before .before .before .before .before .if1 .left)))
+returns-2 c = search needs
 
 pub row-by-spec : {M : Type 1} → statement M
 row-by-spec =
@@ -109,26 +50,6 @@ row-by-spec =
     enum-known-answer
     returns
     enum-told
-    lone-shape-requires
-    into-row-requires
-    rank-requires
-    keep-scalar-requires
+    row-known-requires
     same-length
-    returns-2
-    look-inside-requires
-    enum-told-2
-    keep-scalar-requires-2
-    enum-told-3
-    keep-scalar-requires-3
-    enum-told-4
-    keep-scalar-requires-4
-    enum-known-held
-    take-field-requires
-    same-length-2
-    returns-3
-    same-length-3
-    returns-4
-    same-length-4
-    returns-5
-    same-length-5
-    returns-6)
+    returns-2)

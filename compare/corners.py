@@ -1,0 +1,376 @@
+#!/usr/bin/env python3
+"""Prints requests at the corners of the rules: of sizes, shapes, scalars, types, values and validation.
+
+The paper's cases (a) to (m) come first, then each rule's corners, then those of bytes and of lines.
+Bytes are built from the paper's notation: `num("2 ?..3")` is [2 ?..3] Num.
+"""
+
+import struct
+import sys
+
+sys.dont_write_bytecode = True
+
+from base1 import LARGEST, LINE, UNKNOWN, boxed, full, kind, largest, named, nested, of, word
+
+BOOL, NAT, INT, NUM, COMPLEX, ASCII, CHAR, STREAM = KINDS = [kind(code) for code in range(8)]
+ANY = kind(9)
+BOX = boxed(0)
+SIDES = ("none", "left", "right")
+INFINITY = float("inf")
+
+
+def sizes(text):
+    return [UNKNOWN if size == "?" else int(size) for size in text.split()]
+
+
+def ty(shape, scalar):
+    """A type, its shape as the paper writes it, without the brackets."""
+    opening, dots, closing = shape.partition("..")
+    return of(scalar, sizes(opening), sizes(closing) if dots else None)
+
+
+def num(shape):
+    return ty(shape, NUM)
+
+
+def box(content):
+    return boxed(1, content)
+
+
+def fields(*types, name=None):
+    return named(name, types)
+
+
+def around(levels, inside):
+    """A type in so many All boxes."""
+    for _ in range(levels):
+        inside = ty("", box(inside))
+    return inside
+
+
+def bits(number):
+    """BITS of a number, or these bits."""
+    return f"{number:016x}" if isinstance(number, int) else struct.pack(">d", number).hex()
+
+
+def ask(request, *arguments):
+    return " ".join([request, *(word(a) if isinstance(a, bytes) else str(a) for a in arguments)])
+
+
+def listed(request, *numbers):
+    return ask(request, *map(bits, numbers))
+
+
+# ---- the paper's cases
+
+def cases():
+    yield from ("dim_max 1 ?", "dim_max 0 ?", "dim_max 0 1")  # (a)
+    yield ask("join_shapes", num("2 3"), num("2"))  # (b)
+    yield ask("join_shapes", num("..2 3 4"), num("..2 3 4"))  # (c)
+    yield from (ask("row_shape", num(shape)) for shape in ("..4 5", "", ".."))  # (d)
+    for a, b in ((BOX, box(num("3"))), (box(num("3")), BOX)):  # (e)
+        yield ask("union", ty("", a), ty("", b))
+    for numbers in ((1.0, 0.0, -0.0), (-1.0, 2.0), (INFINITY,)):  # (f)
+        yield listed("nums_scalar", *numbers)
+    for request in ("as_dim num", "as_dims list", "val_spec num", "val_spec list"):  # (g)
+        yield listed(request, -INFINITY)
+    yield ask("pervade", 0, num("1"), num(""))  # (h)
+    yield ask("pervade", 0, num("3 ?"), num("? 4"))  # (i)
+    yield from (ask("pervade", flag, num("3"), num("4")) for flag in range(4))  # (j)
+    yield ask("pervade", 0, num("0"), num("1"))  # (k)
+    yield ask("validate", "none", num("?"), ty("3", INT))  # (l)
+    yield ask("validate", "none", num(".."), ty("3", ANY))
+    yield ask("validate", "none", num("2 3"), num("2.."))  # (m)
+    yield ask("validate", "right", num("3"), num("2 3"))
+
+
+# ---- sizes and shapes
+
+DIMS = ("dim_cmp", "dim_cmp_defined", "dim_max", "dim_join", "dim_compatible", "dim_row_compatible")
+SIZES = ("0", "1", "2", "3", "?", LARGEST - 1, LARGEST)
+EIGHT = "1 2 3 4 5 6 7 8"
+SHAPES = ("", "..", "0", "1", "?", "3", "2 3", "? 3", "2..", "..3", "..2 3 4", "2..3", f"{EIGHT}..{EIGHT}")
+
+
+def dims():
+    for request in DIMS:
+        yield from (ask(request, a, b) for a in SIZES for b in SIZES)
+        # above 2^53 either way; all ones is ?
+        for a, b in ((LARGEST + 1, 0), (0, LARGEST + 1), (LARGEST + 1, 2**63), (UNKNOWN, 1)):
+            yield ask(request, a, b)
+
+
+def shapes():
+    for request in ("row_shape", "row_count", "rank", "shape_is_any", "shape_is_scalar"):
+        for shape in (*SHAPES, EIGHT, f"..{EIGHT}", "..?", "? 0 1", "0..", f"{LARGEST}..{LARGEST}"):
+            yield ask(request, num(shape))
+    for request in ("merge", "join_shapes", "compatible_shapes", *(f"pervade {flag}" for flag in range(4))):
+        yield from (ask(request, num(a), num(b)) for a in SHAPES for b in SHAPES)
+        # more than one index; the first that refuses ends a pervading, whatever a later one would do
+        for a, b in (("2 3 5", "2 4 4"), ("2 5 3", "2 4 4"), ("0 1 ?", "? ? 1"), ("1 1 1", "0 ? 2"), ("3 3", "1 2")):
+            yield ask(request, num(a), num(b))
+    # no chain of sizes: of 0, 1 and ? each is below another
+    for a, b in (("0 1", "1 ?"), ("1 ?", "? 0"), ("? 0", "0 1")):
+        yield from (ask("merge", num(a), num(b)), ask("merge", num(f"..{a}"), num(f"..{b}")))
+    # closing sizes are joined from the end, the first is ?
+    for a, b in (("..4", "..2 3 4"), ("..2 3 4", "..2 3 4 5"), ("..1 2 3", "..9 2 3"), ("2..", "2..3"), ("2..3", "2")):
+        yield from (ask("join_shapes", num(a), num(b)), ask("join_shapes", num(b), num(a)))
+
+
+# ---- scalars
+
+BOXES = (
+    BOX, box(num("3")), box(num("?")), box(num("1 2")), box(ty("3", INT)), box(ty("3", CHAR)),
+    box(ty("", BOX)), box(ty("", box(num("3")))), box(ty("", box(ty("3", CHAR)))),
+    fields(), fields(name=b"n"), fields(num("3")), fields(ty("3", INT), ty("", ASCII)), fields(num("3"), name=b"n"),
+)  # fmt: skip
+# each kind with each; each box with each, and with two kinds
+SCALARS = [(a, b) for group in ((*KINDS, BOX, ANY), (*BOXES, NUM, ANY)) for a in group for b in group]
+
+
+def scalars():
+    for request in ("superset", "compatible_scalars", "compatible_with_boxes", "union"):
+        yield from (ask(request, ty("", a), ty("", b)) for a, b in SCALARS)
+    yield from (ask("unrefine", ty("", scalar)) for scalar in (*KINDS, *BOXES, ANY))
+    # unrefining reaches into boxes as deep as there are any
+    inside = ty("..3", fields(ty("", NAT), ty("", ASCII), ty("", STREAM)))
+    deep = ty("2", fields(ty("", BOOL), ty("?", box(inside))))
+    yield from (ask("unrefine", around(levels, deep)) for levels in range(6))
+    # of two All boxes the later type: scalars before shapes, sizes by their own order, closed before open
+    later = (("9", "1"), ("1", "?"), ("0", "1"), ("?", "2"), ("3", "3.."), ("3..9", "3..?"), ("2 1", "1 2"))
+    for a, b in ((ty("9", INT), num("1")), *((num(a), num(b)) for a, b in later)):
+        yield from (ask("union", ty("", box(x)), ty("", box(y))) for x, y in ((a, b), (b, a)))
+
+
+def orders():
+    """Scalar first, then shape; box Any, All, Def; no name before a name; lists by the first difference."""
+    names = (None, b"", b" ", b"A", b"a", b"aa", b"ab", b"b", b"~", b"sixteen letters!")
+    one, two = num("1"), num("2")
+    kinds = (BOOL, COMPLEX, BOX, box(num("3")), box(num("4")), box(ty("2", CHAR)), fields(), ANY)
+    lists = ((), (one,), (one, two), (two,), (two, one), (ty("", BOX),))
+    defs = [fields(*types) for types in lists] + [fields(num("9"), name=b""), fields(one, name=b"n")]
+    for group in (kinds, [fields(name=name) for name in names], defs):
+        yield from (ask("compare", ty("", a), ty("", b)) for a in group for b in group)
+    yield from (ask("compare", num(a), num(b)) for a in SHAPES for b in SHAPES)
+    yield from (ask("compare", ty("9", a), ty("", b)) for a in kinds for b in kinds)
+
+
+# ---- types: rows, boxes, fields, joins
+
+THREE = fields(num("1"), ty("2", CHAR), ty("", BOX))
+
+
+def rows():
+    requests = ("row", "first_row", "last_row", *(f"nth_row {n}" for n in (0, 1, 2, 3, UNKNOWN)))
+    scalars = (NUM, BOX, box(num("3")), THREE, fields(), fields(name=b"n"), fields(num("3"), name=b"n"))
+    for request in requests:
+        # at rank 1 a Def's row is All of a field
+        for shape in ("", "..", "3", "?", "..3", "2 3", "2..", "..2 3", "2..3"):
+            yield from (ask(request, ty(shape, scalar)) for scalar in scalars)
+        yield ask(request, ty("1", fields(*[num("")] * 31)))
+        yield ask(request, largest())
+
+
+def boxes():
+    pair = fields(num("1"), num("2"), name=b"n")
+    many = ("30", "31", "32", str(LARGEST), "31..", "32..", "31 2")
+    for scalar in (NUM, ANY, STREAM, BOX, box(num("3")), fields(), fields(name=b""), pair):
+        for shape in ("", "..", "0", "1", "?", "2", "2 3", "? 3", "2..", "..2", *many):
+            yield ask("as_boxes", ty(shape, scalar))
+    # the longest answer: 31 copies of the longest content
+    leaf = full(named(b"sixteen letters!"))
+    yield ask("as_boxes", ty("31", box(full(named(b"sixteen letters!", [leaf] * 30)))))
+    for scalar in (NUM, BOX, box(num("3")), box(ty("", pair)), fields(), fields(name=b"n"), pair, THREE):
+        yield from (ask("unboxed", ty(shape, scalar)) for shape in ("", "..", "1", "..1"))
+
+
+def looked_up():
+    one = num("1")
+    names = [fields(one, name=name) for name in (b"", b"n", b"sixteen letters!")]
+    for n in (0, 1, 2, 3, 30, 31, LARGEST, UNKNOWN):
+        for scalar in (NUM, BOX, box(one), fields(), THREE, fields(*[one] * 31), *names):
+            yield ask("field", n, ty("", scalar))
+        yield from (ask("field", n, a) for a in (ty("2 3..4", THREE), largest()))
+
+
+def joins():
+    scalars = (NUM, INT, CHAR, BOX, box(num("3")), box(num("4")), fields(num("3")), ANY)
+    every = [ty(shape, scalar) for shape, scalar in zip(("", "3", "4", "3..", "?", "3", "..", "2 3"), scalars)]
+    yield from (ask("join", a, b) for a in every for b in every)
+    yield ask("join", largest(), largest())
+
+
+# ---- values
+
+NUMBERS = (
+    0.0, -0.0, 1.0, -1.0, 2.0, 3.0, -3.0, 0.5, -0.5, 1.5, 5e-324, -5e-324, 0x3FEFFFFFFFFFFFFF, 0x3FF0000000000001,
+    2.0**52, 2.0**52 + 1, 2.0**52 - 0.5, 2.0**53 - 1, 2.0**53, 2.0**53 + 2, -(2.0**53), 2.0**60, 2.0**63, 2.0**64,
+    1e300, -1e300, INFINITY, -INFINITY, 0x7FF8000000000000, 0xFFF8000000000000, 0x7FF0000000000001,
+    0xFFF0000000000001, 0x7FFFFFFFFFFFFFFF, 0xFFFFFFFFFFFFFFFF,
+)  # fmt: skip
+VALUES = (
+    "val_ty", "val_spec", "val_scalar", "val_row_count", "val_rank", "val_row", "val_first_row", "val_last_row",
+    "as_dim", "as_dims",
+)  # fmt: skip
+
+
+def values():
+    for request in VALUES:
+        for number in NUMBERS:
+            yield listed(f"{request} num", number)
+            # alone, first and last
+            for numbers in ((number,), (number, 2.0, 3.0), (2.0, 3.0, number)):
+                yield listed(f"{request} list", *numbers)
+        for count in (0, 1, 2, 7, 8, 9):
+            yield listed(f"{request} list", *[3.0] * count)
+        # nine come before a bad one; of two bad ones the first
+        for numbers in ([0.5] * 9, (1.0, 2.0**60, 0.5), (1.0, -2.0, 2.0**60)):
+            yield listed(f"{request} list", *numbers)
+        for data in (num(""), num(".."), num("3"), num("?..3"), ty("3", THREE), ty("", BOX), largest()):
+            yield ask(f"{request} type", data)
+        yield from (ask(f"{request} type", data) for data in (b"", b"SH\x09", num("") + b"\0"))
+
+
+def kinds():
+    yield "nums_scalar"
+    for number in NUMBERS:
+        yield listed("nums_scalar", number)
+        for other in (0.0, 2.0, -2.0, 0.5):
+            yield from (listed("nums_scalar", number, other), listed("nums_scalar", other, number))
+
+
+# ---- validation
+
+def checks(spec, a):
+    """The scalar alone, then scalar and shape for each side."""
+    yield ask("check_scalar", spec, a)
+    yield from (ask("validate", side, spec, a) for side in SIDES)
+
+
+def shape_checks():
+    """Each side, with counts that fit and that do not."""
+    for side in SIDES:
+        yield from (ask("check_shape", side, num(spec), num(a)) for spec in SHAPES for a in (*SHAPES, "2 3 4", "3 2"))
+        # the scalar is not looked at
+        yield ask("check_shape", side, num("3"), ty("3", CHAR))
+
+
+def scalar_checks():
+    yield from (ask("check_scalar", ty("", spec), ty("", a)) for spec, a in SCALARS)
+    # wholly Any takes the spec's scalar; Any of another shape does not, but a named Def makes fields of it
+    for spec in (NUM, BOX, box(num("3")), fields(num("3")), fields(num("3"), name=b"n"), fields(name=b""), ANY):
+        for shape in ("..", "", "3", "0", "?", "3..", "..3", "2 3"):
+            for scalar in (ANY, BOX, box(ty("3", INT))):
+                yield from checks(ty("..", spec), ty(shape, scalar))
+    # a name for a Def that has none; its own name stays; pairs as far as both lists go
+    lists = ((), (ty("3", INT),), (ty("3", INT), ty("", ASCII)))
+    for name, own in ((name, own) for name in (None, b"", b"n") for own in (None, b"", b"own")):
+        for spec, a in ((spec, a) for spec in lists for a in lists):
+            yield ask("check_scalar", ty("..", fields(*spec, name=name)), ty("2", fields(*a, name=own)))
+    # an All spec goes against each field, and the first that does not pass refuses
+    ok, short, other = num("3"), num("4"), ty("3", CHAR)
+    for a in ((ok, num("?")), (ok, short), (short, other), (other, short)):
+        yield from checks(ty("..", box(ok)), ty("2", fields(*a)))
+    # 9 for the scalar before 10 for the shape, also from deep inside; contents have no side
+    yield from checks(num("2"), ty("3", CHAR))
+    yield from checks(ty("2", box(num("3"))), ty("3", box(ty("3", CHAR))))
+    yield from checks(ty("", box(num("3"))), ty("", box(num("2 3"))))
+
+
+def grown():
+    """Copies and replacements, up to the limits and past them."""
+    name, taker = ty("..", fields(name=b"n")), ty("..", ANY)
+    # seven boxes deep a field would be at depth 9
+    for levels in (5, 6, 7):
+        for a in (ty(shape, scalar) for shape in ("3", "0", "?", "1", "..") for scalar in (ANY, BOX)):
+            yield from checks(around(levels, name), around(levels, a))
+    # eleven types, copied twice and three times: 23 and 34 in all
+    eleven = ty("", fields(*[num("")] * 10))
+    for count in (0, 1, 2, 3, 30, 31, 32, LARGEST):
+        for scalar in (box(eleven), BOX, box(num(""))):
+            yield from checks(name, ty(str(count), scalar))
+    # as many fields as the spec has, where no closed size says how many
+    for count in (0, 1, 2, 15, 16, 30, 31):
+        spec = ty("..", fields(*[taker] * count, name=b"n"))
+        yield from (ask("check_scalar", spec, ty(shape, box(around(1, num(""))))) for shape in ("?", "..", "2", "2 3"))
+    # box Any takes a Def
+    for count in (0, 2, 29, 30, 31):
+        for own in (None, b"n"):
+            spec = ty("..", fields(*[num("")] * count, name=own))
+            yield from checks(spec, ty("?", BOX))
+            yield from checks(around(1, spec), around(1, ty("..", BOX)))
+    # each field takes the content
+    for count in (2, 10, 15, 16, 31):
+        yield from checks(ty("..", box(around(1, num("")))), ty("?", fields(*[taker] * count)))
+    # 5 before a later 9 or 10, and after an earlier one
+    good, wrong, longer, many = num(""), ty("", CHAR), num("3"), ty("33", ANY)
+    for late in (wrong, longer):
+        yield from checks(ty("2", fields(name, good)), ty("3", fields(many, late)))
+        yield from checks(ty("2", fields(good, name)), ty("3", fields(late, many)))
+    yield from checks(ty("2", fields(name=b"n")), ty("33", ANY))
+    # 32 and 33 types, made at two places
+    for count in ("14", "15"):
+        yield from checks(ty("..", fields(name, name)), ty("?", fields(ty("15", ANY), ty(count, ANY))))
+    # what was replaced no longer counts: twenty types go, twenty come
+    twenty = ty("", fields(*[num("")] * 19))
+    yield from checks(ty("..", fields(name, name)), ty("?", fields(ty("0", box(twenty)), ty("20", ANY))))
+    yield from checks(ty("..", fields(name, name)), ty("?", fields(ty("20", ANY), ty("0", box(twenty)))))
+    yield from (request for a in (taker, largest()) for request in checks(largest(), a))
+
+
+# ---- bytes that are no types, and lines
+
+def refused():
+    """The first, or the spec, is read whole before the other; all bytes before any rule."""
+    good, extra, short, over = num("3"), num("3") + b"\0", num("3")[:5], num(str(LARGEST + 1))
+    sided = ("pervade 0", "validate none", "check_shape left", "check_scalar", "compatible_with_boxes")
+    for request in ("merge", "join_shapes", "compatible_shapes", "superset", "compatible_scalars", "compare", "union", "join", *sided):
+        for a, b in ((extra, b""), (b"", extra), (good, short), (short, good), (good, extra), (good, over)):
+            yield ask(request, a, b)
+    alone = ("row_shape", "row_count", "rank", "shape_is_any", "shape_is_scalar", "unrefine", "as_boxes", "unboxed")
+    for request in (*alone, "row", "first_row", "last_row", "nth_row 0", "field 0"):
+        yield from (ask(request, a) for a in (b"", short, extra, over, nested(8)))
+    for request in ("unrefine", "unboxed", "compare", "union"):
+        yield ask(request, *[largest()] * (2 if request in ("compare", "union") else 1))
+
+
+def lines():
+    """What these requests' lines may lack or have too much of; arguments are judged from the left."""
+    a, one = word(num("3")), bits(1.0)
+    for request in ("validate", "check_shape"):
+        for rest in ("", " ", " none", f" none {a}", f" none {a} ", f" none {a} {a} {a}", f"  none {a} {a}", " none - -"):
+            yield request + rest
+        for side in ("None", "LEFT", "nones", "non", "up", "-", "?", "0", "left\t"):
+            yield f"{request} {side} {a} {a}"
+        yield from (f"{request} {rest}" for rest in ("up g g", f"none g {a}", f"none {a} g", "none 5 g"))
+    for rest in ("", f" {a}", f" none {a} {a}", f" {a} g", f" g {a}"):
+        yield "check_scalar" + rest
+    # a value's first word is judged before the number of its words
+    firsts = ("Num", "nums", "lists 0", "number 0 0", "- 0", one, f"{a} {a}", "types", "num", "list", "type")
+    counts = (f"num {one} {one}", f"type {a} {a}", f"num  {one}", f"list  {one}", f"list {one}  {one}", f"list {one} ", "list ")
+    digits = (one[1:], f"{one}0", "-", f"{one[1:]}g", "7FF8000000000000")
+    for request in VALUES:
+        yield from (request, f"{request} ")
+        yield from (f"{request} {rest}" for rest in (*firsts, *counts, "type g", "type -", "type 5"))
+        for number in digits:
+            yield from (f"{request} {rest}" for rest in (f"num {number}", f"list {number} {one}", f"list {one} {number}"))
+    for rest in (" ", "  ", " -", f" {one} ", f" list {one}", *(f" {number}" for number in digits)):
+        yield "nums_scalar" + rest
+    # as many numbers as a line holds
+    for request in ("val_ty list", "nums_scalar"):
+        yield request + f" {bits(2.0)}" * ((LINE - len(request)) // 17)
+
+
+PARTS = (
+    cases, dims, shapes, scalars, orders, rows, boxes, looked_up, joins, values, kinds, shape_checks, scalar_checks,
+    grown, refused, lines,
+)  # fmt: skip
+
+
+def main():
+    requests = (request + "\n" for part in PARTS for request in part())
+    sys.stdout.buffer.write("".join(requests).encode("latin-1"))
+
+
+if __name__ == "__main__":
+    main()

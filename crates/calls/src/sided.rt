@@ -1,0 +1,57 @@
+// NAME SIDE HEX HEX: requests that hold a spec to a type, for a side or none.
+use crate::answers::Answer;
+use crate::answers::delivered;
+use crate::arguments::Both;
+use crate::arguments::two_hex;
+use crate::fault;
+use crate::words::Found;
+use crate::words::count;
+use crate::words::find;
+use crate::words::nth;
+use crate::words::part;
+use validate::Side;
+use validate::check_shape;
+use validate::validate;
+
+// In the order of `call`'s arms.
+pub fn number(name: &[u8]) -> Found {
+    find(b"validate check_shape", name)
+}
+
+pub fn answered(k: usize, line: &[u8], input: &mut [u8], result: &mut [u8]) -> Answer {
+    if count(line) != 4 {
+        return Answer::Bad(fault::WORDS);
+    }
+    let found = find(b"none left right", nth(line, 1));
+    let Found::At(which) = found else {
+        return Answer::Bad(fault::SIDE);
+    };
+    let decoded = two_hex(nth(line, 2), nth(line, 3), &mut *input);
+    let Both::To { middle, end } = decoded else {
+        return Answer::Bad(fault::HEX);
+    };
+    call(
+        k,
+        chosen(which),
+        part(&*input, 0, middle),
+        part(&*input, middle, end),
+        result,
+    )
+}
+
+fn call(k: usize, side: Side, spec: &[u8], a: &[u8], result: &mut [u8]) -> Answer {
+    match k {
+        0 => delivered(validate(side, spec, a, result)),
+        1 => delivered(check_shape(side, spec, a, result)),
+        _ => Answer::Bad(fault::REQUEST),
+    }
+}
+
+// The side whose word stands at this place among the three.
+fn chosen(which: usize) -> Side {
+    match which {
+        0 => Side::Unsided,
+        1 => Side::Left,
+        _ => Side::Right,
+    }
+}

@@ -1,0 +1,16 @@
+use borrow.Author.Tests.{eq-eqb, ne-eqb}
+use Rattle.cursor.proofs.marks.is_mark.Statement.{statement}
+use Rattle.cursor.proofs.marks.is_mark.Tie as tie
+use Rattle.cursor.proofs.marks.is_mark.Reads as reads
+use Rattle.cursor.proofs.marks.is_mark.Lts as lts
+
+-- src/marks.rt:53:9
+returns : tie.Need-returns
+returns c = rw (eq-eqb (c .before .args .x) (c .before .args .a) (c .if1 .taken))
+
+-- src/marks.rt:49:1
+returns-2 : tie.Need-returns-2
+returns-2 c = rw (ne-eqb (c .before .args .x) (c .before .args .a) (c .if1 .left))
+
+pub is-mark-spec : {M : Type 1} → statement M
+is-mark-spec = tie.close (tie.spec returns returns-2)

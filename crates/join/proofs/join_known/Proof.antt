@@ -1,0 +1,54 @@
+use mathlib.Core.Path.{_≡_, refl, sym, _∙_, ap}
+use Rattle.format.specs.Records.{writeTy}
+use Rattle.format.specs.Outcome.{accepted, lone, deliver}
+use Rattle.model.specs.Types.{ty}
+use Rattle.lent.specs.Delivers.{deliver-refused}
+use Rattle.record.specs.Answers.{loneOf, shapeFor}
+use Rattle.rules.specs.Scalars.{union}
+use Rattle.rules.specs.Types.{joinTypes}
+use Rattle.walk.specs.WholeLaws.{both-refused, first-good, second-good}
+use Rattle.join.specs.ShapesLaws.{by-scalars}
+use borrow.Author.Needs.{needs}
+use Rattle.join.proofs.join_known.Statement.{statement}
+use Rattle.join.proofs.join_known.Tie as tie
+use Rattle.join.proofs.join_known.Reads as reads
+use Rattle.join.proofs.join_known.Lts as lts
+use Rattle.join.proofs.write_union.Reads as write-union-reads
+use Rattle.record.proofs.lone_shape.Reads as lone-shape-reads
+use Rattle.shape.proofs.join.Reads as join-reads
+
+-- src/lib.rt:41:29
+lone-shape-requires : tie.Need-lone-shape-requires
+lone-shape-requires c κs = first-good _ _ (c .before .before .before .pre)
+
+-- src/lib.rt:41:44
+lone-shape-requires-2 : tie.Need-lone-shape-requires-2
+lone-shape-requires-2 c κs = second-good _ _ (c .before .before .before .before .pre)
+
+-- src/lib.rt:41:9
+join-requires : tie.Need-join-requires
+join-requires c κs = search needs
+
+-- src/lib.rt:42:5
+write-union-requires : tie.Need-write-union-requires
+write-union-requires c κs = c .before .before .before .before .before .before .before .pre
+
+-- src/lib.rt:37:1
+same-length : tie.Need-same-length
+same-length c = search needs
+
+-- src/lib.rt:37:1
+returns : tie.Need-returns
+unfolding joinTypes
+returns c = c .before .before .write-union .ensures ∙ ap (λ o. deliver o (c .before .before .before .before .before .before .before .before .before .before .args .result .now)) (sym (by-scalars (lone (c .before .before .before .before .before .before .before .before .before .before .args .a .now)) (lone (c .before .before .before .before .before .before .before .before .before .before .args .b .now)) (c .before .before .before .before .before .before .lone-shape .ensures) (c .before .before .before .before .before .lone-shape2 .ensures) (λ t u. accepted (writeTy (joinTypes t u))) (λ k l. accepted (writeTy (ty (shapeFor (c .before .before .before .before .join .result)) (union k l)))) (λ k l. ap (λ s. accepted (writeTy (ty s (union k l)))) (sym (c .before .before .before .before .join .ensures)))))
+
+pub join-known-spec : {M : Type 1} → statement M
+join-known-spec =
+    tie.close
+    (tie.spec
+    lone-shape-requires
+    lone-shape-requires-2
+    join-requires
+    write-union-requires
+    same-length
+    returns)

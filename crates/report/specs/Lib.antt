@@ -1,0 +1,5 @@
+pub mod Report
+pub mod Laid
+pub mod Left
+pub mod Room
+pub mod Examples

@@ -1,0 +1,31 @@
+-- Room that suffices for a text, by counts that code has at hand.
+use Prim.Native.Nat.{ℕ, _+_, _*_}
+use Rattle.machine.specs.SheetLimits.{maxStack, scratchBytes}
+
+-- a number of 64 bits in decimal
+abbrev pub numberRoom : ℕ
+numberRoom = 20
+
+-- a word of three signs and two numbers with a space between them
+abbrev pub headRoom : ℕ
+headRoom = 3 + numberRoom + 1 + numberRoom
+
+-- a line of a type of so many bytes, behind so many bytes between lines
+abbrev pub lineRoom : ℕ → ℕ → ℕ
+lineRoom between bytes = between + numberRoom + 1 + 2 * bytes
+
+-- all lines of so many types
+abbrev pub linesRoom : ℕ → ℕ → ℕ → ℕ
+linesRoom between types bytes = types * (between + numberRoom + 1) + 2 * bytes
+
+-- the whole text
+abbrev pub textRoom : ℕ → ℕ → ℕ → ℕ
+textRoom between types bytes = headRoom + linesRoom between types bytes
+
+-- what the program prints, a line feed after it
+abbrev pub printRoom : ℕ
+printRoom = textRoom 1 maxStack scratchBytes + 1
+
+-- what a call answers, where up to three bytes stand between two lines
+abbrev pub callRoom : ℕ
+callRoom = textRoom 3 maxStack scratchBytes

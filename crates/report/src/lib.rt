@@ -1,0 +1,6 @@
+// What a sheet check answered, as text.
+mod lines;
+mod parts;
+
+pub use lines::put_left;
+pub use lines::put_refusal;

@@ -2,7 +2,8 @@
  *
  * Link with libvelgrodis.a (rt staticlib velgrodis; x86-64 Linux). The library holds no state, allocates nothing, and calls
  * nothing of the host's but memcpy, memmove and memset. Every call ends, and is proved to answer what is said here for every
- * input that a host can hand in; the bytes of records and sheets are in docs/FORMAT.md.
+ * input that a host can hand in; the bytes of records and sheets are in docs/FORMAT.md. Not proved but measured: a call on types
+ * eight deep took less than 40 kB of stack.
  *
  * What the host guarantees, since no proof can:
  * - A length is true: the pointer before it points to as many elements, initialised, readable, and writable where it is not const.
@@ -264,7 +265,9 @@ enum vg_side {
 };
 
 /* A spec on a type: the type as it then is. vg_validate checks the scalar and then the shape; vg_check_shape the shape alone, and keeps
- * the type's scalar; vg_check_scalar the scalar alone, without side, and keeps the type's shape.
+ * the type's scalar; vg_check_scalar the scalar alone, without side, and keeps the type's shape. For a side the opening sizes of the
+ * spec alone are compared, from the front or from the end, and a type that passes is open afterwards; contents of boxes are validated
+ * without side.
  * Value: bytes written, a type. Refused: 3 at 0 for a side above 2; reading spec; reading ty; then at 0 the first that is met of
  * 9, 10 or 5, contents of boxes first (vg_check_shape: 10; vg_check_scalar: a 10 comes from inside a box); result. */
 vg_answer vg_validate(uint64_t side, const uint8_t *spec, size_t spec_len, const uint8_t *ty, size_t ty_len, uint8_t *result, size_t result_len);

@@ -1,6 +1,6 @@
 //! How long the calls of libvelgrodis.a take, beside the cut Rust on the same bytes.
 //!
-//!     bench [ROUNDS]    so many samples of each side, by turns
+//!     bench [ROUNDS [PART]]    so many samples of each side, by turns; the cases whose names have this part
 //!
 //! The Rust's side reads the bytes into its `Type`s, works its rules on them, writes what is left straight to the result and clears a
 //! scratch of the same length. Validation calls the cut `validate` once: the limits are not measured. Both sides must answer the same.
@@ -166,6 +166,9 @@ fn our_validate(spec: &[u8], ty: &[u8], result: &mut [u8]) -> Answer {
 
 // What is measured.
 
+/// What it takes is taken for the clearing alone.
+const EMPTY: &str = "no step at all";
+
 enum Work {
     Sheets(Vec<Vec<u8>>),
     Read(Vec<u8>),
@@ -267,7 +270,7 @@ fn works() -> Vec<(String, Work)> {
     let deep = |ty: Type| type_bytes(&invent::nested(ty, 7));
     let of = |dim: Dim| Scalar::Num.shaped(DynShape { dims: vec![dim], suffix: None });
     let mut works = vec![
-        ("no step at all".into(), one(Vec::new())),
+        (EMPTY.into(), one(Vec::new())),
         ("the paper's example, 3 steps".into(), one(example())),
     ];
     for steps in [8, 16, 32, 64] {
@@ -324,8 +327,9 @@ fn timed(times: u32, mut work: impl FnMut() -> Answer) -> f64 {
     start.elapsed().as_nanos() as f64 / times as f64
 }
 
-/// A sorted list's value so far along it.
-fn along(mut list: Vec<f64>, part: f64) -> f64 {
+/// The value so far along the list, once sorted.
+fn along(list: &[f64], part: f64) -> f64 {
+    let mut list = list.to_vec();
     list.sort_by(f64::total_cmp);
     list[((list.len() - 1) as f64 * part).round() as usize]
 }
@@ -333,13 +337,15 @@ fn along(mut list: Vec<f64>, part: f64) -> f64 {
 fn main() {
     let rounds = std::env::args()
         .nth(1)
-        .map_or(301, |word| word.parse().unwrap_or_else(|_| fail("bench [ROUNDS]")));
-    let works = works();
+        .map_or(301, |word| word.parse().unwrap_or_else(|_| fail("bench [ROUNDS [PART]]")));
+    let part = std::env::args().nth(2).unwrap_or_default();
+    let named = |name: &str| name == EMPTY || name.contains(&part);
+    let works: Vec<_> = works().into_iter().filter(|(name, _)| named(name)).collect();
     // Drawing sheets has stopped validations on its way; those measured go to their end.
     standins::stop_after(usize::MAX);
     works.iter().for_each(|(name, work)| held(name, work));
     let mut to = buffers(0);
-    let mut empty = None;
+    let empty = Work::Sheets(vec![Vec::new()]);
     println!(
         "{:<30}{:>11}{:>11}{:>8}{:>16}{:>9}{:>12}{:>12}{:>8}",
         "case",
@@ -355,25 +361,25 @@ fn main() {
     for (name, work) in &works {
         let once = timed(3, || ours(work, &mut to)).max(timed(3, || rusts(work, &mut to, true)));
         let times = (200_000.0 / once).clamp(1.0, 20_000.0) as u32;
-        let (mut our, mut rust, mut bare) = (Vec::new(), Vec::new(), Vec::new());
+        let (mut our, mut rust, mut bare, mut clearing) = (vec![], vec![], vec![], vec![]);
         for _ in 0..rounds {
             our.push(timed(times, || ours(work, &mut to)));
             rust.push(timed(times, || rusts(work, &mut to, true)));
             bare.push(timed(times, || rusts(work, &mut to, false)));
+            clearing.push(timed(20, || ours(&empty, &mut to)));
         }
         let ratios: Vec<f64> = our.iter().zip(&rust).map(|(our, rust)| rust / our).collect();
-        let (low, high) = (along(ratios.clone(), 0.1), along(ratios.clone(), 0.9));
-        let least = along(rust.clone(), 0.0) / along(our.clone(), 0.0);
-        let middle = |list: Vec<f64>| along(list, 0.5);
-        let (our, rust, bare) = (middle(our), middle(rust), middle(bare));
-        let clearing = *empty.get_or_insert(our);
-        let calls = match work {
-            Work::Sheets(sheets) => sheets.len() as f64,
-            _ => 0.0,
-        };
-        let rest = our - clearing * calls;
-        print!("{name:<30}{:>11.3}{:>11.3}{:>8.2}", our / 1e3, rust / 1e3, middle(ratios));
+        let (low, high) = (along(&ratios, 0.1), along(&ratios, 0.9));
+        let least = along(&rust, 0.0) / along(&our, 0.0);
+        let [our, rust, bare, clearing] = [our, rust, bare, clearing].map(|list| along(&list, 0.5));
+        print!("{name:<30}{:>11.3}{:>11.3}{:>8.2}", our / 1e3, rust / 1e3, along(&ratios, 0.5));
         print!("{:>16}{least:>9.2}", format!("{low:.2} to {high:.2}"));
-        println!("{:>12.3}{:>12.3}{:>8.2}", rest / 1e3, bare / 1e3, bare / rest);
+        match work {
+            Work::Sheets(sheets) if name != EMPTY => {
+                let rest = our - clearing * sheets.len() as f64;
+                println!("{:>12.3}{:>12.3}{:>8.2}", rest / 1e3, bare / 1e3, bare / rest);
+            }
+            _ => println!(),
+        }
     }
 }

@@ -237,7 +237,8 @@ static void validation(void)
 {
     REFUSED(vg_validate(VG_UNSIDED, T(ONE("02") NUM), T(ONE("03") NUM), result, room), VG_WRONG_SHAPE, 0);
     REFUSED(vg_validate(VG_UNSIDED, T(SCALAR NUM), T(SCALAR CHAR), result, room), VG_WRONG_SCALAR, 0);
-    WROTE(vg_validate(VG_LEFT, T(UNKNOWN_ONE NUM), T(ONE("03") INT), result, room), ONE("03") INT);
+    WROTE(vg_validate(VG_UNSIDED, T(UNKNOWN_ONE NUM), T(ONE("03") INT), result, room), ONE("03") INT);
+    WROTE(vg_validate(VG_LEFT, T(UNKNOWN_ONE NUM), T(ONE("03") INT), result, room), "53480100 0300000000000000" INT);
     REFUSED(vg_validate(3, T(""), T(""), result, room), VG_OUT_OF_RANGE, 0);
     WROTE(vg_check_shape(VG_RIGHT, T(ONE("03") CHAR), T(TWO("02", "03") NUM), result, room), "53480201 0200000000000000 0300000000000000 0300000000000000" NUM);
     REFUSED(vg_check_shape(VG_UNSIDED, T(TWO("02", "03") NUM), T("53480100 0200000000000000" NUM), result, room), VG_WRONG_SHAPE, 0);

@@ -100,13 +100,17 @@ impl<'a> Reader<'a> {
         Ok(DynShape { dims, suffix })
     }
     fn sizes(&mut self, record: usize, count: usize) -> Result<Vec<Dim>, No> {
-        (0..count).map(|_| self.size(record)).collect()
+        let mut sizes = Vec::with_capacity(count);
+        for _ in 0..count {
+            sizes.push(self.size(record)?);
+        }
+        Ok(sizes)
     }
     fn size(&mut self, record: usize) -> Result<Dim, No> {
-        let mut size = [0; 8];
-        for byte in &mut size {
-            *byte = self.byte(record)?;
-        }
+        let Some(&size) = self.bytes[self.at..].first_chunk() else {
+            return no(1, record);
+        };
+        self.at += size.len();
         match u64::from_le_bytes(size) {
             UNKNOWN => Ok(Dim::Dyn),
             size if size > LARGEST as u64 => no(4, record),
@@ -117,7 +121,7 @@ impl<'a> Reader<'a> {
         let record = self.record(SCALAR)?;
         Ok(match self.byte(record)? {
             8 => Scalar::Box(self.boxed(depth)?),
-            kind if (kind as usize) < KINDS.len() => KINDS[kind as usize].clone(),
+            kind if (kind as usize) < KINDS.len() => TABLE[kind as usize].clone(),
             _ => return no(3, record),
         })
     }
@@ -129,7 +133,10 @@ impl<'a> Reader<'a> {
             2 => {
                 let name = self.name(record)?;
                 let count = self.count(record, COPIES)?;
-                let fields = (0..count).map(|_| self.ty(depth + 1)).collect::<Result<_, No>>()?;
+                let mut fields = Vec::with_capacity(count);
+                for _ in 0..count {
+                    fields.push(self.ty(depth + 1)?);
+                }
                 ScalarBox::Def(name, fields)
             }
             _ => return no(3, record),
@@ -139,7 +146,11 @@ impl<'a> Reader<'a> {
         let Some(length) = self.count_or_none(record, NAME)? else {
             return Ok(None);
         };
-        (0..length).map(|_| self.letter(record)).collect::<Result<_, No>>().map(Some)
+        let mut name = String::with_capacity(length);
+        for _ in 0..length {
+            name.push(self.letter(record)?);
+        }
+        Ok(Some(name))
     }
     /// Judged one by one, unlike a mark's bytes or a size's.
     fn letter(&mut self, record: usize) -> Result<char, No> {
@@ -164,9 +175,12 @@ pub const KINDS: [Scalar; 10] = [
     Scalar::Any,
 ];
 
+/// The same once and for all, since a constant is made anew at each use.
+static TABLE: [Scalar; 10] = KINDS;
+
 pub fn kind(scalar: &Scalar) -> u8 {
     let same = |kind: &Scalar| std::mem::discriminant(kind) == std::mem::discriminant(scalar);
-    KINDS.iter().position(same).expect("a kind of the list") as u8
+    TABLE.iter().position(same).expect("a kind of the list") as u8
 }
 
 // The writer knows no limits, so that the generator can write what is refused.

@@ -206,48 +206,39 @@ fn rusts(work: &Work, to: &mut Buffers, clears: bool) -> Answer {
     }
 }
 
-/// Steps in turns that hold the stack between one type and four: put, put, pervade, row, put, join, validate, put ..
-fn turns(steps: usize, first: &Type, second: &Type, spec: &Type) -> Vec<u8> {
+/// A put and then the same steps over and over, so many in all. The stack has one to three types.
+fn turns(steps: usize, first: &Type, with_row: &Type, second: &Type, spec: &Type) -> Vec<u8> {
     let pervade = [&sheet::PERVADE[..], &[0]].concat();
     let turn = [
+        put(with_row),
+        sheet::ROW.into(),
+        pervade.clone(),
         put(second),
-        put(first),
-        pervade,
-        sheet::JOIN.into(),
-        put(first),
         sheet::JOIN.into(),
         validate(spec),
+        put(first),
+        pervade,
     ];
     let mut bytes = put(first);
     bytes.extend((1..steps).flat_map(|step| turn[(step - 1) % turn.len()].clone()));
     bytes
 }
 
-/// The same with a row of every second put.
+/// [3], [2 3] and [?] Num.
 fn small_turns(steps: usize) -> Vec<u8> {
     let of = |dims: Vec<Dim>| Scalar::Num.shaped(DynShape { dims, suffix: None });
-    let (first, second) = (of(vec![Dim::Static(3)]), of(vec![Dim::Dyn]));
-    let pair = of(vec![Dim::Static(2), Dim::Static(3)]);
-    let pervade = [&sheet::PERVADE[..], &[0]].concat();
-    let turn = [
-        put(&pair),
-        sheet::ROW.into(),
-        pervade,
-        put(&second),
-        sheet::JOIN.into(),
-        validate(&second),
-        put(&first),
-        [&sheet::PERVADE[..], &[0]].concat(),
-    ];
-    let mut bytes = put(&first);
-    bytes.extend((1..steps).flat_map(|step| turn[(step - 1) % turn.len()].clone()));
-    bytes
+    let (three, unknown) = (of(vec![Dim::Static(3)]), of(vec![Dim::Dyn]));
+    turns(steps, &three, &of(vec![Dim::Static(2), Dim::Static(3)]), &unknown, &unknown)
 }
 
-/// The largest type with closed shapes of eight sizes inside and a shape that pervades with itself.
+/// The largest type, and a spec that has as many fields with the same names, but asks for no shapes: an open shape passes no other.
 fn large_turns(steps: usize) -> Vec<u8> {
     let large = largest();
-    turns(steps, &large, &large, &Scalar::Any.shaped(DynShape::ANY))
+    let mut spec = Type { shape: DynShape::ANY, ..large.clone() };
+    if let Scalar::Box(ScalarBox::Def(_, fields)) = &mut spec.scalar {
+        fields.iter_mut().for_each(|field| field.shape = DynShape::ANY);
+    }
+    turns(steps, &large, &large, &large, &spec)
 }
 
 fn example() -> Vec<u8> {

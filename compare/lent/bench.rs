@@ -338,13 +338,13 @@ fn main() {
     let mut to = buffers(0);
     let empty = Work::Sheets(vec![Vec::new()]);
     println!(
-        "{:<30}{:>11}{:>11}{:>8}{:>16}{:>9}{:>12}{:>12}{:>8}",
+        "{:<30}{:>11}{:>11}{:>8}{:>9}{:>16}{:>12}{:>12}{:>8}",
         "case",
         "ours, us",
         "Rust, us",
         "ratio",
+        "median",
         "10% to 90%",
-        "of min",
         "ours bare",
         "Rust bare",
         "ratio"
@@ -360,11 +360,10 @@ fn main() {
             clearing.push(timed(20, || ours(&empty, &mut to)));
         }
         let ratios: Vec<f64> = our.iter().zip(&rust).map(|(our, rust)| rust / our).collect();
-        let (low, high) = (along(&ratios, 0.1), along(&ratios, 0.9));
-        let least = along(&rust, 0.0) / along(&our, 0.0);
-        let [our, rust, bare, clearing] = [our, rust, bare, clearing].map(|list| along(&list, 0.5));
-        print!("{name:<30}{:>11.3}{:>11.3}{:>8.2}", our / 1e3, rust / 1e3, along(&ratios, 0.5));
-        print!("{:>16}{least:>9.2}", format!("{low:.2} to {high:.2}"));
+        let [low, median, high] = [0.1, 0.5, 0.9].map(|part| along(&ratios, part));
+        let [our, rust, bare, clearing] = [our, rust, bare, clearing].map(|list| along(&list, 0.0));
+        print!("{name:<30}{:>11.3}{:>11.3}{:>8.2}", our / 1e3, rust / 1e3, rust / our);
+        print!("{median:>9.2}{:>16}", format!("{low:.2} to {high:.2}"));
         match work {
             Work::Sheets(sheets) if name != EMPTY => {
                 let rest = our - clearing * sheets.len() as f64;

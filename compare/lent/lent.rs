@@ -311,12 +311,11 @@ impl Both {
 
     /// The call with buffers of several lengths.
     fn sheet(&mut self, r: &mut Random, sheet: &[u8], turned: fn(&str) -> Expected) {
-        let line = format!("sheet {}", hex_word(sheet));
-        let accepted = if line.len() > requests::LINE || sheet.len() > sheet::INPUT {
+        let line = format!("sheet_call {SCRATCH} {} {}", requests::LENT, hex_word(sheet));
+        if line.len() > requests::LINE {
             return;
-        } else {
-            turned(&requests::answer(line.as_bytes()))
-        };
+        }
+        let accepted = turned(&requests::answer(line.as_bytes()));
         let needed = accepted.bytes.len();
         let more = 1 + r.below(300);
         let under = r.below(SCRATCH);

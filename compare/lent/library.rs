@@ -106,5 +106,5 @@ declared! {
     ("validate", vg_validate, Led(2), expected::bytes, (u64, In, usize, In, usize, Out, usize)),
     ("check_shape", vg_check_shape, Led(2), expected::bytes, (u64, In, usize, In, usize, Out, usize)),
     ("check_scalar", vg_check_scalar, TwoTo, expected::bytes, (In, usize, In, usize, Out, usize)),
-    ("sheet", vg_check_sheet, Sheet, expected::types_left, (In, usize, Out, usize, Out, usize)),
+    ("sheet_call", vg_check_sheet, Sheet, expected::types_left, (In, usize, Out, usize, Out, usize)),
 }

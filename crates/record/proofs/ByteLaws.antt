@@ -77,7 +77,7 @@ module _ (s : List ℕ) where
       let n : number s k p (suc (at + i)) ≡ got (low at k (suc i)) (at + (suc i + k)) = rw add-suc at (number-there p at k (suc i) (omega arith)) in
       rw (byte-there p (at + i) (omega arith), n) (ap (got (low at k (suc i) * 256 + getD s (at + i) 0)) (omega arith))
 
-  number-ended : (k p at : ℕ) → length s < at + suc k → number s (suc k) p at ≡ stopped ended p
+  pub number-ended : (k p at : ℕ) → length s < at + suc k → number s (suc k) p at ≡ stopped ended p
   unfolding number
   number-ended zero p at h = rw (byte-ended p at (omega arith))
   number-ended (suc k) p at h = go (ltb at (length s)) refl (number-ended k p (suc at) (omega arith))
@@ -87,7 +87,7 @@ module _ (s : List ℕ) where
       go false e rest = rw (byte-ended p at (ltb-false at (length s) e))
 
   module _ (p at v : ℕ) (e : v ≡ eightBytes s at) (h : at + 8 ≤ length s) where
-    number-eight : number s 8 p at ≡ got v (at + 8)
+    pub number-eight : number s 8 p at ≡ got v (at + 8)
     unfolding low
     number-eight = ap (number s 8 p) (sym (add-zero at)) ∙ number-there p at 8 0 h ∙ ap (λ n. got n (at + 8)) (rw (e, add-zero) (omega arith))
 

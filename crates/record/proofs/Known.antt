@@ -3,7 +3,7 @@ use Prim.Native.Nat.{ℕ}
 use native.Mathlib.Omega.{arith}
 use mathlib.Core.Path.{_≡_, refl, sym, _∙_, ap}
 use Rattle.format.specs.Reader.{Read, got, stopped, Reader, andThen, mapRead}
-use Rattle.record.specs.Answers.{answerOf, beside, nothing}
+use Rattle.record.specs.Answers.{answerOf}
 use Rattle.record.specs.declared.Answer.{Answer}
 use Rattle.record.specs.declared.Answer.the-variants.{Got, Refused}
 
@@ -14,17 +14,6 @@ known e h = sym e ∙ ap answerOf h
 -- the reader stopped with that refusal
 pub told : {r : Answer} {m : Read ℕ} {k p : ℕ} → answerOf r ≡ m → r ≡ Refused k p → m ≡ stopped k p
 told e h = sym e ∙ ap answerOf h
-
--- a refusal has no value beside it
-pub beside-told : {A : Type 0} (a : A) {r : Answer} {k p : ℕ} → r ≡ Refused k p → beside r a ≡ stopped k p
-beside-told a h = ap (λ r. beside r a) h
-
-pub beside-known : {A : Type 0} (a : A) {r : Answer} {v n : ℕ} → r ≡ Got v n → beside r a ≡ got a n
-beside-known a h = ap (λ r. beside r a) h
-
-pub beside-map : {A B : Type 0} (f : A → B) (r : Answer) (a : A) → mapRead f (beside r a) ≡ beside r (f a)
-beside-map f (Got v n) a = refl
-beside-map f (Refused k p) a = refl
 
 -- the same where the answer is made of what was read
 pub stopped-map : {A : Type 0} (f : A → ℕ) (m : Read A) {k p : ℕ} → mapRead f m ≡ stopped k p → m ≡ stopped k p

@@ -1,5 +1,6 @@
 pub mod Known
 mod ByteLaws
 mod ShapeLaws
+mod PlaceLaws
 mod TypeLaws
 pub mod LoneLaws

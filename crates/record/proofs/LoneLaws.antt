@@ -12,9 +12,8 @@ use Rattle.format.specs.ReaderLaws.{Bytes}
 use Rattle.format.specs.Records.{writeShape, writeScalar, writeTy, readShape, readType}
 use Rattle.format.specs.Outcome.{Outcome, accepted, refused, mapped, bound, both, lone, scalarRecord}
 use Rattle.format.specs.ReadWrite.{lone-parts, lone-write}
-use Rattle.record.specs.Answers.{shapeFor, beside, nothing, nothings}
-use Rattle.record.specs.declared.Answer.{Answer}
-use Rattle.record.specs.declared.Answer.the-variants.{Got, Refused}
+use Rattle.record.specs.Answers.{shapeFor, nothing, nothings}
+use Rattle.record.specs.Places.{HasShape}
 use Rattle.record.specs.declared.DynShape.{DynShape}
 use Rattle.record.proofs.Known.{stopped-map, got-map}
 
@@ -59,33 +58,25 @@ module _ (s : List ℕ) (f : Ty → ℕ) where
 
 -- ---- its parts
 
-beside-got : {A : Type 0} (r : Answer) (a : A) {b : A} {n : ℕ} → beside r a ≡ got b n → a ≡ b
-beside-got (Got v m) a e = cc
-beside-got (Refused k p) a e = let z : _≡_ {A = ℕ} 0 1 = cc in absurd (omega arith)
+module _ (s : List ℕ) (small : Bytes s) (accepts : mapped nothing (lone s) ≡ accepted 0) where
+  pub lone-shaped : HasShape s 0
+  lone-shaped = passed-accepted (lone s) accepts λ t e. go t e
+    where
+      go : (t : Ty) → lone s ≡ accepted t → HasShape s 0
+      go (ty o k) e = record { shape = o; next = length (writeShape o); read = lone-parts s small o k e .0 }
 
-module _ (s : List ℕ) (small : Bytes s) (accepts : mapped nothing (lone s) ≡ accepted 0) (r : Answer) (d : DynShape) (read : beside r (shapeFor d) ≡ readShape s 0) where
-  pub shape-part : mapped shapeOf (lone s) ≡ accepted (shapeFor d)
-  shape-part = passed-accepted (lone s) accepts λ t e. go t e
+  pub shape-part : (d : DynShape) → ((o : Shape) (n : ℕ) → readShape s 0 ≡ got o n → shapeFor d ≡ o) → mapped shapeOf (lone s) ≡ accepted (shapeFor d)
+  shape-part d is = passed-accepted (lone s) accepts λ t e. go t e
     where
       go : (t : Ty) → lone s ≡ accepted t → mapped shapeOf (lone s) ≡ accepted (shapeFor d)
-      go (ty o k) e = rw e (ap accepted (sym (beside-got r (shapeFor d) (read ∙ lone-parts s small o k e .0))))
+      go (ty o k) e = rw e (ap accepted (sym (is o (length (writeShape o)) (lone-parts s small o k e .0))))
 
-  pub scalar-part : {v n : ℕ} → r ≡ Got v n → (mapped scalarRecord (lone s) ≡ accepted (drop n s)) × (n ≤ length s)
+  pub scalar-part : (n : ℕ) → ((o : Shape) (m : ℕ) → readShape s 0 ≡ got o m → n ≡ m) → (mapped scalarRecord (lone s) ≡ accepted (drop n s)) × (n ≤ length s)
   unfolding writeTy
-  scalar-part {v} {n} known = passed-accepted (lone s) accepts λ t e. go t e
+  scalar-part n is = passed-accepted (lone s) accepts λ t e. go t e
     where
       go : (t : Ty) → lone s ≡ accepted t → (mapped scalarRecord (lone s) ≡ accepted (drop n s)) × (n ≤ length s)
       go (ty o k) e =
           let (shaped, rest) = lone-parts s small o k e in
-          let there : got (shapeFor d) n ≡ got o (length (writeShape o)) = sym (ap (λ x. beside x (shapeFor d)) known) ∙ read ∙ shaped in
-          let next : n ≡ length (writeShape o) = cc in
+          let next : n ≡ length (writeShape o) = is o (length (writeShape o)) shaped in
           (rw (e, next) (ap accepted (sym rest)), rw next (omega (arith, length-append (writeShape o) (writeScalar k), ap length (lone-write s small (ty o k) e .0))))
-
-  pub scalar-there : {k p : ℕ} → r ≡ Refused k p → ⊥
-  scalar-there {k} {p} told = passed-accepted (lone s) accepts λ t e. go t e
-    where
-      go : (t : Ty) → lone s ≡ accepted t → ⊥
-      go (ty o j) e =
-          let there : stopped k p ≡ got o (length (writeShape o)) = sym (ap (λ x. beside x (shapeFor d)) told) ∙ read ∙ lone-parts s small o j e .0 in
-          let z : _≡_ {A = ℕ} 0 1 = cc in
-          omega arith

@@ -73,15 +73,15 @@ module _ (s : List ℕ) where
             let y : suc n - 1 ≡ n = omega arith in
             rw (x, y)
 
-    pub type-unshaped : {k q : ℕ} → readShape s at ≡ stopped k q → mapRead (λ t. n - types t) (readTy s d n at) ≡ stopped k q
-    type-unshaped e = rw (type-from, e)
+    pub type-unshaped : {k q : ℕ} → mapRead nothing (readShape s at) ≡ stopped k q → mapRead (λ t. n - types t) (readTy s d n at) ≡ stopped k q
+    type-unshaped e = rw (type-from, stopped-map nothing (readShape s at) e)
 
-    pub type-shaped : {t : Shape} {m : ℕ} → readShape s at ≡ got t m → mapRead (λ t. n - types t) (readTy s d n at) ≡ mapRead (λ k. (n - 1) - inside k) (scalarFrom s (readTy s (d - 1)) (n - 1) m m)
-    type-shaped {t} {m} e = rw (type-from, e) (go (scalarFrom s (readTy s (d - 1)) (n - 1) m m))
+    pub type-shaped : {u m : ℕ} → mapRead nothing (readShape s at) ≡ got u m → mapRead (λ t. n - types t) (readTy s d n at) ≡ mapRead (λ k. (n - 1) - inside k) (scalarFrom s (readTy s (d - 1)) (n - 1) m m)
+    type-shaped {u} {m} e = got-map nothing (readShape s at) e λ t f _. rw (type-from, f) (go t (scalarFrom s (readTy s (d - 1)) (n - 1) m m))
       where
-        go : (r : Read Scalar) → mapRead (λ t. n - types t) (andThen r (λ k. give (ty t k))) ≡ mapRead (λ k. (n - 1) - inside k) r
-        go (got k m′) = ap (λ v. got v m′) (omega arith)
-        go (stopped j q) = refl
+        go : (t : Shape) (r : Read Scalar) → mapRead (λ t. n - types t) (andThen r (λ k. give (ty t k))) ≡ mapRead (λ k. (n - 1) - inside k) r
+        go t (got k m′) = ap (λ v. got v m′) (omega arith)
+        go t (stopped j q) = refl
 
   -- ---- scalars; `go n` reads a type of at most n types
 

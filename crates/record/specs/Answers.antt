@@ -14,8 +14,6 @@ use Rattle.record.specs.declared.Lone.{Lone}
 use Rattle.record.specs.declared.Lone.the-variants.{Accepted, Refused as Refuses}
 use Rattle.record.specs.declared.Dims.{Dims}
 use Rattle.record.specs.declared.DynShape.{DynShape}
-use Rattle.record.specs.declared.DimsRead.{DimsRead}
-use Rattle.record.specs.declared.ShapeRead.{ShapeRead}
 
 abbrev pub answerOf : Answer → Read ℕ
 answerOf (Got v n) = got v n
@@ -42,17 +40,6 @@ closingFor s = cond (s .closed) none (some (dimsOf (s .suffix)))
 
 abbrev pub shapeFor : DynShape → Shape
 shapeFor s = shape (dimsOf (s .dims)) (closingFor s)
-
--- a value that stands beside its answer
-abbrev pub beside : {A : Type 0} → Answer → A → Read A
-beside (Got v n) a = got a n
-beside (Refused k p) a = stopped k p
-
-abbrev pub dimsReadOf : DimsRead → Read (List Dim)
-dimsReadOf r = beside (r .answer) (dimsOf (r .dims))
-
-abbrev pub shapeReadOf : ShapeRead → Read Shape
-shapeReadOf r = beside (r .answer) (shapeFor (r .shape))
 
 abbrev pub loneOf : Lone → Outcome ℕ
 loneOf Accepted = accepted 0

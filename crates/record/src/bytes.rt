@@ -12,7 +12,7 @@ ghost use mathlib.Core.Path.{_≡_};
 ghost use Prim.Native.Nat.{_+_, _≤_, _<_};
 ghost use lib.ListN.{length};
 ghost use Rattle.format.specs.Reader.{mapRead, byte, judged};
-ghost use Rattle.format.specs.Records.{mark, dimNumber, isCount, isOptional, isPrinting, readMark, readDim, readName};
+ghost use Rattle.format.specs.Records.{mark, dimNumber, listCount, isCount, isOptional, isPrinting, readMark, readDim, readName};
 ghost use Rattle.record.specs.Answers.{answerOf, nothing, eightBytes};
 
 fn wide(x: u8) -> u64
@@ -125,7 +125,7 @@ pub fn read_mark(s: &[u8], place: usize, at: usize, first: u64, second: u64) -> 
 }
 
 // Eight bytes, low byte first.
-fn number_at(s: &[u8], at: usize) -> u64
+pub fn number_at(s: &[u8], at: usize) -> u64
     requires { ⌜ at + 8 ≤ length (now s) ⌝ }
     ensures { λ r. ⌜ r ≡ eightBytes (now (s .entry)) at ⌝ }
 {
@@ -138,6 +138,16 @@ fn number_at(s: &[u8], at: usize) -> u64
     let g = wide(s[at + 6]);
     let h = wide(s[at + 7]);
     a + 256 * (b + 256 * (c + 256 * (d + 256 * (e + 256 * (f + 256 * (g + 256 * h))))))
+}
+
+// How many a list holds, by its count, which may be absent.
+pub fn list_count(n: u64) -> u64
+    ensures { λ r. ⌜ r ≡ listCount n ⌝ }
+{
+    if n == ABSENT {
+        return 0;
+    }
+    n
 }
 
 // A size is judged once all its bytes are there.

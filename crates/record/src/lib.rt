@@ -1,13 +1,15 @@
 // Reading records from any bytes. Each function reads what one definition of `format` reads, in its order, and answers
 // what was read with the place after it, or the refusal.
 mod bytes;
-mod shape;
+mod places;
+mod shapes;
 mod types;
 mod whole;
 
 use limits::MAX_SIZES;
-pub use shape::no_dims;
-pub use shape::read_shape;
+pub use places::no_dims;
+pub use places::scalar_known;
+pub use places::shape_known;
 pub use types::read_type;
 pub use whole::lone_scalar;
 pub use whole::lone_shape;
@@ -31,17 +33,6 @@ pub struct DynShape {
     pub dims: Dims,
     pub suffix: Dims,
     pub closed: bool,
-}
-
-// What was read where that holds an array, which stands beside the answer.
-pub struct DimsRead {
-    pub answer: Answer,
-    pub dims: Dims,
-}
-
-pub struct ShapeRead {
-    pub answer: Answer,
-    pub shape: DynShape,
 }
 
 // A lone type, or its refusal.

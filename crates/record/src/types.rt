@@ -1,13 +1,13 @@
 // Types: a shape's record and a scalar's, whose box may hold types again, with a falling depth. In each function `left` is
 // how many types may still stand here, and the value answered is how many may still follow.
 use crate::Answer;
+use crate::bytes::list_count;
 use crate::bytes::read_byte;
 use crate::bytes::read_count;
 use crate::bytes::read_mark;
 use crate::bytes::read_name;
 use crate::bytes::read_optional;
-use crate::shape::read_shape;
-use limits::ABSENT;
+use crate::shapes::read_shape;
 use limits::ANY;
 use limits::BOX;
 use limits::BOX_ALL;
@@ -21,7 +21,7 @@ ghost use mathlib.Core.Path.{_≡_};
 ghost use Prim.Native.Nat.{_-_};
 ghost use Rattle.model.specs.Types.{types, inside, among};
 ghost use Rattle.format.specs.Reader.{mapRead};
-ghost use Rattle.format.specs.Records.{listCount, readFields, defFrom, boxFrom, scalarFrom, readTy};
+ghost use Rattle.format.specs.Records.{readFields, defFrom, boxFrom, scalarFrom, readTy};
 ghost use Rattle.record.specs.Answers.{answerOf};
 
 // A type at most `depth` deep. One more of either is refused before its bytes are looked at.
@@ -41,9 +41,8 @@ pub fn read_type(s: &[u8], at: usize, depth: u64, left: u64) -> Answer
         };
     }
     let shape = read_shape(s, at);
-    let answer = shape.answer;
-    let Answer::Got { value: _, next } = answer else {
-        return answer;
+    let Answer::Got { value: _, next } = shape else {
+        return shape;
     };
     read_scalar(s, next, depth - 1, left - 1)
 }
@@ -110,15 +109,6 @@ fn read_box(s: &[u8], at: usize, depth: u64, left: u64) -> Answer
         number: OUT_OF_RANGE,
         place: at,
     }
-}
-
-fn list_count(n: u64) -> u64
-    ensures { λ r. ⌜ r ≡ listCount n ⌝ }
-{
-    if n == ABSENT {
-        return 0;
-    }
-    n
 }
 
 // The rest of a Def, whose box begins at `place`: its name and its fields.

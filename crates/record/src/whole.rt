@@ -2,7 +2,8 @@
 use crate::Answer;
 use crate::DynShape;
 use crate::Lone;
-use crate::shape::read_shape;
+use crate::places::scalar_known;
+use crate::places::shape_known;
 use crate::types::read_type;
 use limits::MAX_DEPTH;
 use limits::MAX_TYPES;
@@ -52,8 +53,7 @@ pub fn lone_shape(s: &[u8]) -> DynShape
     requires { ⌜ mapped nothing (lone (now s)) ≡ accepted 0 ⌝ }
     ensures { λ r. ⌜ mapped shapeOf (lone (now (s .entry))) ≡ accepted (shapeFor r) ⌝ }
 {
-    let read = read_shape(s, 0);
-    read.shape
+    shape_known(s, 0)
 }
 
 // Where the scalar of a lone type begins; it reaches to the end.
@@ -61,13 +61,5 @@ pub fn lone_scalar(s: &[u8]) -> usize
     requires { ⌜ mapped nothing (lone (now s)) ≡ accepted 0 ⌝ }
     ensures { λ r. ⌜ (mapped scalarRecord (lone (now (s .entry))) ≡ accepted (drop r (now (s .entry)))) × (r ≤ length (now (s .entry))) ⌝ }
 {
-    let read = read_shape(s, 0);
-    let answer = read.answer;
-    match answer {
-        Answer::Got { value: _, next } => next,
-        Answer::Refused {
-            number: _,
-            place: _,
-        } => 0,
-    }
+    scalar_known(s, 0)
 }

@@ -16,9 +16,8 @@ use Rattle.format.specs.WriteRead.{reads-shape}
 use Rattle.format.specs.Views.{Stands, stands-first, stands-second, stands-byte, stands-within, stands-part}
 use Rattle.rules.specs.Order.{codeOf}
 use Rattle.rules.specs.Views.{formOf, scalar-least, kind-within, kind-byte, form-within, form-byte, is-box-all, is-box-def, is-box-def-else}
-use Rattle.record.specs.Answers.{shapeFor, beside}
-use Rattle.record.specs.declared.Answer.{Answer}
-use Rattle.record.specs.declared.Answer.the-variants.{Got, Refused}
+use Rattle.record.specs.Answers.{shapeFor}
+use Rattle.record.specs.Places.{HasShape}
 use Rattle.record.specs.declared.DynShape.{DynShape}
 use Rattle.walk.specs.At.{isAll, ScalarAt, TypeAt, NameAt, DefAt, CountedAt, FieldsAt, HasScalar, HasType, HasName, HasDef, HasFields}
 
@@ -178,12 +177,15 @@ module _ (s : List ℕ) (at : ℕ) {x : ℕ} (kind : x ≡ getD s (at + 2) 0) (d
 
 -- ---- the shape of a type
 
-beside-got : {A : Type 0} (r : Answer) (a : A) {b : A} {n : ℕ} → beside r a ≡ got b n → a ≡ b
-beside-got (Got v m) a e = cc
-beside-got (Refused k p) a e = let z : _≡_ {A = ℕ} 0 1 = cc in absurd (omega arith)
+module _ (s : List ℕ) (at d : ℕ) where
+  pub type-shaped : HasType s at d → HasShape s at
+  type-shaped h = go (h .type) (h .there)
+    where
+      go : (t : Ty) → TypeAt s at d t → HasShape s at
+      go (ty p k) h = record { shape = p; next = at + length (writeShape p); read = type-shape s at d h }
 
-pub shape-is : (s : List ℕ) (at : ℕ) (r : Answer) (o : DynShape) → beside r (shapeFor o) ≡ readShape s at → (d : ℕ) (t : Ty) → TypeAt s at d t → shapeFor o ≡ shapeOf t
-shape-is s at r o e d (ty p k) h = beside-got r (shapeFor o) (e ∙ type-shape s at d h)
+  pub shape-is : (o : DynShape) → ((p : Shape) (n : ℕ) → readShape s at ≡ got p n → shapeFor o ≡ p) → (t : Ty) → TypeAt s at d t → shapeFor o ≡ shapeOf t
+  shape-is o is (ty p k) h = is p (at + length (writeShape p)) (type-shape s at d h)
 
 -- ---- the place after a name
 

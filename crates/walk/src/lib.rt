@@ -3,7 +3,7 @@ use limits::ABSENT;
 use limits::BOX;
 use limits::BOX_ALL;
 use record::DynShape;
-use record::read_shape;
+use record::shape_known;
 ghost use mathlib.Core.Path.{_≡_};
 ghost use mathlib.Core.List.{List};
 ghost use mathlib.Core.Option.{Option};
@@ -12,7 +12,7 @@ ghost use lib.ListN.{length, getD};
 ghost use Rattle.model.specs.Types.{Scalar, Ty, shapeOf};
 ghost use Rattle.format.specs.Records.{listOf};
 ghost use Rattle.record.specs.Answers.{shapeFor};
-ghost use Rattle.walk.specs.At.{ScalarAt, TypeAt, NameAt, HasScalar, HasName, isAll};
+ghost use Rattle.walk.specs.At.{ScalarAt, TypeAt, NameAt, HasScalar, HasType, HasName, isAll};
 
 // The code of the kind of a scalar's record.
 pub fn kind_at(s: &[u8], at: usize) -> u64
@@ -69,8 +69,8 @@ pub fn name_end(s: &[u8], at: usize) -> usize
 
 // The shape of a type.
 pub fn shape_at(s: &[u8], at: usize) -> DynShape
+    requires { ⌜ ((d : ℕ) × HasType (now s) at d) ⌝ }
     ensures { λ r. ⌜ ((d : ℕ) (t : Ty) → TypeAt (now (s .entry)) at d t → shapeFor r ≡ shapeOf t) ⌝ }
 {
-    let read = read_shape(s, at);
-    read.shape
+    shape_known(s, at)
 }

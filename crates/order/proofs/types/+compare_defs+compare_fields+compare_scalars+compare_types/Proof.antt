@@ -625,7 +625,7 @@ compare-types-shape-at-requires : (t : ℕ) → compare-types-lts.Need-shape-at-
   cmp-shape-reads.Asked,
   cmp-shape-reads.Learnt,
 ) (compare-types-at t) compare-types.Post
-compare-types-shape-at-requires t c κs = search needs
+compare-types-shape-at-requires t c κs = (_, c .before .before .pre .1 .0)
 
 compare-types-shape-at-requires-2 : (t : ℕ) → compare-types-lts.Need-shape-at-requires-2 (
   shape-at-reads.Asked,
@@ -637,7 +637,7 @@ compare-types-shape-at-requires-2 : (t : ℕ) → compare-types-lts.Need-shape-a
   cmp-shape-reads.Asked,
   cmp-shape-reads.Learnt,
 ) (compare-types-at t) compare-types.Post
-compare-types-shape-at-requires-2 t c κs = search needs
+compare-types-shape-at-requires-2 t c κs = (_, c .before .before .before .pre .1 .1)
 
 compare-types-shape-length-requires : (t : ℕ) → compare-types-lts.Need-shape-length-requires (
   shape-at-reads.Asked,

@@ -5,7 +5,7 @@ use Rattle.model.specs.Types.{among}
 use Rattle.format.specs.Reader.{mapRead}
 use Rattle.format.specs.Records.{readFields, readTy}
 use Rattle.record.specs.Answers.{shapeFor}
-use Rattle.record.proofs.Known.{known, told, beside-told, beside-known}
+use Rattle.record.proofs.Known.{known, told}
 use Rattle.record.proofs.TypeLaws.{type-deep, type-many, type-unshaped, type-shaped, scalar-unmarked, scalar-ended, scalar-boxed, scalar-kind, scalar-unknown, box-unmarked, box-ended, box-any, box-all, box-def, box-unformed, def-unnamed, def-misnamed, def-uncounted, def-counted, fields-end, fields-stop, fields-more}
 use Rattle.record.specs.Answers.{answerOf}
 use Prim.Native.Nat.{ℕ, _<_, _+_, _-_, _*_}
@@ -31,8 +31,8 @@ use Rattle.record.proofs.bytes.read_count.Reads as read-count-reads
 use Rattle.record.proofs.bytes.read_mark.Reads as read-mark-reads
 use Rattle.record.proofs.bytes.read_name.Reads as read-name-reads
 use Rattle.record.proofs.bytes.read_optional.Reads as read-optional-reads
-use Rattle.record.proofs.shape.read_shape.Reads as read-shape-reads
-use Rattle.record.proofs.types.list_count.Reads as list-count-reads
+use Rattle.record.proofs.shapes.read_shape.Reads as read-shape-reads
+use Rattle.record.proofs.bytes.list_count.Reads as list-count-reads
 use Rattle.record.proofs.types.+read_box+read_def+read_fields+read_scalar+read_type.{
   statement,
 }
@@ -682,13 +682,13 @@ read-type-read-shape-requires : (t : ℕ) → read-type-lts.Need-read-shape-requ
 ) (read-type-at t) read-type.Post
 read-type-read-shape-requires t c κs = search needs
 
-read-type-enum-known-answer : (t : ℕ) → read-type-lts.Need-enum-known-answer (
+read-type-enum-known-shape : (t : ℕ) → read-type-lts.Need-enum-known-shape (
   read-shape-reads.Asked,
   read-shape-reads.Learnt,
   read-scalar-below t,
   read-scalar.Post,
 ) (read-type-at t) read-type.Post
-read-type-enum-known-answer t c = search needs
+read-type-enum-known-shape t c = search needs
 
 read-type-enum-told : (t : ℕ) → read-type-lts.Need-enum-told (
   read-shape-reads.Asked,
@@ -704,7 +704,7 @@ read-type-returns-3 : (t : ℕ) → read-type-lts.Need-returns-3 (
   read-scalar-below t,
   read-scalar.Post,
 ) (read-type-at t) read-type.Post
-read-type-returns-3 t c = ap answerOf (c .enum-told .given .1) ∙ sym (type-unshaped _ _ _ _ (c .before .before .before .before .if1 .left) (c .before .before .before .if2 .left) (sym (c .before .before .read-shape .ensures) ∙ beside-told (shapeFor (c .before .before .read-shape .result .shape)) (c .enum-told .given .1)))
+read-type-returns-3 t c = ap answerOf (c .enum-told .given .1) ∙ sym (type-unshaped _ _ _ _ (c .before .before .before .before .if1 .left) (c .before .before .before .if2 .left) (told (c .before .before .read-shape .ensures) (c .enum-told .given .1)))
 
 read-type-sub-read-scalar : (t : ℕ) → read-type-lts.Need-sub-read-scalar (
   read-shape-reads.Asked,
@@ -736,7 +736,7 @@ read-type-returns-4 : (t : ℕ) → read-type-lts.Need-returns-4 (
   read-scalar-below t,
   read-scalar.Post,
 ) (read-type-at t) read-type.Post
-read-type-returns-4 t c = c .read-scalar .ensures ∙ sym (type-shaped _ _ _ _ (c .before .before .before .before .before .before .if1 .left) (c .before .before .before .before .before .if2 .left) (sym (c .before .before .before .before .read-shape .ensures) ∙ beside-known (shapeFor (c .before .before .before .before .read-shape .result .shape)) (c .before .before .answer .given .1)))
+read-type-returns-4 t c = c .read-scalar .ensures ∙ sym (type-shaped _ _ _ _ (c .before .before .before .before .before .before .if1 .left) (c .before .before .before .before .before .if2 .left) (known (c .before .before .before .before .read-shape .ensures) (c .before .before .shape .given .1)))
 
 pub +read-box+read-def+read-fields+read-scalar+read-type-spec : {M : Type 1} → statement M
 +read-box+read-def+read-fields+read-scalar+read-type-spec =
@@ -839,7 +839,7 @@ pub +read-box+read-def+read-fields+read-scalar+read-type-spec : {M : Type 1} →
     (read-type-returns t)
     (read-type-returns-2 t)
     (read-type-read-shape-requires t)
-    (read-type-enum-known-answer t)
+    (read-type-enum-known-shape t)
     (read-type-enum-told t)
     (read-type-returns-3 t)
     (read-type-sub-read-scalar t)

@@ -196,7 +196,7 @@ compatible-contents-shape-at-requires : (t : ℕ) → compatible-contents-lts.Ne
   compatible-with-reads.Asked,
   compatible-with-reads.Learnt,
 ) (compatible-contents-at t) compatible-contents.Post
-compatible-contents-shape-at-requires t c κs = search needs
+compatible-contents-shape-at-requires t c κs = (_, c .before .before .pre .1 .0)
 
 compatible-contents-shape-at-requires-2 :
     (t : ℕ) → compatible-contents-lts.Need-shape-at-requires-2 (
@@ -209,7 +209,7 @@ compatible-contents-shape-at-requires-2 :
       compatible-with-reads.Asked,
       compatible-with-reads.Learnt,
     ) (compatible-contents-at t) compatible-contents.Post
-compatible-contents-shape-at-requires-2 t c κs = search needs
+compatible-contents-shape-at-requires-2 t c κs = (_, c .before .before .before .pre .1 .1)
 
 compatible-contents-shape-length-requires :
     (t : ℕ) → compatible-contents-lts.Need-shape-length-requires (

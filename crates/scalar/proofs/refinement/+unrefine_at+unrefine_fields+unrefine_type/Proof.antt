@@ -499,7 +499,7 @@ unrefine-type-shape-at-requires : (t : ℕ) → unrefine-type-lts.Need-shape-at-
   unrefine-at-below t,
   unrefine-at.Post,
 ) (unrefine-type-at t) unrefine-type.Post
-unrefine-type-shape-at-requires t c κs = search needs
+unrefine-type-shape-at-requires t c κs = (_, c .before .before .pre .1)
 
 unrefine-type-shape-length-requires : (t : ℕ) → unrefine-type-lts.Need-shape-length-requires (
   shape-at-reads.Asked,

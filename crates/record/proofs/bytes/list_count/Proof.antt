@@ -1,9 +1,9 @@
 use borrow.Author.Tests.{eq-eqb, ne-eqb}
 use Rattle.format.specs.Records.{listCount}
-use Rattle.record.proofs.types.list_count.Statement.{statement}
-use Rattle.record.proofs.types.list_count.Tie as tie
-use Rattle.record.proofs.types.list_count.Reads as reads
-use Rattle.record.proofs.types.list_count.Lts as lts
+use Rattle.record.proofs.bytes.list_count.Statement.{statement}
+use Rattle.record.proofs.bytes.list_count.Tie as tie
+use Rattle.record.proofs.bytes.list_count.Reads as reads
+use Rattle.record.proofs.bytes.list_count.Lts as lts
 
 returns : tie.Need-returns
 returns c = rw (eq-eqb _ _ (c .if1 .taken))

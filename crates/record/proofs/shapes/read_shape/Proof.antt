@@ -1,0 +1,100 @@
+use mathlib.Core.Path.{_≡_, _∙_, sym, ap}
+use native.Mathlib.Omega.{arith}
+use Rattle.record.specs.Answers.{answerOf}
+use Rattle.record.proofs.Known.{known, told}
+use Rattle.record.proofs.ShapeLaws.{opening-few, closing-few, shape-unmarked, shape-uncounted, shape-unclosed, shape-sized}
+use borrow.Author.Needs.{needs}
+use Rattle.record.proofs.shapes.read_shape.Statement.{statement}
+use Rattle.record.proofs.shapes.read_shape.Tie as tie
+use Rattle.record.proofs.shapes.read_shape.Reads as reads
+use Rattle.record.proofs.shapes.read_shape.Lts as lts
+use Rattle.record.proofs.bytes.list_count.Reads as list-count-reads
+use Rattle.record.proofs.bytes.read_count.Reads as read-count-reads
+use Rattle.record.proofs.bytes.read_mark.Reads as read-mark-reads
+use Rattle.record.proofs.bytes.read_optional.Reads as read-optional-reads
+use Rattle.record.proofs.shapes.read_sizes.Reads as read-sizes-reads
+
+-- src/shapes.rt:35:9
+read-mark-requires : tie.Need-read-mark-requires
+read-mark-requires c κs = search needs
+
+-- src/shapes.rt:36:39
+enum-known-mark : tie.Need-enum-known-mark
+enum-known-mark c = search needs
+
+-- src/shapes.rt:37:9
+enum-told : tie.Need-enum-told
+enum-told c = search needs
+
+-- src/shapes.rt:37:9
+returns : tie.Need-returns
+returns c = ap answerOf (c .enum-told .given .1) ∙ sym (shape-unmarked _ _ (told (c .before .before .read-mark .ensures) (c .enum-told .given .1)))
+
+-- src/shapes.rt:39:9
+read-count-requires : tie.Need-read-count-requires
+read-count-requires c κs = search needs
+
+-- src/shapes.rt:40:30
+enum-known-opening : tie.Need-enum-known-opening
+enum-known-opening c = search needs
+
+-- src/shapes.rt:41:9
+enum-told-2 : tie.Need-enum-told-2
+enum-told-2 c = search needs
+
+-- src/shapes.rt:41:9
+returns-2 : tie.Need-returns-2
+returns-2 c = ap answerOf (c .enum-told2 .given .1) ∙ sym (shape-uncounted _ _ (known (c .before .before .before .before .before .before .read-mark .ensures) (c .before .before .before .before .mark .given .1)) (told (c .before .before .read-count .ensures) (c .enum-told2 .given .1)))
+
+-- src/shapes.rt:43:9
+read-optional-requires : tie.Need-read-optional-requires
+read-optional-requires c κs = search needs
+
+-- src/shapes.rt:44:30
+enum-known-closing : tie.Need-enum-known-closing
+enum-known-closing c = search needs
+
+-- src/shapes.rt:45:9
+enum-told-3 : tie.Need-enum-told-3
+enum-told-3 c = search needs
+
+-- src/shapes.rt:45:9
+returns-3 : tie.Need-returns-3
+returns-3 c = ap answerOf (c .enum-told3 .given .1) ∙ sym (shape-unclosed _ _ (known (c .before .before .before .before .before .before .before .before .before .before .read-mark .ensures) (c .before .before .before .before .before .before .before .before .mark .given .1)) (known (c .before .before .before .before .before .before .read-count .ensures) (c .before .before .before .before .opening .given .1)) (told (c .before .before .read-optional .ensures) (c .enum-told3 .given .1)))
+
+-- src/shapes.rt:47:30
+list-count-requires : tie.Need-list-count-requires
+list-count-requires c κs = search needs
+
+-- src/shapes.rt:47:26
+add-read-sizes : tie.Need-add-read-sizes
+add-read-sizes c = omega (arith, c .list-count .ensures, opening-few _ _ _ (known (c .before .before .before .before .before .before .before .before .read-count .ensures) (c .before .before .before .before .before .before .opening .given .1)), closing-few _ _ _ (known (c .before .before .before .before .read-optional .ensures) (c .before .before .closing .given .1)))
+
+-- src/shapes.rt:47:5
+read-sizes-requires : tie.Need-read-sizes-requires
+read-sizes-requires c κs = search needs
+
+-- src/shapes.rt:32:1
+returns-4 : tie.Need-returns-4
+returns-4 c = c .read-sizes .ensures ∙ sym (shape-sized _ _ (known (c .before .before .before .before .before .before .before .before .before .before .before .before .before .read-mark .ensures) (c .before .before .before .before .before .before .before .before .before .before .before .mark .given .1)) (known (c .before .before .before .before .before .before .before .before .before .read-count .ensures) (c .before .before .before .before .before .before .before .opening .given .1)) (known (c .before .before .before .before .before .read-optional .ensures) (c .before .before .before .closing .given .1)) (c .before .list-count .ensures))
+
+pub read-shape-spec : {M : Type 1} → statement M
+read-shape-spec =
+    tie.close
+    (tie.spec
+    read-mark-requires
+    enum-known-mark
+    enum-told
+    returns
+    read-count-requires
+    enum-known-opening
+    enum-told-2
+    returns-2
+    read-optional-requires
+    enum-known-closing
+    enum-told-3
+    returns-3
+    list-count-requires
+    add-read-sizes
+    read-sizes-requires
+    returns-4)

@@ -1,0 +1,71 @@
+use mathlib.Core.Path.{_≡_, refl, _∙_, sym}
+use native.Mathlib.Omega.{arith}
+use Rattle.format.specs.Reader.{mapRead}
+use Rattle.format.specs.Records.{readDims}
+use Rattle.record.specs.Answers.{nothing}
+use Rattle.record.proofs.Known.{known, told}
+use Rattle.record.proofs.ShapeLaws.{sizes-end, sizes-more, sizes-stop}
+use borrow.Author.Needs.{needs}
+use Rattle.record.proofs.shapes.read_sizes.Statement.{statement}
+use Rattle.record.proofs.shapes.read_sizes.Tie as tie
+use Rattle.record.proofs.shapes.read_sizes.Reads as reads
+use Rattle.record.proofs.shapes.read_sizes.Lts as lts
+use Rattle.record.proofs.bytes.read_size.Reads as read-size-reads
+
+abbrev Inv-loop : tie.InvT-loop
+Inv-loop s place start count at₀ left₀ at left = mapRead nothing (readDims s count place start) ≡ mapRead nothing (readDims s left place at)
+
+abbrev μ-loop : tie.MeasureT-loop
+μ-loop s place start count at₀ left₀ at left = left
+
+-- src/shapes.rt:20:5
+loop-holds : tie.Need-loop-holds Inv-loop μ-loop
+loop-holds c = refl
+
+-- src/shapes.rt:21:13
+read-size-requires : tie.Need-read-size-requires Inv-loop μ-loop
+read-size-requires c κs = search needs
+
+-- src/shapes.rt:22:37
+enum-known-size : tie.Need-enum-known-size Inv-loop μ-loop
+enum-known-size c = search needs
+
+-- src/shapes.rt:23:13
+enum-told : tie.Need-enum-told Inv-loop μ-loop
+enum-told c = search needs
+
+-- src/shapes.rt:23:13
+returns : tie.Need-returns Inv-loop μ-loop
+returns c = c .before .before .read-size .ensures ∙ (told (c .before .before .read-size .ensures) (c .enum-told .given .1) ∙ sym (c .before .before .before .before .loop .inv ∙ sizes-stop _ _ _ _ (c .before .before .before .loop-test .taken) (told (c .before .before .read-size .ensures) (c .enum-told .given .1))))
+
+-- src/shapes.rt:26:9
+sub-left : tie.Need-sub-left Inv-loop μ-loop
+sub-left c = search needs
+
+-- src/shapes.rt:20:5
+loop-less : tie.Need-loop-less Inv-loop μ-loop
+loop-less c = search needs
+
+-- src/shapes.rt:20:5
+loop-again : tie.Need-loop-again Inv-loop μ-loop
+loop-again c = c .before .before .before .before .before .loop .inv ∙ sizes-more _ _ _ _ (c .before .before .before .before .loop-test .taken) (known (c .before .before .before .read-size .ensures) (c .before .size .given .1))
+
+-- src/shapes.rt:15:1
+returns-2 : tie.Need-returns-2 Inv-loop μ-loop
+returns-2 c = sym (c .before .loop .inv ∙ sizes-end _ _ _ _ (omega arith))
+
+pub read-sizes-spec : {M : Type 1} → statement M
+read-sizes-spec =
+    tie.close
+    (tie.spec
+    Inv-loop
+    μ-loop
+    loop-holds
+    read-size-requires
+    enum-known-size
+    enum-told
+    returns
+    sub-left
+    loop-less
+    loop-again
+    returns-2)

@@ -1,16 +1,15 @@
--- What a rule delivered to a buffer that holds any type, and the bytes of types that were read or are held.
+-- What a rule wrote to a buffer that holds any type, and the bytes of types that were read or are held.
 use Prim.Native.Nat.{ℕ, suc, _+_, _-_, _≤_, _<_}
 use native.Mathlib.Omega.{arith}
-use mathlib.Core.Bool.{Bool, true, false, cond}
+use mathlib.Core.Bool.{Bool}
 use mathlib.Core.List.{List, [], _∷_, _++_}
 use mathlib.Core.Option.{none, some}
 use mathlib.Core.Path.{_≡_, refl, sym, _∙_, ap}
 use lib.ListN.{length, take, drop, length-append, length-drop}
 use lib.Seq.{take-append-seam}
-use lib.Dec.{leb}
-use borrow.Author.Tests.{leb-false}
+use borrow.Author.Tests.{le-leb}
 use Rattle.model.specs.Limits.{maxBytes, maxTypes}
-use Rattle.model.specs.Refusals.{tooShort, unpervaded}
+use Rattle.model.specs.Refusals.{unpervaded}
 use Rattle.model.specs.Types.{Shape, Scalar, Ty, ty, types}
 use Rattle.model.specs.Within.{Within}
 use Rattle.format.specs.Reader.{got, stopped, mapRead}
@@ -20,6 +19,9 @@ use Rattle.format.specs.ReadWrite.{read-write}
 use Rattle.format.specs.WriteRead.{write-read, write-lone}
 use Rattle.format.specs.Suffices.{suffices}
 use Rattle.format.specs.Outcome.{Outcome, accepted, refused, mapped, both, lone, delivery, deliver}
+use Rattle.lent.specs.Written.{delivered}
+use Rattle.lent.specs.declared.Written.{Written}
+use Rattle.lent.specs.declared.Written.the-variants.{Wrote, Refused as Unwritten}
 use Rattle.record.specs.Answers.{nothings, answerOf}
 use Rattle.record.specs.declared.Answer.{Answer}
 use Rattle.record.specs.declared.Answer.the-variants.{Got, Refused}
@@ -28,38 +30,43 @@ use Rattle.rules.specs.Pervade.{pervade}
 use Rattle.rules.specs.Scalars.{union}
 use Rattle.machine.specs.Run.{pervadeTypes}
 use Rattle.walk.specs.WholeLaws.{both-accepted}
-use Rattle.run.specs.Answers.{atStart}
+use Rattle.run.specs.Answers.{Puts, atStart}
 
--- ---- what was delivered
+-- ---- what a rule wrote
 
-module _ (o : Outcome Ty) (before out : List ℕ) where
-  pub rule-wrote : {C : Type 0} {n : ℕ} → delivery (accepted n) out ≡ deliver (mapped writeTy o) before → ((t : Ty) → o ≡ accepted t → take n out ≡ writeTy t → n ≤ length out → C) → C
-  unfolding deliver
-  rule-wrote {C} {n} e f = go o refl e
+module _ (o : Outcome Ty) (w : Written) (out : List ℕ) where
+  pub rule-wrote : {C : Type 0} {n : ℕ} → w ≡ Wrote n → Puts w out (mapped writeTy o) → ((t : Ty) → o ≡ accepted t → take n out ≡ writeTy t → n ≤ length out → C) → C
+  rule-wrote {C} {n} is puts f = go o refl (rw is at puts)
     where
-      go : (x : Outcome Ty) → o ≡ x → delivery (accepted n) out ≡ deliver (mapped writeTy x) before → C
-      go (refused k p) same e = let z : _≡_ {A = ℕ} 0 1 = cc in absurd (omega arith)
-      go (accepted t) same e = by (leb (length (writeTy t)) (length before)) e
-        where
-          by : (b : Bool) → delivery (accepted n) out ≡ cond b (delivery (accepted (length (writeTy t))) (writeTy t ++ drop (length (writeTy t)) before)) (delivery (refused tooShort 0) before) → C
-          by true e =
-              let x : n ≡ length (writeTy t) = cc in
-              let y : out ≡ writeTy t ++ drop (length (writeTy t)) before = cc in
-              f t same (rw (x, y) (take-append-seam (writeTy t) (drop (length (writeTy t)) before))) (rw (x, y, length-append) (omega arith))
-          by false e = let z : _≡_ {A = ℕ} 0 1 = cc in absurd (omega arith)
+      go : (x : Outcome Ty) → o ≡ x → Puts (Wrote n) out (mapped writeTy x) → C
+      go (refused k p) same (e, fits) = let z : _≡_ {A = ℕ} 0 1 = cc in absurd (omega arith)
+      go (accepted t) same (e, fits) = f t same (cc) fits
+
+  pub rule-refused : {k p : ℕ} → w ≡ Unwritten k p → Puts w out (mapped writeTy o) → o ≡ refused k p
+  rule-refused {k} {p} is puts = go o (rw is at puts)
+    where
+      go : (x : Outcome Ty) → mapped writeTy x ≡ refused k p → x ≡ refused k p
+      go (refused j q) e = cc
+      go (accepted t) e = let z : _≡_ {A = ℕ} 0 1 = cc in absurd (omega arith)
 
   -- where any type has room, only the rule refuses
-  pub rule-refused : {C : Type 0} {k p : ℕ} → ((t : Ty) → o ≡ accepted t → Within t) → maxBytes ≤ length before → delivery (refused k p) out ≡ deliver (mapped writeTy o) before → ((q : ℕ) → o ≡ refused k q → C) → C
+  pub delivered-puts : (before : List ℕ) → delivered w out ≡ deliver (mapped writeTy o) before → ((t : Ty) → o ≡ accepted t → Within t) → maxBytes ≤ length before → Puts w out (mapped writeTy o)
   unfolding deliver
-  rule-refused {C} {k} {p} keeps room e f = go o refl e
+  delivered-puts before e keeps room = go w o refl e
     where
-      go : (x : Outcome Ty) → o ≡ x → delivery (refused k p) out ≡ deliver (mapped writeTy x) before → C
-      go (refused j q) same e = let x : j ≡ k = cc in f q (rw x at same)
-      go (accepted t) same e = by (leb (length (writeTy t)) (length before)) refl e
+      go : (v : Written) (x : Outcome Ty) → o ≡ x → delivered v out ≡ deliver (mapped writeTy x) before → Puts v out (mapped writeTy x)
+      go (Unwritten k p) (refused j q) same e = cc
+      go (Wrote n) (refused j q) same e = let z : _≡_ {A = ℕ} 0 1 = cc in absurd (omega arith)
+      go v (accepted t) same e =
+          let fits : length (writeTy t) ≤ length before = omega (arith, suffices t (keeps t same)) in
+          wrote v (rw (le-leb (length (writeTy t)) (length before) fits) at e)
         where
-          by : (b : Bool) → leb (length (writeTy t)) (length before) ≡ b → delivery (refused k p) out ≡ cond b (delivery (accepted (length (writeTy t))) (writeTy t ++ drop (length (writeTy t)) before)) (delivery (refused tooShort 0) before) → C
-          by true g e = let z : _≡_ {A = ℕ} 0 1 = cc in absurd (omega arith)
-          by false g e = absurd (omega (arith, leb-false (length (writeTy t)) (length before) g, suffices t (keeps t same)))
+          wrote : (v : Written) → delivered v out ≡ delivery (accepted (length (writeTy t))) (writeTy t ++ drop (length (writeTy t)) before) → Puts v out (accepted (writeTy t))
+          wrote (Unwritten k p) e = let z : _≡_ {A = ℕ} 0 1 = cc in absurd (omega arith)
+          wrote (Wrote n) e =
+              let x : n ≡ length (writeTy t) = cc in
+              let y : out ≡ writeTy t ++ drop (length (writeTy t)) before = cc in
+              rw (x, y) (ap accepted (sym (take-append-seam (writeTy t) (drop (length (writeTy t)) before))), rw length-append (omega arith))
 
 -- ---- a type that was read inside a sheet
 

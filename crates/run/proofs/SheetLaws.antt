@@ -19,7 +19,6 @@ use Rattle.machine.specs.SheetSteps.{sheetFrom-end, sheetFrom-over, sheetFrom-s
 use Rattle.machine.specs.Call as sheet
 use Rattle.machine.specs.Call.{called, tally, writeTypes, zeroed, handOver, sheetCall}
 use Rattle.stack.specs.Stack.{Holds, HasTypes}
-use Rattle.stack.specs.declared.Slots.{Slots}
 use Rattle.run.specs.Answers.{Works, calledOf}
 use Rattle.run.specs.declared.Reached.{Reached}
 use Rattle.run.specs.declared.Reached.the-variants.{At, Refused}
@@ -29,46 +28,46 @@ use Rattle.run.specs.declared.Called.the-variants.{Left, Refused as Refu
 -- ---- all steps
 
 -- The scratch holds what the steps so far left; the rest of the sheet is read from there, with so many steps more.
-pub record Going (s : List ℕ) (st : Slots) (d : List ℕ) (at left : ℕ) : Type 0 where
+pub record Going (s lengths : List ℕ) (count : ℕ) (d : List ℕ) (at left : ℕ) : Type 0 where
   pub types : Stack
-  pub held : Holds st d types
+  pub held : Holds lengths count d types
   pub same : sheetFrom s maxSteps [] 0 ≡ sheetFrom s left types at
 
 module _ (s : List ℕ) where
   abbrev All : Read Stack
   All = sheetFrom s maxSteps [] 0
 
-  pub going-over : {st : Slots} {d : List ℕ} {at left : ℕ} → Going s st d at left → left ≡ 0 → at < length s → All ≡ stopped overflow at
-  going-over {st} {d} {at} {left} g e h = g .same ∙ ap (λ n. sheetFrom s n (g .types) at) e ∙ sheetFrom-over s (g .types) at h
+  pub going-over : {lengths : List ℕ} {count : ℕ} {d : List ℕ} {at left : ℕ} → Going s lengths count d at left → left ≡ 0 → at < length s → All ≡ stopped overflow at
+  going-over {lengths} {count} {d} {at} {left} g e h = g .same ∙ ap (λ n. sheetFrom s n (g .types) at) e ∙ sheetFrom-over s (g .types) at h
 
-  pub going-end : {st : Slots} {d : List ℕ} {at left : ℕ} → Going s st d at left → length s ≤ at → Works (At at) st d All
-  going-end {st} {d} {at} {left} g h = (g .types, g .same ∙ sheetFrom-end s left (g .types) at h, g .held)
+  pub going-end : {lengths : List ℕ} {count : ℕ} {d : List ℕ} {at left : ℕ} → Going s lengths count d at left → length s ≤ at → Works (At at) lengths count d All
+  going-end {lengths} {count} {d} {at} {left} g h = (g .types, g .same ∙ sheetFrom-end s left (g .types) at h, g .held)
 
-  pub going-step : {st st₁ : Slots} {d d₁ : List ℕ} {at left n : ℕ} (a : Reached) → (g : Going s st d at left) → (left ≡ 0 → ⊥) → at < length s → Works a st₁ d₁ (workFrom s (g .types) at at) → a ≡ At n → Going s st₁ d₁ n (left - 1)
+  pub going-step : {lengths lengths₁ : List ℕ} {count count₁ : ℕ} {d d₁ : List ℕ} {at left n : ℕ} (a : Reached) → (g : Going s lengths count d at left) → (left ≡ 0 → ⊥) → at < length s → Works a lengths₁ count₁ d₁ (workFrom s (g .types) at at) → a ≡ At n → Going s lengths₁ count₁ d₁ n (left - 1)
   going-step {left = zero} a g e h w is = absurd (e refl)
-  going-step {st} {st₁} {d} {d₁} {at} {left = suc left} {n} a g e h w is = go (rw is at w)
+  going-step {lengths} {lengths₁} {count} {count₁} {d} {d₁} {at} {left = suc left} {n} a g e h w is = go (rw is at w)
     where
-      go : Works (At n) st₁ d₁ (workFrom s (g .types) at at) → Going s st₁ d₁ n (suc left - 1)
+      go : Works (At n) lengths₁ count₁ d₁ (workFrom s (g .types) at at) → Going s lengths₁ count₁ d₁ n (suc left - 1)
       go (ts, worked, held) =
           let m : suc left - 1 ≡ left = omega arith in
           record { types = ts; held = held; same = g .same ∙ sheetFrom-step s left (g .types) ts at n h worked ∙ rw m }
 
-  pub going-stop : {st : Slots} {d : List ℕ} {at left k p : ℕ} (a : Reached) (st₁ : Slots) (d₁ : List ℕ) → (g : Going s st d at left) → (left ≡ 0 → ⊥) → at < length s → Works a st₁ d₁ (workFrom s (g .types) at at) → a ≡ Refused k p → Works a st₁ d₁ All
-  going-stop {left = zero} a st₁ d₁ g e h w is = absurd (e refl)
-  going-stop {st} {d} {at} {left = suc left} {k} {p} a st₁ d₁ g e h w is = rw is (g .same ∙ sheetFrom-stop s left (g .types) at k p h (rw is at w))
+  pub going-stop : {lengths : List ℕ} {count : ℕ} {d : List ℕ} {at left k p : ℕ} (a : Reached) (lengths₁ : List ℕ) (count₁ : ℕ) (d₁ : List ℕ) → (g : Going s lengths count d at left) → (left ≡ 0 → ⊥) → at < length s → Works a lengths₁ count₁ d₁ (workFrom s (g .types) at at) → a ≡ Refused k p → Works a lengths₁ count₁ d₁ All
+  going-stop {left = zero} a lengths₁ count₁ d₁ g e h w is = absurd (e refl)
+  going-stop {lengths} {count} {d} {at} {left = suc left} {k} {p} a lengths₁ count₁ d₁ g e h w is = rw is (g .same ∙ sheetFrom-stop s left (g .types) at k p h (rw is at w))
 
   -- ---- what they come to
 
-  pub run-left : {C : Type 0} {n : ℕ} (a : Reached) (st : Slots) (d : List ℕ) → Works a st d All → a ≡ At n → ((ts : Stack) → Holds st d ts → sheetRun s ≡ accepted (reverse ts) → C) → C
+  pub run-left : {C : Type 0} {n : ℕ} (a : Reached) (lengths : List ℕ) (count : ℕ) (d : List ℕ) → Works a lengths count d All → a ≡ At n → ((ts : Stack) → Holds lengths count d ts → sheetRun s ≡ accepted (reverse ts) → C) → C
   unfolding sheetRun
-  run-left {C} {n} a st d w is f = go (rw is at w)
+  run-left {C} {n} a lengths count d w is f = go (rw is at w)
     where
-      go : Works (At n) st d All → C
+      go : Works (At n) lengths count d All → C
       go (ts, e, h) = f ts h (rw e)
 
-  pub run-refused : {k p : ℕ} (a : Reached) (st : Slots) (d : List ℕ) → Works a st d All → a ≡ Refused k p → (size : ℕ) (result x : List ℕ) → called (refused k p) result x ≡ handOver size (sheetRun s) result x
+  pub run-refused : {k p : ℕ} (a : Reached) (lengths : List ℕ) (count : ℕ) (d : List ℕ) → Works a lengths count d All → a ≡ Refused k p → (size : ℕ) (result x : List ℕ) → called (refused k p) result x ≡ handOver size (sheetRun s) result x
   unfolding sheetRun handOver
-  run-refused {k} {p} a st d w is size result x =
+  run-refused {k} {p} a lengths count d w is size result x =
       let e : All ≡ stopped k p = rw is at w in
       rw e
 

@@ -30,19 +30,19 @@ use Rattle.machine.specs.SheetSteps.{work-lacks, work-overfull, work-unread, wo
 use Rattle.machine.specs.StepsWithin.{pervadeTypes-within}
 use Rattle.stack.specs.Stack.{Holds}
 use Rattle.stack.specs.StackLaws.{holds-count}
-use Rattle.stack.specs.declared.Slots.{Slots}
-use Rattle.run.specs.Answers.{atStart, Ruled}
+use Rattle.run.specs.Answers.{Puts, atStart, Ruled}
+use Rattle.run.proofs.RuleLaws.{delivered-puts}
 
 -- ---- the types on top
 
-module _ {st : Slots} {d : List ℕ} where
-  pub one-held : {C : Type 0} (ts : Stack) → Holds st d ts → 1 ≤ st .count → ((t : Ty) (us : Stack) → ts ≡ t ∷ us → C) → C
-  one-held [] h n f = absurd (omega (arith, holds-count st d h))
+module _ {lengths : List ℕ} {count : ℕ} {d : List ℕ} where
+  pub one-held : {C : Type 0} (ts : Stack) → Holds lengths count d ts → 1 ≤ count → ((t : Ty) (us : Stack) → ts ≡ t ∷ us → C) → C
+  one-held [] h n f = absurd (omega (arith, holds-count lengths count d h))
   one-held (t ∷ us) h n f = f t us refl
 
-  pub two-held : {C : Type 0} (ts : Stack) → Holds st d ts → 2 ≤ st .count → ((t u : Ty) (us : Stack) → ts ≡ t ∷ u ∷ us → C) → C
-  two-held [] h n f = absurd (omega (arith, holds-count st d h))
-  two-held (t ∷ []) h n f = absurd (omega (arith, holds-count st d h))
+  pub two-held : {C : Type 0} (ts : Stack) → Holds lengths count d ts → 2 ≤ count → ((t u : Ty) (us : Stack) → ts ≡ t ∷ u ∷ us → C) → C
+  two-held [] h n f = absurd (omega (arith, holds-count lengths count d h))
+  two-held (t ∷ []) h n f = absurd (omega (arith, holds-count lengths count d h))
   two-held (t ∷ u ∷ us) h n f = f t u us refl
 
 -- ---- the stack lacks types, or is full
@@ -107,65 +107,61 @@ module _ (s : List ℕ) (ts : Stack) (at : ℕ) where
 
 -- ---- what a rule made of the types on top
 
-pub row-keeps : (t x : Ty) → Within t → accepted (intoRow t) ≡ accepted x → Within x
-row-keeps t x v is = let y : intoRow t ≡ x = cc in rw (← y) (intoRow-within t v)
+pub row-keeps : (t : Ty) → Within t → (x : Ty) → accepted (intoRow t) ≡ accepted x → Within x
+row-keeps t v x is = let y : intoRow t ≡ x = cc in rw (← y) (intoRow-within t v)
 
-pub join-keeps : (t u x : Ty) → Within t → Within u → accepted (joinTypes t u) ≡ accepted x → Within x
-join-keeps t u x v w is = let y : joinTypes t u ≡ x = cc in rw (← y) (joinTypes-within t u v w)
+pub join-keeps : (t u : Ty) → Within t → Within u → (x : Ty) → accepted (joinTypes t u) ≡ accepted x → Within x
+join-keeps t u v w x is = let y : joinTypes t u ≡ x = cc in rw (← y) (joinTypes-within t u v w)
 
 pub started : {A : Type 0} (a : Answer A) {x : A} → atStart a ≡ accepted x → a ≡ gives x
 started (gives y) e = ap gives (cc)
 started (refuses k) e = let z : _≡_ {A = ℕ} 0 1 = cc in absurd (omega arith)
 
-module _ (st : Slots) (d : List ℕ) (w : Written) (before out : List ℕ) (room : maxBytes ≤ length before) where
-  abbrev pub row-ruled : {t : Ty} {us : Stack} → Holds st d (t ∷ us) → delivered w out ≡ deliver (accepted (writeTy (intoRow t))) before → Ruled st d (st .count - 1) w out
-  row-ruled {t} {us} h e = record {
-    types = t ∷ us;
-    held = h;
-    outcome = accepted (intoRow t);
-    keeps = λ x is. row-keeps t x (h .within .0) is;
-    before = before;
-    room = room;
-    given = e;
-    low = omega (arith, h .few, holds-count st d h);
-    there = omega arith;
-  }
+pub pervade-keeps : (f g : Bool) (t u : Ty) → Within t → Within u → (x : Ty) → atStart (pervadeTypes f g t u) ≡ accepted x → Within x
+pervade-keeps f g t u v w x is = pervadeTypes-within f g t u x v w (started (pervadeTypes f g t u) is)
 
-  abbrev pub join-ruled : {t u : Ty} {us : Stack} → Holds st d (t ∷ u ∷ us) → delivered w out ≡ deliver (accepted (writeTy (joinTypes t u))) before → Ruled st d (st .count - 2) w out
-  join-ruled {t} {u} {us} h e = record {
-    types = t ∷ u ∷ us;
-    held = h;
-    outcome = accepted (joinTypes t u);
-    keeps = λ x is. join-keeps t u x (h .within .0) (h .within .1 .0) is;
-    before = before;
-    room = room;
-    given = e;
-    low = omega (arith, h .few, holds-count st d h);
-    there = omega arith;
-  }
-
-  abbrev pub pervade-ruled : (f g : Bool) {t u : Ty} {us : Stack} → Holds st d (t ∷ u ∷ us) → delivered w out ≡ deliver (mapped writeTy (atStart (pervadeTypes f g t u))) before → Ruled st d (st .count - 2) w out
-  pervade-ruled f g {t} {u} {us} h e = record {
-    types = t ∷ u ∷ us;
-    held = h;
-    outcome = atStart (pervadeTypes f g t u);
-    keeps = λ x is. pervadeTypes-within f g t u x (h .within .0) (h .within .1 .0) (started (pervadeTypes f g t u) is);
-    before = before;
-    room = room;
-    given = e;
-    low = omega (arith, h .few, holds-count st d h);
-    there = omega arith;
-  }
-
-  abbrev pub validate-ruled : (spec : Ty) {t : Ty} {us : Stack} → Within spec → Holds st d (t ∷ us) → delivered w out ≡ deliver (mapped writeTy (validate unsided spec t)) before → Ruled st d (st .count - 1) w out
-  validate-ruled spec {t} {us} v h e = record {
+module _ (lengths : List ℕ) (count : ℕ) (d : List ℕ) (w : Written) (out : List ℕ) where
+  abbrev pub validate-ruled : (spec : Ty) {t : Ty} {us : Stack} → Within spec → Holds lengths count d (t ∷ us) → Puts w out (mapped writeTy (validate unsided spec t)) → Ruled lengths count d (count - 1) w out
+  validate-ruled spec {t} {us} v h puts = record {
     types = t ∷ us;
     held = h;
     outcome = validate unsided spec t;
     keeps = λ x is. validate-within unsided spec t x v (h .within .0) is;
-    before = before;
-    room = room;
-    given = e;
-    low = omega (arith, h .few, holds-count st d h);
+    given = puts;
+    low = omega (arith, h .few, holds-count lengths count d h);
     there = omega arith;
   }
+
+  module _ (before : List ℕ) (room : maxBytes ≤ length before) where
+    abbrev pub row-ruled : {t : Ty} {us : Stack} → Holds lengths count d (t ∷ us) → delivered w out ≡ deliver (accepted (writeTy (intoRow t))) before → Ruled lengths count d (count - 1) w out
+    row-ruled {t} {us} h e = record {
+      types = t ∷ us;
+      held = h;
+      outcome = accepted (intoRow t);
+      keeps = row-keeps t (h .within .0);
+      given = delivered-puts (accepted (intoRow t)) w out before e (row-keeps t (h .within .0)) room;
+      low = omega (arith, h .few, holds-count lengths count d h);
+      there = omega arith;
+    }
+
+    abbrev pub join-ruled : {t u : Ty} {us : Stack} → Holds lengths count d (t ∷ u ∷ us) → delivered w out ≡ deliver (accepted (writeTy (joinTypes t u))) before → Ruled lengths count d (count - 2) w out
+    join-ruled {t} {u} {us} h e = record {
+      types = t ∷ u ∷ us;
+      held = h;
+      outcome = accepted (joinTypes t u);
+      keeps = join-keeps t u (h .within .0) (h .within .1 .0);
+      given = delivered-puts (accepted (joinTypes t u)) w out before e (join-keeps t u (h .within .0) (h .within .1 .0)) room;
+      low = omega (arith, h .few, holds-count lengths count d h);
+      there = omega arith;
+    }
+
+    abbrev pub pervade-ruled : (f g : Bool) {t u : Ty} {us : Stack} → Holds lengths count d (t ∷ u ∷ us) → delivered w out ≡ deliver (mapped writeTy (atStart (pervadeTypes f g t u))) before → Ruled lengths count d (count - 2) w out
+    pervade-ruled f g {t} {u} {us} h e = record {
+      types = t ∷ u ∷ us;
+      held = h;
+      outcome = atStart (pervadeTypes f g t u);
+      keeps = pervade-keeps f g t u (h .within .0) (h .within .1 .0);
+      given = delivered-puts (atStart (pervadeTypes f g t u)) w out before e (pervade-keeps f g t u (h .within .0) (h .within .1 .0)) room;
+      low = omega (arith, h .few, holds-count lengths count d h);
+      there = omega arith;
+    }

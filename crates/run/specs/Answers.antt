@@ -2,22 +2,20 @@
 use Prim.Native.Nat.{ℕ, _≤_, _<_}
 use mathlib.Core.List.{List}
 use mathlib.Core.Path.{_≡_}
-use lib.ListN.{length}
-use Rattle.model.specs.Limits.{maxBytes}
+use lib.ListN.{length, take}
 use Rattle.model.specs.Types.{Ty}
 use Rattle.model.specs.Within.{Within}
 use Rattle.format.specs.Reader.{Read, got, stopped}
 use Rattle.format.specs.Records.{writeTy}
-use Rattle.format.specs.Outcome.{Outcome, accepted, refused, mapped, deliver}
-use Rattle.lent.specs.Written.{delivered}
+use Rattle.format.specs.Outcome.{Outcome, accepted, refused, mapped}
 use Rattle.lent.specs.declared.Written.{Written}
+use Rattle.lent.specs.declared.Written.the-variants.{Wrote, Refused as Unwritten}
 use Rattle.machine.specs.SheetLimits.{maxStack}
 use Rattle.machine.specs.Run as rules
 use Rattle.machine.specs.Run.{gives, refuses, Stack}
 use Rattle.machine.specs.Call as sheet
 use Rattle.machine.specs.Call.{called, tally}
 use Rattle.stack.specs.Stack.{Holds}
-use Rattle.stack.specs.declared.Slots.{Slots}
 use Rattle.run.specs.declared.Reached.{Reached}
 use Rattle.run.specs.declared.Reached.the-variants.{At, Refused}
 use Rattle.run.specs.declared.Called.{Called}
@@ -29,23 +27,26 @@ calledOf (Left types bytes) result scratch = called (accepted (tally types bytes
 calledOf (Refuses k p) result scratch = called (refused k p) result scratch
 
 -- One step, or all: the place reached, where the scratch holds the stack that was read, or the refusal.
-abbrev pub Works : Reached → Slots → List ℕ → Read Stack → Type 0
-Works (At n) st d o = (ts : Stack) × (o ≡ got ts n) × Holds st d ts
-Works (Refused k p) st d o = o ≡ stopped k p
+abbrev pub Works : Reached → List ℕ → ℕ → List ℕ → Read Stack → Type 0
+Works (At n) lengths count d o = (ts : Stack) × (o ≡ got ts n) × Holds lengths count d ts
+Works (Refused k p) lengths count d o = o ≡ stopped k p
 
 -- a rule's answer as an outcome of its own
 abbrev pub atStart : {A : Type 0} → rules.Answer A → Outcome A
 atStart (gives a) = accepted a
 atStart (refuses k) = refused k 0
 
--- A rule's outcome of the types above the k lowest, delivered to a buffer that holds any type.
-pub record Ruled (st : Slots) (d : List ℕ) (k : ℕ) (w : Written) (out : List ℕ) : Type 0 where
+-- An answer and a buffer whose other bytes are left open: what was written stands at the front.
+abbrev pub Puts : Written → List ℕ → Outcome (List ℕ) → Type 0
+Puts (Wrote n) out o = (o ≡ accepted (take n out)) × (n ≤ length out)
+Puts (Unwritten k p) out o = o ≡ refused k p
+
+-- A rule's outcome of the types above the k lowest, in a buffer.
+pub record Ruled (lengths : List ℕ) (count : ℕ) (d : List ℕ) (k : ℕ) (w : Written) (out : List ℕ) : Type 0 where
   pub types : Stack
-  pub held : Holds st d types
+  pub held : Holds lengths count d types
   pub outcome : Outcome Ty
   pub keeps : (t : Ty) → outcome ≡ accepted t → Within t
-  pub before : List ℕ
-  pub room : maxBytes ≤ length before
-  pub given : delivered w out ≡ deliver (mapped writeTy outcome) before
+  pub given : Puts w out (mapped writeTy outcome)
   pub low : k < maxStack
-  pub there : k ≤ st .count
+  pub there : k ≤ count

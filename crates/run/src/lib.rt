@@ -4,7 +4,6 @@ mod steps;
 mod tops;
 
 pub use sheet::check_sheet;
-use stack::Slots;
 
 // Steps of a sheet.
 const MAX_STEPS: usize = 64;
@@ -21,8 +20,8 @@ pub enum Reached {
     Refused { number: u8, place: usize },
 }
 
-// The same with the stack beside it.
+// The same, and how many types the stack then has.
 pub struct Worked {
     pub answer: Reached,
-    pub st: Slots,
+    pub count: usize,
 }

@@ -8,10 +8,9 @@ use lent::Written;
 use limits::MAX_BYTES;
 use limits::refusal::OVERFLOW;
 use limits::refusal::TOO_SHORT;
+use stack::MAX_STACK;
 use stack::SCRATCH_BYTES;
-use stack::Slots;
 use stack::clear;
-use stack::no_types;
 use stack::write_types;
 ghost use mathlib.Core.Path.{_≡_};
 ghost use mathlib.Core.List.{[], reverse};
@@ -19,7 +18,7 @@ ghost use Prim.Native.Nat.{_≤_};
 ghost use lib.ListN.{length};
 ghost use Rattle.model.specs.Limits.{maxBytes};
 ghost use Rattle.format.specs.Outcome.{accepted};
-ghost use Rattle.machine.specs.SheetLimits.{maxSteps, scratchBytes};
+ghost use Rattle.machine.specs.SheetLimits.{maxSteps, maxStack, scratchBytes};
 ghost use Rattle.machine.specs.Run.{Stack};
 ghost use Rattle.machine.specs.Sheet.{sheetFrom, sheetRun};
 ghost use Rattle.machine.specs.Call.{handOver, sheetCall};
@@ -47,21 +46,22 @@ fn run_sheet(sheet: &[u8], result: &mut [u8], scratch: &mut [u8]) -> Called
     ensures { λ r. ⌜ calledOf r (now (result .exit)) [] ≡ handOver (length (now (sheet .entry))) (sheetRun (now (sheet .entry))) (now (result .entry)) [] ⌝ }
 {
     let mut work = [0u8; MAX_BYTES];
-    let worked = run_steps(sheet, &mut *scratch, &mut work);
+    let mut lengths = [0usize; MAX_STACK];
+    let worked = run_steps(sheet, &mut lengths, &mut *scratch, &mut work);
     let answer = worked.answer;
-    let st = worked.st;
+    let count = worked.count;
     match answer {
-        Reached::At(_) => hand_over(sheet.len(), st, &*scratch, &mut *result),
+        Reached::At(_) => hand_over(sheet.len(), count, &lengths, &*scratch, &mut *result),
         Reached::Refused { number, place } => Called::Refused { number, place },
     }
 }
 
 // The steps one after the other, each on what the one before left.
-fn run_steps(s: &[u8], scratch: &mut [u8], work: &mut [u8]) -> Worked
-    requires { ⌜ (scratchBytes ≤ length (now scratch)) × (maxBytes ≤ length (now work)) ⌝ }
-    ensures { λ r. ⌜ Works (r .answer) (r .st) (now (scratch .exit)) (sheetFrom (now (s .entry)) maxSteps [] 0) ⌝ }
+fn run_steps(s: &[u8], lengths: &mut [usize], scratch: &mut [u8], work: &mut [u8]) -> Worked
+    requires { ⌜ (maxStack ≤ length (now lengths)) × (scratchBytes ≤ length (now scratch)) × (maxBytes ≤ length (now work)) ⌝ }
+    ensures { λ r. ⌜ Works (r .answer) (now (lengths .exit)) (r .count) (now (scratch .exit)) (sheetFrom (now (s .entry)) maxSteps [] 0) ⌝ }
 {
-    let mut st = no_types();
+    let mut count = 0;
     let mut at = 0;
     let mut left = MAX_STEPS;
     while at < s.len() {
@@ -71,32 +71,38 @@ fn run_steps(s: &[u8], scratch: &mut [u8], work: &mut [u8]) -> Worked
                     number: OVERFLOW,
                     place: at,
                 },
-                st,
+                count,
             };
         }
-        let worked = work_step(s, at, st, &mut *scratch, &mut *work);
+        let worked = work_step(s, at, count, &mut *lengths, &mut *scratch, &mut *work);
         let answer = worked.answer;
         let Reached::At(next) = answer else {
             return worked;
         };
-        st = worked.st;
+        count = worked.count;
         at = next;
         left -= 1;
     }
     Worked {
         answer: Reached::At(at),
-        st,
+        count,
     }
 }
 
 // The types left; a result too short for them is found last, at the sheet's length.
-fn hand_over(size: usize, st: Slots, scratch: &[u8], result: &mut [u8]) -> Called
-    requires { ⌜ HasTypes st (now scratch) ⌝ }
-    ensures { λ r. ⌜ ((ts : Stack) → Holds st (now (scratch .entry)) ts → calledOf r (now (result .exit)) [] ≡ handOver size (accepted (reverse ts)) (now (result .entry)) []) ⌝ }
+fn hand_over(
+    size: usize,
+    count: usize,
+    lengths: &[usize],
+    scratch: &[u8],
+    result: &mut [u8],
+) -> Called
+    requires { ⌜ HasTypes (now lengths) count (now scratch) ⌝ }
+    ensures { λ r. ⌜ ((ts : Stack) → Holds (now (lengths .entry)) count (now (scratch .entry)) ts → calledOf r (now (result .exit)) [] ≡ handOver size (accepted (reverse ts)) (now (result .entry)) []) ⌝ }
 {
-    match write_types(st, scratch, &mut *result) {
+    match write_types(count, lengths, scratch, &mut *result) {
         Written::Wrote(n) => Called::Left {
-            types: st.count,
+            types: count,
             bytes: n,
         },
         Written::Refused { number, place: _ } => Called::Refused {

@@ -6,7 +6,6 @@ use limits::refusal::UNPERVADED;
 use record::lone_shape;
 use shape::Verdict;
 use shape::pervade_dyn_shapes;
-use stack::Slots;
 use stack::load;
 use ty::Which;
 use ty::row_known;
@@ -15,6 +14,8 @@ use validate::validate;
 ghost use mathlib.Core.Path.{_≡_};
 ghost use mathlib.Core.List.{_∷_};
 ghost use Prim.Native.Nat.{_≤_};
+ghost use lib.ListN.{length};
+ghost use Rattle.model.specs.Limits.{maxBytes};
 ghost use Rattle.model.specs.Types.{Ty};
 ghost use Rattle.format.specs.Records.{writeTy};
 ghost use Rattle.format.specs.Outcome.{accepted, deliver, mapped, both, lone};
@@ -25,28 +26,28 @@ ghost use Rattle.validation.specs.CheckShape.{unsided};
 ghost use Rattle.validation.specs.Validate.{validate};
 ghost use Rattle.machine.specs.Run.{Stack, pervadeTypes};
 ghost use Rattle.stack.specs.Stack.{Holds, HasTypes};
-ghost use Rattle.run.specs.Answers.{atStart};
+ghost use Rattle.run.specs.Answers.{Puts, atStart};
 
 // The row of the top.
-pub fn row_top(st: Slots, scratch: &[u8], out: &mut [u8]) -> Written
-    requires { ⌜ (1 ≤ st .count) × HasTypes st (now scratch) ⌝ }
-    ensures { λ r. ⌜ ((t : Ty) (ts : Stack) → Holds st (now (scratch .entry)) (t ∷ ts) → delivered r (now (out .exit)) ≡ deliver (accepted (writeTy (intoRow t))) (now (out .entry))) ⌝ }
+pub fn row_top(count: usize, lengths: &[usize], scratch: &[u8], out: &mut [u8]) -> Written
+    requires { ⌜ (1 ≤ count) × HasTypes (now lengths) count (now scratch) ⌝ }
+    ensures { λ r. ⌜ ((t : Ty) (ts : Stack) → Holds (now (lengths .entry)) count (now (scratch .entry)) (t ∷ ts) → delivered r (now (out .exit)) ≡ deliver (accepted (writeTy (intoRow t))) (now (out .entry))) ⌝ }
 {
-    let top = load(st, st.count - 1);
+    let top = load(lengths, count - 1);
     let start = top.start;
     let end = top.end;
     row_known(&scratch[start..end], Which::First, &mut *out)
 }
 
 // The join of the top with the one below.
-pub fn join_top(st: Slots, scratch: &[u8], out: &mut [u8]) -> Written
-    requires { ⌜ (2 ≤ st .count) × HasTypes st (now scratch) ⌝ }
-    ensures { λ r. ⌜ ((t u : Ty) (ts : Stack) → Holds st (now (scratch .entry)) (t ∷ u ∷ ts) → delivered r (now (out .exit)) ≡ deliver (accepted (writeTy (joinTypes t u))) (now (out .entry))) ⌝ }
+pub fn join_top(count: usize, lengths: &[usize], scratch: &[u8], out: &mut [u8]) -> Written
+    requires { ⌜ (2 ≤ count) × HasTypes (now lengths) count (now scratch) ⌝ }
+    ensures { λ r. ⌜ ((t u : Ty) (ts : Stack) → Holds (now (lengths .entry)) count (now (scratch .entry)) (t ∷ u ∷ ts) → delivered r (now (out .exit)) ≡ deliver (accepted (writeTy (joinTypes t u))) (now (out .entry))) ⌝ }
 {
-    let top = load(st, st.count - 1);
+    let top = load(lengths, count - 1);
     let start = top.start;
     let end = top.end;
-    let below = load(st, st.count - 2);
+    let below = load(lengths, count - 2);
     let from = below.start;
     let to = below.end;
     join_known(&scratch[start..end], &scratch[from..to], &mut *out)
@@ -54,19 +55,20 @@ pub fn join_top(st: Slots, scratch: &[u8], out: &mut [u8]) -> Written
 
 // The pervading of the top with the one below.
 pub fn pervade_top(
-    st: Slots,
+    count: usize,
+    lengths: &[usize],
     scratch: &[u8],
     top_fill: bool,
     below_fill: bool,
     out: &mut [u8],
 ) -> Written
-    requires { ⌜ (2 ≤ st .count) × HasTypes st (now scratch) ⌝ }
-    ensures { λ r. ⌜ ((t u : Ty) (ts : Stack) → Holds st (now (scratch .entry)) (t ∷ u ∷ ts) → delivered r (now (out .exit)) ≡ deliver (mapped writeTy (atStart (pervadeTypes «top_fill» «below_fill» t u))) (now (out .entry))) ⌝ }
+    requires { ⌜ (2 ≤ count) × HasTypes (now lengths) count (now scratch) ⌝ }
+    ensures { λ r. ⌜ ((t u : Ty) (ts : Stack) → Holds (now (lengths .entry)) count (now (scratch .entry)) (t ∷ u ∷ ts) → delivered r (now (out .exit)) ≡ deliver (mapped writeTy (atStart (pervadeTypes «top_fill» «below_fill» t u))) (now (out .entry))) ⌝ }
 {
-    let top = load(st, st.count - 1);
+    let top = load(lengths, count - 1);
     let start = top.start;
     let end = top.end;
-    let below = load(st, st.count - 2);
+    let below = load(lengths, count - 2);
     let from = below.start;
     let to = below.end;
     pervade_types(
@@ -96,11 +98,17 @@ fn pervade_types(a: &[u8], b: &[u8], a_fill: bool, b_fill: bool, out: &mut [u8])
 }
 
 // The top, validated without side.
-pub fn validate_top(st: Slots, scratch: &[u8], spec: &[u8], out: &mut [u8]) -> Written
-    requires { ⌜ (1 ≤ st .count) × HasTypes st (now scratch) ⌝ }
-    ensures { λ r. ⌜ ((s t : Ty) (ts : Stack) → Holds st (now (scratch .entry)) (t ∷ ts) → lone (now (spec .entry)) ≡ accepted s → delivered r (now (out .exit)) ≡ deliver (mapped writeTy (validate unsided s t)) (now (out .entry))) ⌝ }
+pub fn validate_top(
+    count: usize,
+    lengths: &[usize],
+    scratch: &[u8],
+    spec: &[u8],
+    out: &mut [u8],
+) -> Written
+    requires { ⌜ (1 ≤ count) × (maxBytes ≤ length (now out)) × HasTypes (now lengths) count (now scratch) ⌝ }
+    ensures { λ r. ⌜ ((s t : Ty) (ts : Stack) → Holds (now (lengths .entry)) count (now (scratch .entry)) (t ∷ ts) → lone (now (spec .entry)) ≡ accepted s → Puts r (now (out .exit)) (mapped writeTy (validate unsided s t))) ⌝ }
 {
-    let top = load(st, st.count - 1);
+    let top = load(lengths, count - 1);
     let start = top.start;
     let end = top.end;
     validate(Side::Unsided, spec, &scratch[start..end], &mut *out)

@@ -8,7 +8,6 @@ use Rattle.model.specs.Types.{Ty}
 use Rattle.model.specs.Within.{All, Within}
 use Rattle.format.specs.Records.{writeTy}
 use Rattle.machine.specs.SheetLimits.{maxStack, scratchBytes}
-use Rattle.stack.specs.declared.Slots.{Slots}
 
 abbrev pub slotOf : List ℕ → List ℕ → ℕ → List ℕ
 slotOf lengths d k = take (getD lengths k 0) (drop (k * maxBytes) d)
@@ -19,14 +18,15 @@ slots lengths d zero = []
 slots lengths d (suc k) = slotOf lengths d k ∷ slots lengths d k
 
 -- The scratch holds these types, top first.
-pub record Holds (st : Slots) (d : List ℕ) (ts : List Ty) : Type 0 where
+pub record Holds (lengths : List ℕ) (count : ℕ) (d : List ℕ) (ts : List Ty) : Type 0 where
   pub room : scratchBytes ≤ length d
-  pub few : st .count ≤ maxStack
-  pub short : (k : ℕ) → k < st .count → getD (st .lengths) k 0 ≤ maxBytes
-  pub bytes : slots (st .lengths) d (st .count) ≡ map writeTy ts
+  pub slotted : maxStack ≤ length lengths
+  pub few : count ≤ maxStack
+  pub short : (k : ℕ) → k < count → getD lengths k 0 ≤ maxBytes
+  pub bytes : slots lengths d count ≡ map writeTy ts
   pub within : All Within ts
 
 -- that it holds some
-pub record HasTypes (st : Slots) (d : List ℕ) : Type 0 where
+pub record HasTypes (lengths : List ℕ) (count : ℕ) (d : List ℕ) : Type 0 where
   pub types : List Ty
-  pub held : Holds st d types
+  pub held : Holds lengths count d types

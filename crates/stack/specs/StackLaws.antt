@@ -1,4 +1,5 @@
 -- What follows where a scratch holds types: how many, which stands where, and that a type stored over a slot leaves those below.
+use Prim.{tt}
 use Prim.Native.Nat.{ℕ, zero, suc, _+_, _-_, _*_, _≤_, _<_}
 use native.Mathlib.Omega.{arith}
 use native.Mathlib.Numerals.{add-one}
@@ -15,7 +16,12 @@ use Rattle.format.specs.Records.{writeTy}
 use Rattle.lent.specs.Over.{over, length-over}
 use Rattle.machine.specs.SheetLimits.{maxStack, scratchBytes}
 use Rattle.stack.specs.Stack.{slotOf, slots, Holds}
-use Rattle.stack.specs.declared.Slots.{Slots}
+
+-- ---- none yet, whatever the scratch holds
+
+pub holds-none : (lengths d : List ℕ) → maxStack ≤ length lengths → scratchBytes ≤ length d → Holds lengths 0 d []
+unfolding slots
+holds-none lengths d l h = record { room = h; slotted = l; few = omega arith; short = λ k less. absurd (omega arith); bytes = refl; within = tt }
 
 -- ---- how many
 
@@ -24,28 +30,28 @@ unfolding slots
 length-slots lengths d zero = refl
 length-slots lengths d (suc n) = rw (length-slots lengths d n)
 
-module _ (st : Slots) (d : List ℕ) where
-  pub holds-count : {ts : List Ty} → Holds st d ts → length ts ≡ st .count
-  holds-count {ts} h = sym (length-map ts writeTy) ∙ ap length (sym (h .bytes)) ∙ length-slots (st .lengths) d (st .count)
+module _ (lengths : List ℕ) (count : ℕ) (d : List ℕ) where
+  pub holds-count : {ts : List Ty} → Holds lengths count d ts → length ts ≡ count
+  holds-count {ts} h = sym (length-map ts writeTy) ∙ ap length (sym (h .bytes)) ∙ length-slots lengths d count
 
   -- ---- which stands where
 
-  tops : (n : ℕ) (t : Ty) (ts : List Ty) → slots (st .lengths) d n ≡ map writeTy (t ∷ ts) → (slotOf (st .lengths) d (n - 1) ≡ writeTy t) × (slots (st .lengths) d (n - 1) ≡ map writeTy ts)
+  tops : (n : ℕ) (t : Ty) (ts : List Ty) → slots lengths d n ≡ map writeTy (t ∷ ts) → (slotOf lengths d (n - 1) ≡ writeTy t) × (slots lengths d (n - 1) ≡ map writeTy ts)
   unfolding slots
   tops zero t ts e = let z : _≡_ {A = ℕ} 0 1 = cc in absurd (omega arith)
   tops (suc n) t ts e =
       let a : suc n - 1 ≡ n = omega arith in
-      let b : slotOf (st .lengths) d n ≡ writeTy t = cc in
-      let c : slots (st .lengths) d n ≡ map writeTy ts = cc in
+      let b : slotOf lengths d n ≡ writeTy t = cc in
+      let c : slots lengths d n ≡ map writeTy ts = cc in
       rw a (b, c)
 
-  pub holds-top : {t : Ty} {ts : List Ty} → Holds st d (t ∷ ts) → slotOf (st .lengths) d (st .count - 1) ≡ writeTy t
-  holds-top {t} {ts} h = tops (st .count) t ts (h .bytes) .0
+  pub holds-top : {t : Ty} {ts : List Ty} → Holds lengths count d (t ∷ ts) → slotOf lengths d (count - 1) ≡ writeTy t
+  holds-top {t} {ts} h = tops count t ts (h .bytes) .0
 
-  pub holds-below : {t u : Ty} {ts : List Ty} → Holds st d (t ∷ u ∷ ts) → slotOf (st .lengths) d (st .count - 2) ≡ writeTy u
+  pub holds-below : {t u : Ty} {ts : List Ty} → Holds lengths count d (t ∷ u ∷ ts) → slotOf lengths d (count - 2) ≡ writeTy u
   holds-below {t} {u} {ts} h =
-      let a : st .count - 1 - 1 ≡ st .count - 2 = omega arith in
-      rw a at (tops (st .count - 1) u ts (tops (st .count) t (u ∷ ts) (h .bytes) .1) .0)
+      let a : count - 1 - 1 ≡ count - 2 = omega arith in
+      rw a at (tops (count - 1) u ts (tops count t (u ∷ ts) (h .bytes) .1) .0)
 
 -- ---- a type stored
 
@@ -91,35 +97,36 @@ All-drop (suc j) [] h = h
 All-drop (suc j) (t ∷ ts) h = All-drop j ts (h .1)
 
 -- A type stored in slot k, on those below it.
-module _ (st : Slots) (d : List ℕ) (k : ℕ) (w : List ℕ) (low : k < maxStack) (there : k ≤ st .count) (held : length (st .lengths) ≡ maxStack) where
-  abbrev pub storedIn : Slots
-  storedIn = record { lengths = set (st .lengths) k (length w); count = k + 1 }
+module _ (lengths : List ℕ) (count : ℕ) (d : List ℕ) (k : ℕ) (w : List ℕ) (low : k < maxStack) (there : k ≤ count) where
+  abbrev pub storedIn : List ℕ
+  storedIn = set lengths k (length w)
 
-  pub stored : (ts : List Ty) (t : Ty) → Holds st d ts → Within t → w ≡ writeTy t → length w ≤ maxBytes → Holds storedIn (over d (k * maxBytes) w) (t ∷ drop (st .count - k) ts)
+  pub stored : (ts : List Ty) (t : Ty) → Holds lengths count d ts → Within t → w ≡ writeTy t → length w ≤ maxBytes → Holds storedIn (k + 1) (over d (k * maxBytes) w) (t ∷ drop (count - k) ts)
   unfolding slots
   stored ts t h v e n =
       let fits : k * maxBytes + length w ≤ length d = omega (arith, h .room) in
       record {
         room = omega (arith, h .room, length-over d (k * maxBytes) w fits);
+        slotted = rw (length-set lengths k (length w)) (h .slotted);
         few = omega arith;
         short = λ i less. shorter h n i less;
         bytes = lie h fits;
-        within = (v, All-drop (st .count - k) ts (h .within));
+        within = (v, All-drop (count - k) ts (h .within));
       }
     where
-      shorter : Holds st d ts → length w ≤ maxBytes → (i : ℕ) → i < k + 1 → getD (set (st .lengths) k (length w)) i 0 ≤ maxBytes
+      shorter : Holds lengths count d ts → length w ≤ maxBytes → (i : ℕ) → i < k + 1 → getD storedIn i 0 ≤ maxBytes
       shorter h n i less =
           let q : i ≤ k = omega arith in
           ⊎-elim
-          (λ x. rw (x, getD-set-same (st .lengths) k (length w) 0 (omega arith)) n)
-          (λ x. rw (getD-set-other (st .lengths) k i (length w) 0 (λ y. omega arith)) (h .short i (omega arith)))
+          (λ x. rw (x, getD-set-same lengths k (length w) 0 (omega (arith, h .slotted))) n)
+          (λ x. rw (getD-set-other lengths k i (length w) 0 (λ y. omega arith)) (h .short i (omega arith)))
           (eq-or-lt-of-le q)
 
-      lie : Holds st d ts → k * maxBytes + length w ≤ length d → slots (set (st .lengths) k (length w)) (over d (k * maxBytes) w) (k + 1) ≡ map writeTy (t ∷ drop (st .count - k) ts)
+      lie : Holds lengths count d ts → k * maxBytes + length w ≤ length d → slots storedIn (over d (k * maxBytes) w) (k + 1) ≡ map writeTy (t ∷ drop (count - k) ts)
       lie h fits =
           let one : k + 1 ≡ suc k = add-one k in
-          let here : slotOf (set (st .lengths) k (length w)) (over d (k * maxBytes) w) k ≡ writeTy t = rw (getD-set-same (st .lengths) k (length w) 0 (omega arith)) (part-here d w (k * maxBytes) fits ∙ e) in
-          let lower : slots (set (st .lengths) k (length w)) (over d (k * maxBytes) w) k ≡ slots (st .lengths) d k =
-          slots-same (st .lengths) (set (st .lengths) k (length w)) d (over d (k * maxBytes) w) k λ i less.
-          rw (getD-set-other (st .lengths) k i (length w) 0 (λ y. omega arith)) (part-before d w (k * maxBytes) fits (i * maxBytes) (getD (st .lengths) i 0) (omega (arith, h .short i (omega arith)))) in
-          rw (one, here, lower, slots-lower (st .lengths) d k (st .count - k) (st .count) ts (omega arith) (h .bytes))
+          let here : slotOf storedIn (over d (k * maxBytes) w) k ≡ writeTy t = rw (getD-set-same lengths k (length w) 0 (omega (arith, h .slotted))) (part-here d w (k * maxBytes) fits ∙ e) in
+          let lower : slots storedIn (over d (k * maxBytes) w) k ≡ slots lengths d k =
+          slots-same lengths storedIn d (over d (k * maxBytes) w) k λ i less.
+          rw (getD-set-other lengths k i (length w) 0 (λ y. omega arith)) (part-before d w (k * maxBytes) fits (i * maxBytes) (getD lengths i 0) (omega (arith, h .short i (omega arith)))) in
+          rw (one, here, lower, slots-lower lengths d k (count - k) count ts (omega arith) (h .bytes))

@@ -1,6 +1,5 @@
 // What becomes of the scratch in the end: the types left go to the result, and its bytes become zero.
 use crate::SCRATCH_BYTES;
-use crate::Slots;
 use crate::load;
 use lent::Written;
 use lent::lay;
@@ -19,43 +18,43 @@ ghost use Rattle.stack.specs.Stack.{Holds, HasTypes};
 ghost use Rattle.stack.specs.Laid.{laid};
 
 // The types, bottom first, to the front of the result.
-pub fn write_types(st: Slots, scratch: &[u8], result: &mut [u8]) -> Written
-    requires { ⌜ HasTypes st (now scratch) ⌝ }
-    ensures { λ r. ⌜ ((ts : List Ty) → Holds st (now (scratch .entry)) ts → delivered r (now (result .exit)) ≡ deliver (accepted (writeTypes (reverse ts))) (now (result .entry))) ⌝ }
+pub fn write_types(count: usize, lengths: &[usize], scratch: &[u8], result: &mut [u8]) -> Written
+    requires { ⌜ HasTypes (now lengths) count (now scratch) ⌝ }
+    ensures { λ r. ⌜ ((ts : List Ty) → Holds (now (lengths .entry)) count (now (scratch .entry)) ts → delivered r (now (result .exit)) ≡ deliver (accepted (writeTypes (reverse ts))) (now (result .entry))) ⌝ }
 {
-    let size = total(st);
+    let size = total(count, lengths);
     if result.len() < size {
         return Written::Refused {
             number: TOO_SHORT,
             place: 0,
         };
     }
-    lay_types(st, scratch, &mut *result);
+    lay_types(count, lengths, scratch, &mut *result);
     Written::Wrote(size)
 }
 
 // The bytes of all types.
-fn total(st: Slots) -> usize
-    requires { ⌜ ((d : List ℕ) × HasTypes st d) ⌝ }
-    ensures { λ r. ⌜ ((d : List ℕ) → HasTypes st d → r ≡ length (laid (st .lengths) d (st .count))) ⌝ }
+fn total(count: usize, lengths: &[usize]) -> usize
+    requires { ⌜ ((d : List ℕ) × HasTypes (now lengths) count d) ⌝ }
+    ensures { λ r. ⌜ ((d : List ℕ) → HasTypes (now (lengths .entry)) count d → r ≡ length (laid (now (lengths .entry)) d count)) ⌝ }
 {
     let mut size = 0;
     let mut k = 0;
-    while k < st.count {
-        size += st.lengths[k];
+    while k < count {
+        size += lengths[k];
         k += 1;
     }
     size
 }
 
-fn lay_types(st: Slots, scratch: &[u8], result: &mut [u8])
-    requires { ⌜ HasTypes st (now scratch) × (length (laid (st .lengths) (now scratch) (st .count)) ≤ length (now result)) ⌝ }
-    ensures { λ _. ⌜ now (result .exit) ≡ over (now (result .entry)) 0 (laid (st .lengths) (now (scratch .entry)) (st .count)) ⌝ }
+fn lay_types(count: usize, lengths: &[usize], scratch: &[u8], result: &mut [u8])
+    requires { ⌜ HasTypes (now lengths) count (now scratch) × (length (laid (now lengths) (now scratch) count) ≤ length (now result)) ⌝ }
+    ensures { λ _. ⌜ now (result .exit) ≡ over (now (result .entry)) 0 (laid (now (lengths .entry)) (now (scratch .entry)) count) ⌝ }
 {
     let mut at = 0;
     let mut k = 0;
-    while k < st.count {
-        let from = load(st, k);
+    while k < count {
+        let from = load(lengths, k);
         let start = from.start;
         let end = from.end;
         lay(&scratch[start..end], &mut *result, at);

@@ -1,6 +1,3 @@
-use mathlib.Core.Path.{_≡_}
-use native.Mathlib.Omega.{arith}
-use lib.ListN.{length}
 use Rattle.stack.specs.StackLaws.{stored}
 use borrow.Author.Needs.{needs}
 use Rattle.stack.proofs.store.Statement.{statement}
@@ -9,34 +6,42 @@ use Rattle.stack.proofs.store.Reads as reads
 use Rattle.stack.proofs.store.Lts as lts
 use Rattle.lent.proofs.lay.Reads as lay-reads
 
--- src/lib.rt:63:28
+-- src/lib.rt:51:28
 mul-lay : tie.Need-mul-lay
 mul-lay c = search needs
 
--- src/lib.rt:63:5
+-- src/lib.rt:51:5
 lay-requires : tie.Need-lay-requires
 lay-requires c κs = search needs
 
--- src/lib.rt:65:5
-mul-r : tie.Need-mul-r
-mul-r c = search needs
+-- src/lib.rt:52:5
+mul-lengths : tie.Need-mul-lengths
+mul-lengths c = search needs
 
--- src/lib.rt:65:5
-element-write-r : tie.Need-element-write-r
-element-write-r c = search needs
+-- src/lib.rt:52:5
+slice-write-lengths : tie.Need-slice-write-lengths
+slice-write-lengths c = search needs
 
--- src/lib.rt:66:15
-add-r : tie.Need-add-r
-add-r c = search needs
-
--- src/lib.rt:59:1
+-- src/lib.rt:47:1
 same-length : tie.Need-same-length
 same-length c = search needs
 
--- src/lib.rt:59:1
+-- src/lib.rt:47:1
+same-length-2 : tie.Need-same-length-2
+same-length-2 c = search needs
+
+-- src/lib.rt:47:1
 returns : tie.Need-returns
-returns c = let held : length (c .before .before .before .before .before .before .args .st .lengths) ≡ 8 = search needs in λ ts t h v e. rw (c .before .before .lay .ensures) (stored (c .before .before .before .before .before .before .args .st) (c .before .before .before .before .before .before .args .scratch .now) (c .before .before .before .before .before .before .args .k) (c .before .before .before .before .before .before .args .ty .now) (c .before .before .before .before .before .before .pre .0) (c .before .before .before .before .before .before .pre .1) held ts t h v e (c .before .before .before .before .before .before .pre .2))
+returns c = λ count ts t there h v e. rw (c .before .before .lay .ensures) (stored (c .before .before .before .before .before .before .before .args .lengths .now) count (c .before .before .before .before .before .before .before .args .scratch .now) (c .before .before .before .before .before .before .before .args .k) (c .before .before .before .before .before .before .before .args .ty .now) (c .before .before .before .before .before .before .before .pre .0) there ts t h v e (c .before .before .before .before .before .before .before .pre .1))
 
 pub store-spec : {M : Type 1} → statement M
 store-spec =
-    tie.close (tie.spec mul-lay lay-requires mul-r element-write-r add-r same-length returns)
+    tie.close
+    (tie.spec
+    mul-lay
+    lay-requires
+    mul-lengths
+    slice-write-lengths
+    same-length
+    same-length-2
+    returns)

@@ -14,15 +14,15 @@ use Rattle.run.proofs.sheet.hand_over.Reads as reads
 use Rattle.run.proofs.sheet.hand_over.Lts as lts
 use Rattle.stack.proofs.write_types.Reads as write-types-reads
 
--- src/sheet.rt:97:11
+-- src/sheet.rt:103:11
 write-types-requires : tie.Need-write-types-requires
 write-types-requires c κs = search needs
 
--- src/sheet.rt:98:24
+-- src/sheet.rt:104:24
 enum-known-n : tie.Need-enum-known-n
 enum-known-n c = search needs
 
--- src/sheet.rt:102:28
+-- src/sheet.rt:108:28
 enum-known-number : tie.Need-enum-known-number
 enum-known-number c = search needs
 
@@ -32,7 +32,7 @@ same-length c = search needs
 
 -- src/sheet.rt:93:1
 returns : tie.Need-returns
-returns c = λ ts h. let c₁ = holds-count (c .before .before .before .before .before .before .before .before .before .args .st) (c .before .before .before .before .before .before .before .before .before .args .scratch .now) h in let c₂ = length-reverse ts in let e : length (reverse ts) ≡ c .before .before .before .before .before .before .before .before .before .args .st .count = c₂ ∙ c₁ in rw (← e) (handed-over (c .before .before .before .before .before .before .before .before .before .args .size) (reverse ts) (c .before .before .before .before .before .before .before .before .before .args .result .now) (c .before .before .before .before .before .write-types .last .1 .1 .0) [] (sym (ap (λ r. delivered r (c .before .before .before .before .before .write-types .last .1 .1 .0)) (c .before .n .given .1)) ∙ c .before .before .before .before .before .write-types .ensures ts h))
+returns c = λ ts h. let c₁ = holds-count (c .before .before .before .before .before .before .before .before .before .before .args .lengths .now) (c .before .before .before .before .before .before .before .before .before .before .args .count) (c .before .before .before .before .before .before .before .before .before .before .args .scratch .now) h in let c₂ = length-reverse ts in let e : length (reverse ts) ≡ c .before .before .before .before .before .before .before .before .before .before .args .count = c₂ ∙ c₁ in rw (← e) (handed-over (c .before .before .before .before .before .before .before .before .before .before .args .size) (reverse ts) (c .before .before .before .before .before .before .before .before .before .before .args .result .now) (c .before .before .before .before .before .write-types .last .1 .1 .1 .0) [] (sym (ap (λ r. delivered r (c .before .before .before .before .before .write-types .last .1 .1 .1 .0)) (c .before .n .given .1)) ∙ c .before .before .before .before .before .write-types .ensures ts h))
 
 -- src/sheet.rt:93:1
 same-length-2 : tie.Need-same-length-2
@@ -40,7 +40,7 @@ same-length-2 c = search needs
 
 -- src/sheet.rt:93:1
 returns-2 : tie.Need-returns-2
-returns-2 c = λ ts h. not-handed (c .before .before .before .before .before .before .before .before .before .args .size) (reverse ts) (c .before .before .before .before .before .before .before .before .before .args .result .now) (c .before .before .before .before .before .write-types .last .1 .1 .0) [] (sym (ap (λ r. delivered r (c .before .before .before .before .before .write-types .last .1 .1 .0)) (c .before .number .given .1)) ∙ c .before .before .before .before .before .write-types .ensures ts h)
+returns-2 c = λ ts h. not-handed (c .before .before .before .before .before .before .before .before .before .before .args .size) (reverse ts) (c .before .before .before .before .before .before .before .before .before .before .args .result .now) (c .before .before .before .before .before .write-types .last .1 .1 .1 .0) [] (sym (ap (λ r. delivered r (c .before .before .before .before .before .write-types .last .1 .1 .1 .0)) (c .before .number .given .1)) ∙ c .before .before .before .before .before .write-types .ensures ts h)
 
 pub hand-over-spec : {M : Type 1} → statement M
 hand-over-spec =

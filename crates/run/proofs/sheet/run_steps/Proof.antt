@@ -4,6 +4,7 @@ use Prim.Native.Nat.{_+_, _-_, _≤_, _<_}
 use mathlib.Core.List.{[]}
 use lib.ListN.{length}
 use Rattle.stack.specs.Stack.{HasTypes}
+use Rattle.stack.specs.StackLaws.{holds-none}
 use Rattle.run.specs.Answers.{Works}
 use Rattle.run.proofs.SheetLaws.{Going, going-over, going-end, going-step, going-stop}
 use borrow.Author.Needs.{needs}
@@ -12,21 +13,16 @@ use Rattle.run.proofs.sheet.run_steps.Tie as tie
 use Rattle.run.proofs.sheet.run_steps.Reads as reads
 use Rattle.run.proofs.sheet.run_steps.Lts as lts
 use Rattle.run.proofs.steps.work_step.Reads as work-step-reads
-use Rattle.stack.proofs.no_types.Reads as no-types-reads
 
 abbrev Inv-loop : tie.InvT-loop
-Inv-loop s scratch₀ work₀ st₀ at₀ left₀ scratch work st at left = (length scratch ≡ length scratch₀) × (length work ≡ length work₀) × Going s st scratch at left
+Inv-loop s lengths₀ scratch₀ work₀ count₀ at₀ left₀ lengths scratch work count at left = (length lengths ≡ length lengths₀) × (length scratch ≡ length scratch₀) × (length work ≡ length work₀) × Going s lengths count scratch at left
 
 abbrev μ-loop : tie.MeasureT-loop
-μ-loop s scratch₀ work₀ st₀ at₀ left₀ scratch work st at left = left
-
--- src/sheet.rt:64:9
-no-types-requires : tie.Need-no-types-requires Inv-loop μ-loop
-no-types-requires c κs = search needs
+μ-loop s lengths₀ scratch₀ work₀ count₀ at₀ left₀ lengths scratch work count at left = left
 
 -- src/sheet.rt:67:5
 loop-holds : tie.Need-loop-holds Inv-loop μ-loop
-loop-holds c = (search needs, search needs, record { types = []; held = c .no-types .ensures (c .before .before .before .before .args .scratch .now) (c .before .before .before .before .pre .0); same = refl })
+loop-holds c = (search needs, search needs, search needs, record { types = []; held = holds-none (c .before .before .before .before .args .lengths .now) (c .before .before .before .before .args .scratch .now) (c .before .before .before .before .pre .0) (c .before .before .before .before .pre .1); same = refl })
 
 -- src/sheet.rt:69:13
 same-length : tie.Need-same-length Inv-loop μ-loop
@@ -37,12 +33,16 @@ same-length-2 : tie.Need-same-length-2 Inv-loop μ-loop
 same-length-2 c = c .before .before .loop .inv .1
 
 -- src/sheet.rt:69:13
+same-length-3 : tie.Need-same-length-3 Inv-loop μ-loop
+same-length-3 c = c .before .before .loop .inv .2
+
+-- src/sheet.rt:69:13
 returns : tie.Need-returns Inv-loop μ-loop
-returns c = going-over (c .before .before .before .before .before .before .before .args .s .now) (c .before .before .loop .inv .2) (c .if1 .taken) (c .before .loop-test .taken)
+returns c = going-over (c .before .before .before .before .before .before .before .args .s .now) (c .before .before .loop .inv .3) (c .if1 .taken) (c .before .loop-test .taken)
 
 -- src/sheet.rt:77:13
 work-step-requires : tie.Need-work-step-requires Inv-loop μ-loop
-work-step-requires c κs = (omega (arith, c .before .before .before .before .loop .inv .1, c .before .before .before .before .before .before .before .before .before .pre .1), record { types = (c .before .before .before .before .loop .inv .2) .types; held = (c .before .before .before .before .loop .inv .2) .held })
+work-step-requires c κs = (omega (arith, c .before .before .before .before .before .loop .inv .2, c .before .before .before .before .before .before .before .before .before .before .pre .2), record { types = (c .before .before .before .before .before .loop .inv .3) .types; held = (c .before .before .before .before .before .loop .inv .3) .held })
 
 -- src/sheet.rt:79:25
 enum-known-answer : tie.Need-enum-known-answer Inv-loop μ-loop
@@ -53,16 +53,20 @@ enum-told : tie.Need-enum-told Inv-loop μ-loop
 enum-told c = search needs
 
 -- src/sheet.rt:80:13
-same-length-3 : tie.Need-same-length-3 Inv-loop μ-loop
-same-length-3 c = c .before .before .before .before .before .before .work-step .kept .1 .1 .1 .0 ∙ c .before .before .before .before .before .before .before .before .before .before .before .loop .inv .0
+same-length-4 : tie.Need-same-length-4 Inv-loop μ-loop
+same-length-4 c = c .before .before .before .before .before .before .before .before .work-step .kept .1 .1 .1 .0 ∙ c .before .before .before .before .before .before .before .before .before .before .before .before .before .before .loop .inv .0
 
 -- src/sheet.rt:80:13
-same-length-4 : tie.Need-same-length-4 Inv-loop μ-loop
-same-length-4 c = c .before .before .before .before .before .before .work-step .kept .1 .1 .1 .1 .0 ∙ c .before .before .before .before .before .before .before .before .before .before .before .loop .inv .1
+same-length-5 : tie.Need-same-length-5 Inv-loop μ-loop
+same-length-5 c = c .before .before .before .before .before .before .before .before .work-step .kept .1 .1 .1 .1 .0 ∙ c .before .before .before .before .before .before .before .before .before .before .before .before .before .before .loop .inv .1
+
+-- src/sheet.rt:80:13
+same-length-6 : tie.Need-same-length-6 Inv-loop μ-loop
+same-length-6 c = c .before .before .before .before .before .before .before .before .work-step .kept .1 .1 .1 .1 .1 .0 ∙ c .before .before .before .before .before .before .before .before .before .before .before .before .before .before .loop .inv .2
 
 -- src/sheet.rt:80:13
 returns-2 : tie.Need-returns-2 Inv-loop μ-loop
-returns-2 c = going-stop (c .before .before .before .before .before .before .before .before .before .before .before .before .before .before .before .before .args .s .now) (c .before .before .before .before .before .before .work-step .result .answer) (c .before .before .before .before .before .before .work-step .result .st) _ (c .before .before .before .before .before .before .before .before .before .before .before .loop .inv .2) (c .before .before .before .before .before .before .before .before .before .if1 .left) (c .before .before .before .before .before .before .before .before .before .before .loop-test .taken) (c .before .before .before .before .before .before .work-step .ensures ((c .before .before .before .before .before .before .before .before .before .before .before .loop .inv .2) .types) ((c .before .before .before .before .before .before .before .before .before .before .before .loop .inv .2) .held)) (c .enum-told .given .1)
+returns-2 c = going-stop (c .before .before .before .before .before .before .before .before .before .before .before .before .before .before .before .before .before .before .before .args .s .now) (c .before .before .before .before .before .before .before .before .work-step .result .answer) _ (c .before .before .before .before .before .before .before .before .work-step .result .count) _ (c .before .before .before .before .before .before .before .before .before .before .before .before .before .before .loop .inv .3) (c .before .before .before .before .before .before .before .before .before .before .before .before .if1 .left) (c .before .before .before .before .before .before .before .before .before .before .before .before .before .loop-test .taken) (c .before .before .before .before .before .before .before .before .work-step .ensures ((c .before .before .before .before .before .before .before .before .before .before .before .before .before .before .loop .inv .3) .types) ((c .before .before .before .before .before .before .before .before .before .before .before .before .before .before .loop .inv .3) .held)) (c .enum-told .given .1)
 
 -- src/sheet.rt:84:9
 sub-left : tie.Need-sub-left Inv-loop μ-loop
@@ -74,19 +78,23 @@ loop-less c = search needs
 
 -- src/sheet.rt:67:5
 loop-again : tie.Need-loop-again Inv-loop μ-loop
-loop-again c = (c .before .before .before .before .before .before .before .before .work-step .kept .1 .1 .1 .0 ∙ c .before .before .before .before .before .before .before .before .before .before .before .before .before .loop .inv .0, c .before .before .before .before .before .before .before .before .work-step .kept .1 .1 .1 .1 .0 ∙ c .before .before .before .before .before .before .before .before .before .before .before .before .before .loop .inv .1, going-step (c .before .before .before .before .before .before .before .before .before .before .before .before .before .before .before .before .before .before .args .s .now) (c .before .before .before .before .before .before .before .before .work-step .result .answer) (c .before .before .before .before .before .before .before .before .before .before .before .before .before .loop .inv .2) (c .before .before .before .before .before .before .before .before .before .before .before .if1 .left) (c .before .before .before .before .before .before .before .before .before .before .before .before .loop-test .taken) (c .before .before .before .before .before .before .before .before .work-step .ensures ((c .before .before .before .before .before .before .before .before .before .before .before .before .before .loop .inv .2) .types) ((c .before .before .before .before .before .before .before .before .before .before .before .before .before .loop .inv .2) .held)) (c .before .before .answer .given .1))
+loop-again c = (c .before .before .before .before .before .before .before .before .before .work-step .kept .1 .1 .1 .0 ∙ c .before .before .before .before .before .before .before .before .before .before .before .before .before .before .before .loop .inv .0, c .before .before .before .before .before .before .before .before .before .work-step .kept .1 .1 .1 .1 .0 ∙ c .before .before .before .before .before .before .before .before .before .before .before .before .before .before .before .loop .inv .1, c .before .before .before .before .before .before .before .before .before .work-step .kept .1 .1 .1 .1 .1 .0 ∙ c .before .before .before .before .before .before .before .before .before .before .before .before .before .before .before .loop .inv .2, going-step (c .before .before .before .before .before .before .before .before .before .before .before .before .before .before .before .before .before .before .before .before .args .s .now) (c .before .before .before .before .before .before .before .before .before .work-step .result .answer) (c .before .before .before .before .before .before .before .before .before .before .before .before .before .before .before .loop .inv .3) (c .before .before .before .before .before .before .before .before .before .before .before .before .before .if1 .left) (c .before .before .before .before .before .before .before .before .before .before .before .before .before .before .loop-test .taken) (c .before .before .before .before .before .before .before .before .before .work-step .ensures ((c .before .before .before .before .before .before .before .before .before .before .before .before .before .before .before .loop .inv .3) .types) ((c .before .before .before .before .before .before .before .before .before .before .before .before .before .before .before .loop .inv .3) .held)) (c .before .answer .given .1))
 
 -- src/sheet.rt:60:1
-same-length-5 : tie.Need-same-length-5 Inv-loop μ-loop
-same-length-5 c = c .before .loop .inv .0
+same-length-7 : tie.Need-same-length-7 Inv-loop μ-loop
+same-length-7 c = c .before .loop .inv .0
 
 -- src/sheet.rt:60:1
-same-length-6 : tie.Need-same-length-6 Inv-loop μ-loop
-same-length-6 c = c .before .loop .inv .1
+same-length-8 : tie.Need-same-length-8 Inv-loop μ-loop
+same-length-8 c = c .before .loop .inv .1
+
+-- src/sheet.rt:60:1
+same-length-9 : tie.Need-same-length-9 Inv-loop μ-loop
+same-length-9 c = c .before .loop .inv .2
 
 -- src/sheet.rt:60:1
 returns-3 : tie.Need-returns-3 Inv-loop μ-loop
-returns-3 c = going-end (c .before .before .before .before .before .before .args .s .now) (c .before .loop .inv .2) (c .loop-test .left)
+returns-3 c = going-end (c .before .before .before .before .before .before .args .s .now) (c .before .loop .inv .3) (c .loop-test .left)
 
 pub run-steps-spec : {M : Type 1} → statement M
 run-steps-spec =
@@ -94,20 +102,22 @@ run-steps-spec =
     (tie.spec
     Inv-loop
     μ-loop
-    no-types-requires
     loop-holds
     same-length
     same-length-2
+    same-length-3
     returns
     work-step-requires
     enum-known-answer
     enum-told
-    same-length-3
     same-length-4
+    same-length-5
+    same-length-6
     returns-2
     sub-left
     loop-less
     loop-again
-    same-length-5
-    same-length-6
+    same-length-7
+    same-length-8
+    same-length-9
     returns-3)

@@ -13,57 +13,57 @@ use Rattle.run.proofs.tops.join_top.Lts as lts
 use Rattle.join.proofs.join_known.Reads as join-known-reads
 use Rattle.stack.proofs.load.Reads as load-reads
 
--- src/tops.rt:46:24
+-- src/tops.rt:47:29
 sub-load : tie.Need-sub-load
 sub-load c = search needs
 
--- src/tops.rt:46:9
+-- src/tops.rt:47:9
 load-requires : tie.Need-load-requires
-load-requires c κs = search needs
+load-requires c κs = (c .before .before .before .args .count, c .before .before .before .args .scratch .now, omega (arith, c .before .before .before .pre .0), c .before .before .before .pre .1)
 
--- src/tops.rt:49:26
+-- src/tops.rt:50:31
 sub-load-2 : tie.Need-sub-load-2
 sub-load-2 c = search needs
 
--- src/tops.rt:49:9
+-- src/tops.rt:50:9
 load-requires-2 : tie.Need-load-requires-2
-load-requires-2 c κs = search needs
+load-requires-2 c κs = (c .before .before .before .before .args .count, c .before .before .before .before .args .scratch .now, omega (arith, c .before .before .before .before .pre .0), c .before .before .before .before .pre .1)
 
--- src/tops.rt:52:16
+-- src/tops.rt:53:16
 sub-join-known : tie.Need-sub-join-known
 sub-join-known c = search needs
 
--- src/tops.rt:52:16
+-- src/tops.rt:53:16
 part-join-known-start : tie.Need-part-join-known-start
 part-join-known-start c = search needs
 
--- src/tops.rt:52:16
+-- src/tops.rt:53:16
 part-join-known-end : tie.Need-part-join-known-end
 part-join-known-end c = search needs
 
--- src/tops.rt:52:38
+-- src/tops.rt:53:38
 sub-join-known-2 : tie.Need-sub-join-known-2
 sub-join-known-2 c = search needs
 
--- src/tops.rt:52:38
+-- src/tops.rt:53:38
 part-join-known-start-2 : tie.Need-part-join-known-start-2
 part-join-known-start-2 c = search needs
 
--- src/tops.rt:52:38
+-- src/tops.rt:53:38
 part-join-known-end-2 : tie.Need-part-join-known-end-2
 part-join-known-end-2 c = search needs
 
--- src/tops.rt:52:5
+-- src/tops.rt:53:5
 join-known-requires : tie.Need-join-known-requires
-join-known-requires c κs = two-held (c .before .before .before .before .before .before .before .before .before .pre .1 .types) (c .before .before .before .before .before .before .before .before .before .pre .1 .held) (c .before .before .before .before .before .before .before .before .before .pre .0) λ t u us e. let hh : Holds (c .before .before .before .before .before .before .before .before .before .args .st) (c .before .before .before .before .before .before .before .before .before .args .scratch .now) (t ∷ u ∷ us) = rw e at (c .before .before .before .before .before .before .before .before .before .pre .1 .held) in rw (held-lone (c .before .before .before .before .before .load .ensures .1 (c .before .before .before .before .before .before .before .before .before .args .scratch .now) ∙ holds-top (c .before .before .before .before .before .before .before .before .before .args .st) (c .before .before .before .before .before .before .before .before .before .args .scratch .now) hh) (hh .within .0), held-lone (c .before .before .before .load2 .ensures .1 (c .before .before .before .before .before .before .before .before .before .args .scratch .now) ∙ holds-below (c .before .before .before .before .before .before .before .before .before .args .st) (c .before .before .before .before .before .before .before .before .before .args .scratch .now) hh) (hh .within .1 .0))
+join-known-requires c κs = two-held (c .before .before .before .before .before .before .before .before .pre .1 .types) (c .before .before .before .before .before .before .before .before .pre .1 .held) (c .before .before .before .before .before .before .before .before .pre .0) λ t u us e. let hh : Holds (c .before .before .before .before .before .before .before .before .args .lengths .now) (c .before .before .before .before .before .before .before .before .args .count) (c .before .before .before .before .before .before .before .before .args .scratch .now) (t ∷ u ∷ us) = rw e at (c .before .before .before .before .before .before .before .before .pre .1 .held) in rw (held-lone (c .before .before .before .before .load .ensures .1 (c .before .before .before .before .before .before .before .before .args .scratch .now) ∙ holds-top (c .before .before .before .before .before .before .before .before .args .lengths .now) (c .before .before .before .before .before .before .before .before .args .count) (c .before .before .before .before .before .before .before .before .args .scratch .now) hh) (hh .within .0), held-lone (c .before .before .before .load2 .ensures .1 (c .before .before .before .before .before .before .before .before .args .scratch .now) ∙ holds-below (c .before .before .before .before .before .before .before .before .args .lengths .now) (c .before .before .before .before .before .before .before .before .args .count) (c .before .before .before .before .before .before .before .before .args .scratch .now) hh) (hh .within .1 .0))
 
--- src/tops.rt:42:1
+-- src/tops.rt:43:1
 same-length : tie.Need-same-length
 same-length c = search needs
 
--- src/tops.rt:42:1
+-- src/tops.rt:43:1
 returns : tie.Need-returns
-returns c = λ t u ts h. c .before .before .join-known .ensures ∙ rw (held-lone (c .before .before .before .before .before .before .before .before .load .ensures .1 (c .before .before .before .before .before .before .before .before .before .before .before .before .args .scratch .now) ∙ holds-top (c .before .before .before .before .before .before .before .before .before .before .before .before .args .st) (c .before .before .before .before .before .before .before .before .before .before .before .before .args .scratch .now) h) (h .within .0), held-lone (c .before .before .before .before .before .before .load2 .ensures .1 (c .before .before .before .before .before .before .before .before .before .before .before .before .args .scratch .now) ∙ holds-below (c .before .before .before .before .before .before .before .before .before .before .before .before .args .st) (c .before .before .before .before .before .before .before .before .before .before .before .before .args .scratch .now) h) (h .within .1 .0))
+returns c = λ t u ts h. c .before .before .join-known .ensures ∙ rw (held-lone (c .before .before .before .before .before .before .before .load .ensures .1 (c .before .before .before .before .before .before .before .before .before .before .before .args .scratch .now) ∙ holds-top (c .before .before .before .before .before .before .before .before .before .before .before .args .lengths .now) (c .before .before .before .before .before .before .before .before .before .before .before .args .count) (c .before .before .before .before .before .before .before .before .before .before .before .args .scratch .now) h) (h .within .0), held-lone (c .before .before .before .before .before .before .load2 .ensures .1 (c .before .before .before .before .before .before .before .before .before .before .before .args .scratch .now) ∙ holds-below (c .before .before .before .before .before .before .before .before .before .before .before .args .lengths .now) (c .before .before .before .before .before .before .before .before .before .before .before .args .count) (c .before .before .before .before .before .before .before .before .before .before .before .args .scratch .now) h) (h .within .1 .0))
 
 pub join-top-spec : {M : Type 1} → statement M
 join-top-spec =

@@ -13,57 +13,57 @@ use Rattle.run.proofs.tops.pervade_top.Lts as lts
 use Rattle.run.proofs.tops.pervade_types.Reads as pervade-types-reads
 use Rattle.stack.proofs.load.Reads as load-reads
 
--- src/tops.rt:66:24
+-- src/tops.rt:68:29
 sub-load : tie.Need-sub-load
 sub-load c = search needs
 
--- src/tops.rt:66:9
+-- src/tops.rt:68:9
 load-requires : tie.Need-load-requires
-load-requires c κs = search needs
+load-requires c κs = (c .before .before .before .args .count, c .before .before .before .args .scratch .now, omega (arith, c .before .before .before .pre .0), c .before .before .before .pre .1)
 
--- src/tops.rt:69:26
+-- src/tops.rt:71:31
 sub-load-2 : tie.Need-sub-load-2
 sub-load-2 c = search needs
 
--- src/tops.rt:69:9
+-- src/tops.rt:71:9
 load-requires-2 : tie.Need-load-requires-2
-load-requires-2 c κs = search needs
+load-requires-2 c κs = (c .before .before .before .before .args .count, c .before .before .before .before .args .scratch .now, omega (arith, c .before .before .before .before .pre .0), c .before .before .before .before .pre .1)
 
--- src/tops.rt:73:9
+-- src/tops.rt:75:9
 sub-pervade-types : tie.Need-sub-pervade-types
 sub-pervade-types c = search needs
 
--- src/tops.rt:73:9
+-- src/tops.rt:75:9
 part-pervade-types-start : tie.Need-part-pervade-types-start
 part-pervade-types-start c = search needs
 
--- src/tops.rt:73:9
+-- src/tops.rt:75:9
 part-pervade-types-end : tie.Need-part-pervade-types-end
 part-pervade-types-end c = search needs
 
--- src/tops.rt:74:9
+-- src/tops.rt:76:9
 sub-pervade-types-2 : tie.Need-sub-pervade-types-2
 sub-pervade-types-2 c = search needs
 
--- src/tops.rt:74:9
+-- src/tops.rt:76:9
 part-pervade-types-start-2 : tie.Need-part-pervade-types-start-2
 part-pervade-types-start-2 c = search needs
 
--- src/tops.rt:74:9
+-- src/tops.rt:76:9
 part-pervade-types-end-2 : tie.Need-part-pervade-types-end-2
 part-pervade-types-end-2 c = search needs
 
--- src/tops.rt:72:5
+-- src/tops.rt:74:5
 pervade-types-requires : tie.Need-pervade-types-requires
-pervade-types-requires c κs = two-held (c .before .before .before .before .before .before .before .before .before .pre .1 .types) (c .before .before .before .before .before .before .before .before .before .pre .1 .held) (c .before .before .before .before .before .before .before .before .before .pre .0) λ t u us e. let hh : Holds (c .before .before .before .before .before .before .before .before .before .args .st) (c .before .before .before .before .before .before .before .before .before .args .scratch .now) (t ∷ u ∷ us) = rw e at (c .before .before .before .before .before .before .before .before .before .pre .1 .held) in rw (held-lone (c .before .before .before .before .before .load .ensures .1 (c .before .before .before .before .before .before .before .before .before .args .scratch .now) ∙ holds-top (c .before .before .before .before .before .before .before .before .before .args .st) (c .before .before .before .before .before .before .before .before .before .args .scratch .now) hh) (hh .within .0), held-lone (c .before .before .before .load2 .ensures .1 (c .before .before .before .before .before .before .before .before .before .args .scratch .now) ∙ holds-below (c .before .before .before .before .before .before .before .before .before .args .st) (c .before .before .before .before .before .before .before .before .before .args .scratch .now) hh) (hh .within .1 .0))
+pervade-types-requires c κs = two-held (c .before .before .before .before .before .before .before .before .pre .1 .types) (c .before .before .before .before .before .before .before .before .pre .1 .held) (c .before .before .before .before .before .before .before .before .pre .0) λ t u us e. let hh : Holds (c .before .before .before .before .before .before .before .before .args .lengths .now) (c .before .before .before .before .before .before .before .before .args .count) (c .before .before .before .before .before .before .before .before .args .scratch .now) (t ∷ u ∷ us) = rw e at (c .before .before .before .before .before .before .before .before .pre .1 .held) in rw (held-lone (c .before .before .before .before .load .ensures .1 (c .before .before .before .before .before .before .before .before .args .scratch .now) ∙ holds-top (c .before .before .before .before .before .before .before .before .args .lengths .now) (c .before .before .before .before .before .before .before .before .args .count) (c .before .before .before .before .before .before .before .before .args .scratch .now) hh) (hh .within .0), held-lone (c .before .before .before .load2 .ensures .1 (c .before .before .before .before .before .before .before .before .args .scratch .now) ∙ holds-below (c .before .before .before .before .before .before .before .before .args .lengths .now) (c .before .before .before .before .before .before .before .before .args .count) (c .before .before .before .before .before .before .before .before .args .scratch .now) hh) (hh .within .1 .0))
 
--- src/tops.rt:56:1
+-- src/tops.rt:57:1
 same-length : tie.Need-same-length
 same-length c = search needs
 
--- src/tops.rt:56:1
+-- src/tops.rt:57:1
 returns : tie.Need-returns
-returns c = λ t u ts h. c .before .before .pervade-types .ensures ∙ rw (held-lone (c .before .before .before .before .before .before .before .before .load .ensures .1 (c .before .before .before .before .before .before .before .before .before .before .before .before .args .scratch .now) ∙ holds-top (c .before .before .before .before .before .before .before .before .before .before .before .before .args .st) (c .before .before .before .before .before .before .before .before .before .before .before .before .args .scratch .now) h) (h .within .0), held-lone (c .before .before .before .before .before .before .load2 .ensures .1 (c .before .before .before .before .before .before .before .before .before .before .before .before .args .scratch .now) ∙ holds-below (c .before .before .before .before .before .before .before .before .before .before .before .before .args .st) (c .before .before .before .before .before .before .before .before .before .before .before .before .args .scratch .now) h) (h .within .1 .0))
+returns c = λ t u ts h. c .before .before .pervade-types .ensures ∙ rw (held-lone (c .before .before .before .before .before .before .before .load .ensures .1 (c .before .before .before .before .before .before .before .before .before .before .before .args .scratch .now) ∙ holds-top (c .before .before .before .before .before .before .before .before .before .before .before .args .lengths .now) (c .before .before .before .before .before .before .before .before .before .before .before .args .count) (c .before .before .before .before .before .before .before .before .before .before .before .args .scratch .now) h) (h .within .0), held-lone (c .before .before .before .before .before .before .load2 .ensures .1 (c .before .before .before .before .before .before .before .before .before .before .before .args .scratch .now) ∙ holds-below (c .before .before .before .before .before .before .before .before .before .before .before .args .lengths .now) (c .before .before .before .before .before .before .before .before .before .before .before .args .count) (c .before .before .before .before .before .before .before .before .before .before .before .args .scratch .now) h) (h .within .1 .0))
 
 pub pervade-top-spec : {M : Type 1} → statement M
 pervade-top-spec =

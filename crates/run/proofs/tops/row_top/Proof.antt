@@ -16,37 +16,37 @@ use Rattle.run.proofs.tops.row_top.Lts as lts
 use Rattle.stack.proofs.load.Reads as load-reads
 use Rattle.ty.proofs.row_known.Reads as row-known-reads
 
--- src/tops.rt:35:24
+-- src/tops.rt:36:29
 sub-load : tie.Need-sub-load
 sub-load c = search needs
 
--- src/tops.rt:35:9
+-- src/tops.rt:36:9
 load-requires : tie.Need-load-requires
-load-requires c κs = search needs
+load-requires c κs = (c .before .before .before .args .count, c .before .before .before .args .scratch .now, omega (arith, c .before .before .before .pre .0), c .before .before .before .pre .1)
 
--- src/tops.rt:38:15
+-- src/tops.rt:39:15
 sub-row-known : tie.Need-sub-row-known
 sub-row-known c = search needs
 
--- src/tops.rt:38:15
+-- src/tops.rt:39:15
 part-row-known-start : tie.Need-part-row-known-start
 part-row-known-start c = search needs
 
--- src/tops.rt:38:15
+-- src/tops.rt:39:15
 part-row-known-end : tie.Need-part-row-known-end
 part-row-known-end c = search needs
 
--- src/tops.rt:38:5
+-- src/tops.rt:39:5
 row-known-requires : tie.Need-row-known-requires
-row-known-requires c κs = one-held (c .before .before .before .before .before .before .pre .1 .types) (c .before .before .before .before .before .before .pre .1 .held) (c .before .before .before .before .before .before .pre .0) λ t us e. let hh : Holds (c .before .before .before .before .before .before .args .st) (c .before .before .before .before .before .before .args .scratch .now) (t ∷ us) = rw e at (c .before .before .before .before .before .before .pre .1 .held) in rw (held-lone (c .before .before .load .ensures .1 (c .before .before .before .before .before .before .args .scratch .now) ∙ holds-top (c .before .before .before .before .before .before .args .st) (c .before .before .before .before .before .before .args .scratch .now) hh) (hh .within .0))
+row-known-requires c κs = one-held (c .before .before .before .before .before .before .pre .1 .types) (c .before .before .before .before .before .before .pre .1 .held) (c .before .before .before .before .before .before .pre .0) λ t us e. let hh : Holds (c .before .before .before .before .before .before .args .lengths .now) (c .before .before .before .before .before .before .args .count) (c .before .before .before .before .before .before .args .scratch .now) (t ∷ us) = rw e at (c .before .before .before .before .before .before .pre .1 .held) in rw (held-lone (c .before .before .load .ensures .1 (c .before .before .before .before .before .before .args .scratch .now) ∙ holds-top (c .before .before .before .before .before .before .args .lengths .now) (c .before .before .before .before .before .before .args .count) (c .before .before .before .before .before .before .args .scratch .now) hh) (hh .within .0))
 
--- src/tops.rt:31:1
+-- src/tops.rt:32:1
 same-length : tie.Need-same-length
 same-length c = search needs
 
--- src/tops.rt:31:1
+-- src/tops.rt:32:1
 returns : tie.Need-returns
-returns c = λ t ts hh. c .before .before .row-known .ensures ∙ rw (held-lone (c .before .before .before .before .before .load .ensures .1 (c .before .before .before .before .before .before .before .before .before .args .scratch .now) ∙ holds-top (c .before .before .before .before .before .before .before .before .before .args .st) (c .before .before .before .before .before .before .before .before .before .args .scratch .now) hh) (hh .within .0))
+returns c = λ t ts hh. c .before .before .row-known .ensures ∙ rw (held-lone (c .before .before .before .before .before .load .ensures .1 (c .before .before .before .before .before .before .before .before .before .args .scratch .now) ∙ holds-top (c .before .before .before .before .before .before .before .before .before .args .lengths .now) (c .before .before .before .before .before .before .before .before .before .args .count) (c .before .before .before .before .before .before .before .before .before .args .scratch .now) hh) (hh .within .0))
 
 pub row-top-spec : {M : Type 1} → statement M
 row-top-spec =

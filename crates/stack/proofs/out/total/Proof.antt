@@ -13,42 +13,42 @@ use Rattle.stack.proofs.out.total.Reads as reads
 use Rattle.stack.proofs.out.total.Lts as lts
 
 abbrev Inv-loop : tie.InvT-loop
-Inv-loop st size₀ k₀ size k = (k ≤ st .count) × (size ≤ 4992 * k) × ((d : List ℕ) → HasTypes st d → size ≡ length (laid (st .lengths) d k))
+Inv-loop count lengths size₀ k₀ size k = (k ≤ count) × (size ≤ 4992 * k) × ((d : List ℕ) → HasTypes lengths count d → size ≡ length (laid lengths d k))
 
 abbrev μ-loop : tie.MeasureT-loop
-μ-loop st size₀ k₀ size k = st .count - k
+μ-loop count lengths size₀ k₀ size k = count - k
 
--- src/out.rt:44:5
+-- src/out.rt:43:5
 loop-holds : tie.Need-loop-holds Inv-loop μ-loop
-loop-holds c = (search needs, search needs, λ d h. sym (laid-none (c .args .t1) d))
+loop-holds c = (search needs, search needs, λ d h. sym (laid-none (c .args .lengths .now) d))
 
--- src/out.rt:45:17
+-- src/out.rt:44:17
 mul-size : tie.Need-mul-size Inv-loop μ-loop
-mul-size c = let short : getD (c .before .before .args .t1 .lengths) (c .before .loop .k) 0 ≤ 4992 = c .before .before .pre .1 .held .short (c .before .loop .k) (c .loop-test .taken) in let few = c .before .before .pre .1 .held .few in search needs
+mul-size c = let short : getD (c .before .before .args .lengths .now) (c .before .loop .k) 0 ≤ 4992 = c .before .before .pre .1 .held .short (c .before .loop .k) (c .loop-test .taken) in let few = c .before .before .pre .1 .held .few in search needs
 
--- src/out.rt:45:17
-element-copy-out-size : tie.Need-element-copy-out-size Inv-loop μ-loop
-element-copy-out-size c = let short : getD (c .before .before .args .t1 .lengths) (c .before .loop .k) 0 ≤ 4992 = c .before .before .pre .1 .held .short (c .before .loop .k) (c .loop-test .taken) in let few = c .before .before .pre .1 .held .few in search needs
+-- src/out.rt:44:17
+shared-slice-read-size : tie.Need-shared-slice-read-size Inv-loop μ-loop
+shared-slice-read-size c = let short : getD (c .before .before .before .args .lengths .now) (c .before .before .loop .k) 0 ≤ 4992 = c .before .before .before .pre .1 .held .short (c .before .before .loop .k) (c .before .loop-test .taken) in let few = c .before .before .before .pre .1 .held .few in search needs
+
+-- src/out.rt:44:9
+add-size : tie.Need-add-size Inv-loop μ-loop
+add-size c = let short : getD (c .before .before .before .args .lengths .now) (c .before .before .loop .k) 0 ≤ 4992 = c .before .before .before .pre .1 .held .short (c .before .before .loop .k) (c .before .loop-test .taken) in let few = c .before .before .before .pre .1 .held .few in search needs
 
 -- src/out.rt:45:9
-add-size : tie.Need-add-size Inv-loop μ-loop
-add-size c = let short : getD (c .before .before .before .args .t1 .lengths) (c .before .before .loop .k) 0 ≤ 4992 = c .before .before .before .pre .1 .held .short (c .before .before .loop .k) (c .before .loop-test .taken) in let few = c .before .before .before .pre .1 .held .few in search needs
-
--- src/out.rt:46:9
 add-k : tie.Need-add-k Inv-loop μ-loop
-add-k c = let short : getD (c .before .before .before .args .t1 .lengths) (c .before .before .loop .k) 0 ≤ 4992 = c .before .before .before .pre .1 .held .short (c .before .before .loop .k) (c .before .loop-test .taken) in let few = c .before .before .before .pre .1 .held .few in search needs
+add-k c = let short : getD (c .before .before .before .args .lengths .now) (c .before .before .loop .k) 0 ≤ 4992 = c .before .before .before .pre .1 .held .short (c .before .before .loop .k) (c .before .loop-test .taken) in let few = c .before .before .before .pre .1 .held .few in search needs
 
--- src/out.rt:44:5
+-- src/out.rt:43:5
 loop-less : tie.Need-loop-less Inv-loop μ-loop
 loop-less c = search needs
 
--- src/out.rt:44:5
+-- src/out.rt:43:5
 loop-again : tie.Need-loop-again Inv-loop μ-loop
-loop-again c = let short : getD (c .before .before .before .args .t1 .lengths) (c .before .before .loop .k) 0 ≤ 4992 = c .before .before .before .pre .1 .held .short (c .before .before .loop .k) (c .before .loop-test .taken) in let few = c .before .before .before .pre .1 .held .few in (omega arith, omega arith, λ d h. ap (λ n. n + getD (c .before .before .before .args .t1 .lengths) (c .before .before .loop .k) 0) (c .before .before .loop .inv .2 d h) ∙ sym (laid-more (c .before .before .before .args .t1) d h (c .before .before .loop .k) (c .before .loop-test .taken)))
+loop-again c = let short : getD (c .before .before .before .args .lengths .now) (c .before .before .loop .k) 0 ≤ 4992 = c .before .before .before .pre .1 .held .short (c .before .before .loop .k) (c .before .loop-test .taken) in let few = c .before .before .before .pre .1 .held .few in (omega arith, omega arith, λ d h. ap (λ n. n + getD (c .before .before .before .args .lengths .now) (c .before .before .loop .k) 0) (c .before .before .loop .inv .2 d h) ∙ sym (laid-more (c .before .before .before .args .lengths .now) (c .before .before .before .args .count) d h (c .before .before .loop .k) (c .before .loop-test .taken)))
 
--- src/out.rt:38:1
+-- src/out.rt:37:1
 returns : tie.Need-returns Inv-loop μ-loop
-returns c = λ d h. let e : c .before .loop .k ≡ c .before .before .args .t1 .count = omega arith in c .before .loop .inv .2 d h ∙ ap (λ k. length (laid (c .before .before .args .t1 .lengths) d k)) e
+returns c = λ d h. let e : c .before .loop .k ≡ c .before .before .args .count = omega arith in c .before .loop .inv .2 d h ∙ ap (λ k. length (laid (c .before .before .args .lengths .now) d k)) e
 
 pub total-spec : {M : Type 1} → statement M
 total-spec =
@@ -58,7 +58,7 @@ total-spec =
     μ-loop
     loop-holds
     mul-size
-    element-copy-out-size
+    shared-slice-read-size
     add-size
     add-k
     loop-less

@@ -1,6 +1,8 @@
 -- What a call's answer and its result buffer say together.
-use Prim.Native.Nat.{ℕ}
+use Prim.Native.Nat.{ℕ, _≤_}
 use mathlib.Core.List.{List}
+use mathlib.Core.Path.{_≡_}
+use lib.ListN.{length, take}
 use Rattle.format.specs.Outcome.{Outcome, accepted, refused, Delivery, delivery}
 use Rattle.lent.specs.declared.Written.{Written}
 use Rattle.lent.specs.declared.Written.the-variants.{Wrote, Refused}
@@ -11,3 +13,8 @@ writtenOf (Refused k p) = refused k p
 
 abbrev pub delivered : Written → List ℕ → Delivery
 delivered r buffer = delivery (writtenOf r) buffer
+
+-- An answer and a buffer whose other bytes are left open: what was written stands at the front.
+abbrev pub Puts : Written → List ℕ → Outcome (List ℕ) → Type 0
+Puts (Wrote n) out o = (o ≡ accepted (take n out)) × (n ≤ length out)
+Puts (Refused k p) out o = o ≡ refused k p

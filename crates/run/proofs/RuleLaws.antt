@@ -19,7 +19,7 @@ use Rattle.format.specs.ReadWrite.{read-write}
 use Rattle.format.specs.WriteRead.{write-read, write-lone}
 use Rattle.format.specs.Suffices.{suffices}
 use Rattle.format.specs.Outcome.{Outcome, accepted, refused, mapped, both, lone, delivery, deliver}
-use Rattle.lent.specs.Written.{delivered}
+use Rattle.lent.specs.Written.{delivered, Puts}
 use Rattle.lent.specs.declared.Written.{Written}
 use Rattle.lent.specs.declared.Written.the-variants.{Wrote, Refused as Unwritten}
 use Rattle.record.specs.Answers.{nothings, answerOf}
@@ -30,7 +30,7 @@ use Rattle.rules.specs.Pervade.{pervade}
 use Rattle.rules.specs.Scalars.{union}
 use Rattle.machine.specs.Run.{pervadeTypes}
 use Rattle.walk.specs.WholeLaws.{both-accepted}
-use Rattle.run.specs.Answers.{Puts, atStart}
+use Rattle.run.specs.Answers.{atStart}
 
 -- ---- what a rule wrote
 

@@ -20,7 +20,7 @@ use Rattle.rules.specs.TypesLaws.{joinTypes-within}
 use Rattle.validation.specs.CheckShape.{unsided}
 use Rattle.validation.specs.Validate.{validate}
 use Rattle.validation.specs.ValidateLaws.{validate-within}
-use Rattle.lent.specs.Written.{delivered}
+use Rattle.lent.specs.Written.{delivered, Puts}
 use Rattle.lent.specs.declared.Written.{Written}
 use Rattle.machine.specs.SheetLimits.{maxStack}
 use Rattle.machine.specs.Steps.{Step, put, row, pervading, join, validating, Opcode, aPut, aRow, aPervading, aJoin, aValidating, takes, leaves, maxFlag, fillsTop, fillsBelow}
@@ -30,7 +30,7 @@ use Rattle.machine.specs.SheetSteps.{work-lacks, work-overfull, work-unread, wo
 use Rattle.machine.specs.StepsWithin.{pervadeTypes-within}
 use Rattle.stack.specs.Stack.{Holds}
 use Rattle.stack.specs.StackLaws.{holds-count}
-use Rattle.run.specs.Answers.{Puts, atStart, Ruled}
+use Rattle.run.specs.Answers.{atStart, Ruled}
 use Rattle.run.proofs.RuleLaws.{delivered-puts}
 
 -- ---- the types on top

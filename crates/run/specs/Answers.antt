@@ -2,14 +2,13 @@
 use Prim.Native.Nat.{ℕ, _≤_, _<_}
 use mathlib.Core.List.{List}
 use mathlib.Core.Path.{_≡_}
-use lib.ListN.{length, take}
 use Rattle.model.specs.Types.{Ty}
 use Rattle.model.specs.Within.{Within}
 use Rattle.format.specs.Reader.{Read, got, stopped}
 use Rattle.format.specs.Records.{writeTy}
 use Rattle.format.specs.Outcome.{Outcome, accepted, refused, mapped}
+use Rattle.lent.specs.Written.{Puts}
 use Rattle.lent.specs.declared.Written.{Written}
-use Rattle.lent.specs.declared.Written.the-variants.{Wrote, Refused as Unwritten}
 use Rattle.machine.specs.SheetLimits.{maxStack}
 use Rattle.machine.specs.Run as rules
 use Rattle.machine.specs.Run.{gives, refuses, Stack}
@@ -35,11 +34,6 @@ Works (Refused k p) lengths count d o = o ≡ stopped k p
 abbrev pub atStart : {A : Type 0} → rules.Answer A → Outcome A
 atStart (gives a) = accepted a
 atStart (refuses k) = refused k 0
-
--- An answer and a buffer whose other bytes are left open: what was written stands at the front.
-abbrev pub Puts : Written → List ℕ → Outcome (List ℕ) → Type 0
-Puts (Wrote n) out o = (o ≡ accepted (take n out)) × (n ≤ length out)
-Puts (Unwritten k p) out o = o ≡ refused k p
 
 -- A rule's outcome of the types above the k lowest, in a buffer.
 pub record Ruled (lengths : List ℕ) (count : ℕ) (d : List ℕ) (k : ℕ) (w : Written) (out : List ℕ) : Type 0 where

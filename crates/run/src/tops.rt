@@ -19,14 +19,14 @@ ghost use Rattle.model.specs.Limits.{maxBytes};
 ghost use Rattle.model.specs.Types.{Ty};
 ghost use Rattle.format.specs.Records.{writeTy};
 ghost use Rattle.format.specs.Outcome.{accepted, deliver, mapped, both, lone};
-ghost use Rattle.lent.specs.Written.{delivered};
+ghost use Rattle.lent.specs.Written.{delivered, Puts};
 ghost use Rattle.record.specs.Answers.{nothings};
 ghost use Rattle.rules.specs.Types.{intoRow, joinTypes};
 ghost use Rattle.validation.specs.CheckShape.{unsided};
 ghost use Rattle.validation.specs.Validate.{validate};
 ghost use Rattle.machine.specs.Run.{Stack, pervadeTypes};
 ghost use Rattle.stack.specs.Stack.{Holds, HasTypes};
-ghost use Rattle.run.specs.Answers.{Puts, atStart};
+ghost use Rattle.run.specs.Answers.{atStart};
 
 // The row of the top.
 pub fn row_top(count: usize, lengths: &[usize], scratch: &[u8], out: &mut [u8]) -> Written

@@ -17,16 +17,16 @@ use Rattle.format.specs.Records.{boxCode, absent, countOf, listOf, listCount, s
 use Rattle.format.specs.WriteRead.{reads-shape, reads-ty, reads-scalar, write-read}
 use Rattle.format.specs.ReadWrite.{Took-ty, took-ty}
 use Rattle.format.specs.Views.{Stands, stands-first, stands-second, stands-byte, stands-within}
-use Rattle.record.specs.Answers.{shapeFor, beside, answerOf}
+use Rattle.record.specs.Answers.{answerOf}
+use Rattle.record.specs.Places.{HasShape}
 use Rattle.record.specs.declared.Answer.{Answer}
 use Rattle.record.specs.declared.Answer.the-variants.{Got, Refused}
-use Rattle.record.specs.declared.DynShape.{DynShape}
 use Rattle.record.proofs.Known.{known, told, got-map, stopped-map}
 use Rattle.rules.specs.Order.{codeOf}
 use Rattle.rules.specs.Types.{copies}
 use Rattle.rules.specs.Views.{formOf, afterForm, kind-within, kind-byte, form-within, form-byte, after-form, is-plain, is-box-any, is-box-all, is-box-def, is-box-def-else}
 use Rattle.validation.specs.FitsLaws.{fits, fits-true, fits-of}
-use Rattle.validate.specs.Places.{Placed, onward, Listed, Counting, SeenPlain, SeenAll, SeenDef}
+use Rattle.validate.specs.Places.{Placed, HasPlaced, onward, Listed, Counting, SeenPlain, SeenAll, SeenDef}
 
 impossible : {A B : Type 0} {a : A} {n k p : ℕ} → got a n ≡ stopped k p → B
 impossible e = let z : _≡_ {A = ℕ} 0 1 = cc in absurd (omega arith)
@@ -42,14 +42,6 @@ module _ {s : List ℕ} {at : ℕ} {p : Shape} {k : Scalar} (placed : Placed s a
 
   whole-read : readType s at ≡ got (ty p k) (at + length (writeShape p ++ writeScalar k))
   whole-read = type-read maxDepth maxTypes (placed .shallow) (placed .few)
-
-  -- ---- its parts
-
-  pub scalar-is : {r : Answer} (d : DynShape) {v n : ℕ} → beside r (shapeFor d) ≡ readShape s at → r ≡ Got v n → n ≡ at + length (writeShape p)
-  scalar-is {r} d {v} {n} e g = let q : got (shapeFor d) n ≡ got p (at + length (writeShape p)) = sym (ap (λ x. beside x (shapeFor d)) g) ∙ e ∙ shape-read in cc
-
-  pub scalar-there : {A : Type 0} {r : Answer} (d : DynShape) {j q : ℕ} → beside r (shapeFor d) ≡ readShape s at → r ≡ Refused j q → A
-  scalar-there {A} {r} d {j} {q} e g = impossible (sym (sym (ap (λ x. beside x (shapeFor d)) g) ∙ e ∙ shape-read))
 
   -- ---- how large it is, and where it ends
 
@@ -218,3 +210,6 @@ module _ {s : List ℕ} {f : Fields} {moves : Bool} {at left types : ℕ} (g : C
       go : (r : Fields) → fieldCount r ≡ left → among f ≡ types + among r → types ≡ among f
       go noFields c x = omega (arith, x)
       go (field p k r) c x = absurd (omega (arith, z))
+
+pub has-shape : {s : List ℕ} {at : ℕ} → HasPlaced s at → HasShape s at
+has-shape {s} {at} h = record { shape = h .shape; next = at + length (writeShape (h .shape)); read = shape-read (h .there) }

@@ -15,7 +15,7 @@ use Rattle.model.specs.Refusals.{wrongScalar, tooMany}
 use Rattle.model.specs.Types.{Dim, static, unknown, Shape, shape, Kind, any, Scalar, plain, boxAny, boxAll, boxDef, Fields, noFields, field, Ty, ty, boxOf, fieldOf, fieldCount, inside, among, below, deepest, types, depth}
 use Rattle.format.specs.Records.{code, boxCode, absent, dimOf, countOf, listOf, writeShape, writeScalar, writeTy}
 use Rattle.format.specs.Outcome.{Outcome, accepted, refused, mapped}
-use Rattle.walk.specs.At.{TypeAt}
+use Rattle.walk.specs.At.{TypeAt, HasType}
 use Rattle.rules.specs.Order.{codeOf}
 use Rattle.rules.specs.Scalars.{supersetCodes, supersetOf}
 use Rattle.rules.specs.Shapes.{anyShape, isAny}
@@ -83,6 +83,9 @@ any-types = refl
 pub type-at : {s : List ℕ} {at : ℕ} {p : Shape} {k : Scalar} → Placed s at p k → TypeAt s at maxDepth (ty p k)
 unfolding writeTy
 type-at h = record { stands = h .stands; records = (h .shaped, h .within); shallow = h .shallow }
+
+pub has-type : {s : List ℕ} {at : ℕ} {p : Shape} {k : Scalar} → Placed s at p k → (d : ℕ) × HasType s at d
+has-type {s} {at} {p} {k} h = (maxDepth, record { type = ty p k; there = type-at h })
 
 module _ (p : Shape) (k : Scalar) {m : Bool} (e : m ≡ isAny p) where
   pub not-any : not m ≡ true → false ≡ whollyAny (ty p k)

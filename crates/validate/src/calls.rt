@@ -20,10 +20,13 @@ use writer::put_shape;
 use writer::shape_length;
 ghost use mathlib.Core.Path.{_≡_};
 ghost use mathlib.Core.List.{_++_};
+ghost use Prim.Native.Nat.{_≤_};
+ghost use lib.ListN.{length};
+ghost use Rattle.model.specs.Limits.{maxBytes};
 ghost use Rattle.format.specs.Records.{writeShape, writeTy};
 ghost use Rattle.format.specs.Outcome.{accepted, deliver, mapped, both, lone};
-ghost use Rattle.lent.specs.Written.{delivered};
-ghost use Rattle.record.specs.Answers.{shapeFor};
+ghost use Rattle.lent.specs.Written.{delivered, Puts};
+ghost use Rattle.record.specs.Answers.{nothings, shapeFor};
 ghost use Rattle.validation.specs.Validate.{validate, checkScalarOnly, checkShapeOnly};
 ghost use Rattle.validate.specs.Answers.{sideOf};
 
@@ -57,9 +60,21 @@ pub fn validate(side: Side, spec: &[u8], ty: &[u8], result: &mut [u8]) -> Writte
         return Written::Refused { number, place };
     }
     let mut out = [0u8; MAX_BYTES];
-    let w = check_type(side, spec, 0, ty, 0, 0, 0, &mut out, 0);
+    let w = validate_known(side, spec, ty, &mut out);
     match w {
-        Wrote::Done { end, types: _ } => hand_over(&out[..end], &mut *result),
+        Written::Wrote(n) => hand_over(&out[..n], &mut *result),
+        Written::Refused { number, place } => Written::Refused { number, place },
+    }
+}
+
+// The same of bytes that are known to be types, to the front of a buffer that holds any type. A refusal says nothing of the buffer.
+pub fn validate_known(side: Side, spec: &[u8], ty: &[u8], out: &mut [u8]) -> Written
+    requires { ⌜ (both nothings (lone (now spec)) (lone (now ty)) ≡ accepted 0) × (maxBytes ≤ length (now out)) ⌝ }
+    ensures { λ r. ⌜ Puts r (now (out .exit)) (both (λ s t. mapped writeTy (validate (sideOf side) s t)) (lone (now (spec .entry))) (lone (now (ty .entry)))) ⌝ }
+{
+    let w = check_type(side, spec, 0, ty, 0, 0, 0, &mut *out, 0);
+    match w {
+        Wrote::Done { end, types: _ } => Written::Wrote(end),
         Wrote::Refused { number } => Written::Refused { number, place: 0 },
     }
 }

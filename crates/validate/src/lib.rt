@@ -11,6 +11,7 @@ mod shapes;
 pub use calls::check_scalar;
 pub use calls::check_shape;
 pub use calls::validate;
+pub use calls::validate_known;
 use record::DynShape;
 
 // The side that a validation is for, or none.

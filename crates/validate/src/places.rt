@@ -7,8 +7,8 @@ use limits::BOX_ANY;
 use limits::MAX_DEPTH;
 use limits::MAX_TYPES;
 use record::Answer;
-use record::read_shape;
 use record::read_type;
+use record::scalar_known;
 use walk::form_at;
 use walk::kind_at;
 ghost use mathlib.Core.Path.{_≡_};
@@ -23,17 +23,10 @@ ghost use Rattle.validate.specs.Places.{Placed, HasPlaced, onward, Liste
 
 // Where the scalar begins.
 pub fn scalar_at(s: &[u8], at: usize) -> usize
+    requires { ⌜ HasPlaced (now s) at ⌝ }
     ensures { λ r. ⌜ ((p : Shape) (k : Scalar) → Placed (now (s .entry)) at p k → r ≡ at + length (writeShape p)) ⌝ }
 {
-    let read = read_shape(s, at);
-    let answer = read.answer;
-    match answer {
-        Answer::Got { value: _, next } => next,
-        Answer::Refused {
-            number: _,
-            place: _,
-        } => at,
-    }
+    scalar_known(s, at)
 }
 
 // How many types it is, itself counted.

@@ -15,7 +15,7 @@ use Rattle.validation.specs.CheckScalar.{inTurn}
 use Rattle.validate.specs.Answers.{sideOf}
 use Rattle.validate.specs.Plans.{scalarOf, sidedOf}
 use Rattle.validate.proofs.CallLaws.{both-refused}
-use Rattle.validate.proofs.PlanLaws.{type-at}
+use Rattle.validate.proofs.PlanLaws.{type-at, has-type}
 use Rattle.validate.proofs.WalkLaws.{roomy-done, laid-behind, scalar-few}
 use Rattle.validate.proofs.WholeLaws.{lones, validated, scalar-checked, type-written, type-not, scalar-written, scalar-not, type-few}
 use borrow.Author.Needs.{needs}
@@ -43,7 +43,7 @@ enum-told : tie.Need-enum-told
 enum-told c = search needs
 
 shape-at-requires : tie.Need-shape-at-requires
-shape-at-requires c κs = search needs
+shape-at-requires c κs = has-type ((lones (c .before .before .before .before .before .before .args .spec .now) (c .before .before .before .before .before .before .args .ty .now) (λ i. omega (arith, c .before .before .before .before .before .shared-slice-known .given i)) (λ i. omega (arith, c .before .before .before .before .shared-slice-known2 .given i)) (sym (c .before .before .read-both .ensures) ∙ ap loneOf (c .enum-told .given .1))) .pair .type-placed)
 
 shape-length-requires : tie.Need-shape-length-requires
 shape-length-requires c κs = search needs

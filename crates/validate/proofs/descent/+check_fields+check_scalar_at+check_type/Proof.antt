@@ -12,7 +12,7 @@ use Rattle.validate.specs.Answers.{sideOf}
 use Rattle.validation.specs.CheckScalar.{inTurn}
 use Rattle.validate.specs.Plans.{Pair, scalarOf, shapeOf, sidedOf, Lists, fieldsOf}
 use Rattle.validate.specs.Walk.{wroteOf, scalarPiece, fieldsPiece, defHead}
-use Rattle.validate.proofs.PlanLaws.{type-at, some-left}
+use Rattle.validate.proofs.PlanLaws.{type-at, has-type, some-left}
 use Rattle.validate.proofs.CopyLaws.{not-refused}
 use Rattle.validate.proofs.WalkLaws.{roomy-more, type-refused, type-clash, type-done, keep-copyable, take-copyable, Pacing, pacing-start, firsts, pacing-few, first-rest, first-types, pacing-pair, pacing-stop, pacing-next, pacing-ended, pacing-rest, pacing-fits, pacing-listable, lists-countable, done-number, checked-clash, checked-fits, roomy-done, laid-behind, scalar-few, plan-refuse, plan-keep, plan-take, plan-inside, plan-pairs, fresh-lists, own-lists, inside-done, pairs-done}
 use Prim.Native.Nat.{ℕ, _<_, _≤_, _+_, _-_, _*_}
@@ -1042,7 +1042,7 @@ check-type-shape-at-requires : (t : ℕ) → check-type-lts.Need-shape-at-requir
   check-scalar-at-below t,
   check-scalar-at.Post,
 ) (check-type-at t) check-type.Post
-check-type-shape-at-requires t c κs = search needs
+check-type-shape-at-requires t c κs = has-type (c .before .before .before .pre .1 .0 .spec-placed)
 
 check-type-shape-at-requires-2 : (t : ℕ) → check-type-lts.Need-shape-at-requires-2 (
   shape-at-reads.Asked,
@@ -1056,7 +1056,7 @@ check-type-shape-at-requires-2 : (t : ℕ) → check-type-lts.Need-shape-at-requ
   check-scalar-at-below t,
   check-scalar-at.Post,
 ) (check-type-at t) check-type.Post
-check-type-shape-at-requires-2 t c κs = search needs
+check-type-shape-at-requires-2 t c κs = has-type (c .before .before .before .before .pre .1 .0 .type-placed)
 
 check-type-check-shapes-requires : (t : ℕ) → check-type-lts.Need-check-shapes-requires (
   shape-at-reads.Asked,

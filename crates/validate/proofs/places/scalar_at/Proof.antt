@@ -1,26 +1,20 @@
-use Rattle.validate.proofs.PlacesLaws.{scalar-is, scalar-there}
-use borrow.Author.Needs.{needs}
+use Prim.Native.Nat.{_+_}
+use lib.ListN.{length}
+use Rattle.format.specs.Records.{writeShape}
+use Rattle.validate.proofs.PlacesLaws.{shape-read, has-shape}
 use Rattle.validate.proofs.places.scalar_at.Statement.{statement}
 use Rattle.validate.proofs.places.scalar_at.Tie as tie
 use Rattle.validate.proofs.places.scalar_at.Reads as reads
 use Rattle.validate.proofs.places.scalar_at.Lts as lts
-use Rattle.record.proofs.read_shape.Reads as read-shape-reads
+use Rattle.record.proofs.scalar_known.Reads as scalar-known-reads
 
-read-shape-requires : tie.Need-read-shape-requires
-read-shape-requires c κs = search needs
+-- src/places.rt:29:5
+scalar-known-requires : tie.Need-scalar-known-requires
+scalar-known-requires c κs = has-shape (c .before .pre)
 
-enum-known-answer : tie.Need-enum-known-answer
-enum-known-answer c = search needs
-
-enum-told : tie.Need-enum-told
-enum-told c = search needs
-
+-- src/places.rt:25:1
 returns : tie.Need-returns
-returns c = λ p k h. scalar-is h (c .before .before .before .read-shape .result .shape) (c .before .before .before .read-shape .ensures) (c .before .answer .given .1)
-
-returns-2 : tie.Need-returns-2
-returns-2 c = λ p k h. scalar-there h (c .before .before .read-shape .result .shape) (c .before .before .read-shape .ensures) (c .enum-told .given .1)
+returns c = λ p k h. c .scalar-known .ensures p (c .before .before .args .at + length (writeShape p)) (shape-read h)
 
 pub scalar-at-spec : {M : Type 1} → statement M
-scalar-at-spec =
-    tie.close (tie.spec read-shape-requires enum-known-answer enum-told returns returns-2)
+scalar-at-spec = tie.close (tie.spec scalar-known-requires returns)

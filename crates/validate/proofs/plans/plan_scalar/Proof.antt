@@ -3,7 +3,7 @@ use native.Mathlib.Omega.{arith}
 use Rattle.model.specs.Types.{ty}
 use Rattle.model.specs.Limits.{maxDepth}
 use Rattle.validate.specs.Plans.{scalarOf}
-use Rattle.validate.proofs.PlanLaws.{as-plain, as-box-any, as-box-all, as-box-def, tested, def-flag, any-shape, type-at, plan-any, plan-plain, plan-box-any, some-left}
+use Rattle.validate.proofs.PlanLaws.{has-type, as-plain, as-box-any, as-box-all, as-box-def, tested, def-flag, any-shape, type-at, plan-any, plan-plain, plan-box-any, some-left}
 use borrow.Author.Needs.{needs}
 use Rattle.validate.proofs.plans.plan_scalar.Statement.{statement}
 use Rattle.validate.proofs.plans.plan_scalar.Tie as tie
@@ -27,7 +27,7 @@ look-requires-2 : tie.Need-look-requires-2
 look-requires-2 c κs = search needs
 
 shape-at-requires : tie.Need-shape-at-requires
-shape-at-requires c κs = search needs
+shape-at-requires c κs = has-type (c .before .before .before .before .pre .type-placed)
 
 wholly-any-requires : tie.Need-wholly-any-requires
 wholly-any-requires c κs = search needs

@@ -10,7 +10,7 @@ use stack::load;
 use ty::Which;
 use ty::row_known;
 use validate::Side;
-use validate::validate;
+use validate::validate_known;
 ghost use mathlib.Core.Path.{_≡_};
 ghost use mathlib.Core.List.{_∷_};
 ghost use Prim.Native.Nat.{_≤_};
@@ -97,7 +97,7 @@ fn pervade_types(a: &[u8], b: &[u8], a_fill: bool, b_fill: bool, out: &mut [u8])
     write_union(shape, a, b, &mut *out)
 }
 
-// The top, validated without side.
+// The top, validated without side by bytes that are known to be a type.
 pub fn validate_top(
     count: usize,
     lengths: &[usize],
@@ -105,11 +105,11 @@ pub fn validate_top(
     spec: &[u8],
     out: &mut [u8],
 ) -> Written
-    requires { ⌜ (1 ≤ count) × (maxBytes ≤ length (now out)) × HasTypes (now lengths) count (now scratch) ⌝ }
+    requires { ⌜ (1 ≤ count) × (maxBytes ≤ length (now out)) × HasTypes (now lengths) count (now scratch) × ((s : Ty) × (lone (now spec) ≡ accepted s)) ⌝ }
     ensures { λ r. ⌜ ((s t : Ty) (ts : Stack) → Holds (now (lengths .entry)) count (now (scratch .entry)) (t ∷ ts) → lone (now (spec .entry)) ≡ accepted s → Puts r (now (out .exit)) (mapped writeTy (validate unsided s t))) ⌝ }
 {
     let top = load(lengths, count - 1);
     let start = top.start;
     let end = top.end;
-    validate(Side::Unsided, spec, &scratch[start..end], &mut *out)
+    validate_known(Side::Unsided, spec, &scratch[start..end], &mut *out)
 }

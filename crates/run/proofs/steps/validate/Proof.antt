@@ -55,7 +55,7 @@ part-validate-top-end c = let there : (c .before .before .before .before .before
 
 -- src/steps.rt:200:17
 validate-top-requires : tie.Need-validate-top-requires
-validate-top-requires c κs = search needs
+validate-top-requires c κs = let there : (c .before .before .before .before .before .before .before .before .before .before .before .before .before .args .at) + 2 ≤ length (c .before .before .before .before .before .before .before .before .before .before .before .before .before .args .s .now) = mark-there (c .before .before .before .before .before .before .before .before .before .before .before .before .before .args .s .now) (c .before .before .before .before .before .before .before .before .before .before .before .before .before .args .at) (c .before .before .before .before .before .before .before .before .before .before .before .before .before .pre .0) in type-read (c .before .before .before .before .before .before .before .before .before .before .before .before .before .args .s .now) ((c .before .before .before .before .before .before .before .before .before .before .before .before .before .args .at) + 2) (c .before .before .before .before .before .before .before .read-type .ensures) (λ i. omega (arith, c .before .before .before .before .before .before .before .before .before .before .before .before .shared-slice-known .given i)) (c .before .before .before .before .before .read .given .1) there λ spec read x. (omega (arith, c .before .before .before .before .before .before .before .before .if1 .left), c .before .before .before .before .before .before .before .before .before .before .before .before .before .pre .1, c .before .before .before .before .before .before .before .before .before .before .before .before .before .pre .2, (spec, held-lone (x .bytes) (x .within)))
 
 -- src/steps.rt:201:13
 lay-down-requires : tie.Need-lay-down-requires

@@ -9,20 +9,21 @@ use lib.ListN.{length, getD, drop, length-append}
 use lib.Dec.{eqb}
 use borrow.Author.Tests.{ne-eqb}
 use Rattle.model.specs.Limits.{maxName, maxTypes, maxDepth}
-use Rattle.model.specs.Types.{Shape, Scalar, boxAny, boxAll, boxDef, Fields, noFields, field, fieldCount, Ty, ty, types, depth, inside, among, below, deepest}
+use Rattle.model.specs.Types.{Dim, Shape, shape, Scalar, boxAny, boxAll, boxDef, Fields, noFields, field, fieldCount, Ty, ty, types, depth, inside, among, below, deepest}
 use Rattle.model.specs.Within.{Each, NameWithin, ScalarWithin, FieldsWithin, Within}
 use Rattle.format.specs.Reader.{Read, got, stopped, mapRead}
 use Rattle.format.specs.ReaderLaws.{Bytes, reads-here}
 use Rattle.format.specs.Records.{boxCode, absent, countOf, listOf, listCount, shapeFrom, readShape, readTy, readType, writeShape, writeScalar, writeFields, writeTy}
 use Rattle.format.specs.WriteRead.{reads-shape, reads-ty, reads-scalar, write-read}
 use Rattle.format.specs.ReadWrite.{Took-ty, took-ty}
-use Rattle.format.specs.Views.{Stands, stands-first, stands-second, stands-byte, stands-within}
+use Rattle.format.specs.Views.{Stands, stands-first, stands-second, stands-byte, stands-nth, stands-within}
 use Rattle.record.specs.Answers.{answerOf}
 use Rattle.record.specs.Places.{HasShape}
 use Rattle.record.specs.declared.Answer.{Answer}
 use Rattle.record.specs.declared.Answer.the-variants.{Got, Refused}
 use Rattle.record.proofs.Known.{known, told, got-map, stopped-map}
 use Rattle.rules.specs.Order.{codeOf}
+use Rattle.rules.specs.Shapes.{isAny}
 use Rattle.rules.specs.Types.{copies}
 use Rattle.rules.specs.Views.{formOf, afterForm, kind-within, kind-byte, form-within, form-byte, after-form, is-plain, is-box-any, is-box-all, is-box-def, is-box-def-else}
 use Rattle.validation.specs.FitsLaws.{fits, fits-true, fits-of}
@@ -213,3 +214,37 @@ module _ {s : List ℕ} {f : Fields} {moves : Bool} {at left types : ℕ} (g : C
 
 pub has-shape : {s : List ℕ} {at : ℕ} → HasPlaced s at → HasShape s at
 has-shape {s} {at} h = record { shape = h .shape; next = at + length (writeShape (h .shape)); read = shape-read (h .there) }
+
+-- ---- the counts of its shape's record
+
+record Counts (s : List ℕ) (at : ℕ) (o : List Dim) (c : Option (List Dim)) : Type 0 where
+  inside : at + 4 ≤ length s
+  opening : getD s (at + 2) 0 ≡ length o
+  closing : getD s (at + 3) 0 ≡ countOf c
+
+counts-are : {s : List ℕ} {at : ℕ} (o : List Dim) (c : Option (List Dim)) {k : Scalar} → Placed s at (shape o c) k → Counts s at o c
+unfolding writeShape
+counts-are {s} {at} o c {k} h =
+    let st = stands-first s at (writeShape (shape o c)) (writeScalar k) (h .stands) in
+    let within = stands-within s at (writeShape (shape o c)) (omega arith) st in
+    record {
+      inside = omega (arith, within);
+      opening = stands-nth s at (writeShape (shape o c)) 2 (omega arith) st;
+      closing = stands-nth s at (writeShape (shape o c)) 3 (omega arith) st;
+    }
+
+module _ {s : List ℕ} {at : ℕ} {k : Scalar} where
+  pub counts-inside : (p : Shape) → Placed s at p k → at + 4 ≤ length s
+  counts-inside (shape o c) h = counts-are o c h .inside
+
+  pub any-opened : (getD s (at + 2) 0 ≡ 0 → ⊥) → (p : Shape) → Placed s at p k → false ≡ isAny p
+  unfolding isAny
+  any-opened e (shape [] c) h = absurd (e (counts-are [] c h .opening))
+  any-opened e (shape (d ∷ o) c) h = refl
+
+  pub any-closing : getD s (at + 2) 0 ≡ 0 → (p : Shape) → Placed s at p k → eqb (getD s (at + 3) 0) 0 ≡ isAny p
+  unfolding isAny
+  any-closing e (shape [] none) h = rw (counts-are [] none h .closing)
+  any-closing e (shape [] (some [])) h = rw (counts-are [] (some []) h .closing)
+  any-closing e (shape [] (some (d ∷ c))) h = rw (counts-are [] (some (d ∷ c)) h .closing) (ne-eqb (suc (length c)) 0 (λ z. omega arith))
+  any-closing e (shape (d ∷ o) c) h = absurd (omega (arith, counts-are (d ∷ o) c h .opening, e))

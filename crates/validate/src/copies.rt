@@ -3,7 +3,7 @@ use crate::Wrote;
 use crate::places::name_length;
 use crate::places::next_type;
 use crate::places::scalar_at;
-use crate::places::types_at;
+use crate::places::span_at;
 use lent::lay;
 ghost use mathlib.Core.Path.{_≡_};
 ghost use mathlib.Core.Bool.{cond};
@@ -27,8 +27,9 @@ pub fn copy_scalar(s: &[u8], at: usize, out: &mut [u8], to: usize) -> Wrote
     ensures { λ r. ⌜ ((p : Shape) (k : Scalar) → Placed (now (s .entry)) at p k → (wroteOf r (now (out .exit)) ≡ accepted (scalarPiece (take to (now (out .entry))) k)) × Roomy r (to + 24)) ⌝ }
 {
     let start = scalar_at(s, at);
-    let end = next_type(s, at, true);
-    let types = types_at(s, at);
+    let span = span_at(s, at);
+    let end = span.end;
+    let types = span.types;
     lay(&s[start..end], &mut *out, to);
     Wrote::Done {
         end: to + (end - start),
@@ -41,8 +42,9 @@ pub fn copy_type(s: &[u8], at: usize, out: &mut [u8], to: usize) -> Wrote
     requires { ⌜ Placeable (now s) at to (length (now out)) ⌝ }
     ensures { λ r. ⌜ ((p : Shape) (k : Scalar) → Placed (now (s .entry)) at p k → (wroteOf r (now (out .exit)) ≡ accepted (typePiece (take to (now (out .entry))) (types.ty p k))) × Roomy r to) ⌝ }
 {
-    let end = next_type(s, at, true);
-    let types = types_at(s, at);
+    let span = span_at(s, at);
+    let end = span.end;
+    let types = span.types;
     lay(&s[at..end], &mut *out, to);
     Wrote::Done {
         end: to + (end - at),

@@ -8,8 +8,9 @@ use crate::copies::copy_fields;
 use crate::copies::copy_scalar;
 use crate::copies::put_box;
 use crate::copies::put_name;
+use crate::places::next_place;
 use crate::places::next_type;
-use crate::places::types_at;
+use crate::places::span_at;
 use crate::places::types_in;
 use crate::plans::plan_scalar;
 use crate::shapes::check_shapes;
@@ -171,7 +172,8 @@ fn check_fields(
                 types: before - others,
             };
         }
-        rest -= types_at(source, j);
+        let span = span_at(source, j);
+        rest -= span.types;
         let w = check_type(
             Side::Unsided,
             spec,
@@ -187,7 +189,7 @@ fn check_fields(
             return w;
         };
         i = next_type(spec, i, moves);
-        j = next_type(source, j, steps);
+        j = next_place(j, span.end, steps);
         end = e;
         before += types;
         left -= 1;

@@ -27,6 +27,12 @@ pub struct Checked {
     pub shape: DynShape,
 }
 
+// How many types a type is, itself counted, and the place after it.
+pub struct Span {
+    pub types: u64,
+    pub end: usize,
+}
+
 // What a type's scalar is, and where what it holds begins: an All box's content; a Def's name, its fields and their count.
 pub enum View {
     Plain {

@@ -1,4 +1,5 @@
 // Types that stand at a place of bytes that were once read: their parts, how large they are, and what comes after them.
+use crate::Span;
 use crate::View;
 use limits::ABSENT;
 use limits::BOX;
@@ -18,6 +19,7 @@ ghost use lib.ListN.{length};
 ghost use lib.Dec.{eqb};
 ghost use Rattle.model.specs.Types.{Shape, Scalar, Fields, fieldCount, inside, among};
 ghost use Rattle.format.specs.Records.{absent, listCount, writeShape};
+ghost use Rattle.rules.specs.Shapes.{isAny};
 ghost use Rattle.validation.specs.FitsLaws.{fits};
 ghost use Rattle.validate.specs.Places.{Placed, HasPlaced, onward, Listed, Countable, Seen};
 
@@ -29,40 +31,55 @@ pub fn scalar_at(s: &[u8], at: usize) -> usize
     scalar_known(s, at)
 }
 
-// How many types it is, itself counted.
-pub fn types_at(s: &[u8], at: usize) -> u64
-    ensures { λ r. ⌜ (r ≤ 32) × ((p : Shape) (k : Scalar) → Placed (now (s .entry)) at p k → r ≡ suc (inside k)) ⌝ }
+// How many types it is, itself counted, and the place after it.
+pub fn span_at(s: &[u8], at: usize) -> Span
+    ensures { λ r. ⌜ (r .types ≤ 32) × ((p : Shape) (k : Scalar) → Placed (now (s .entry)) at p k → (r .types ≡ suc (inside k)) × (r .end ≡ onward true at p k)) ⌝ }
 {
     let answer = read_type(s, at, MAX_DEPTH, MAX_TYPES);
     match answer {
-        Answer::Got { value, next: _ } => {
+        Answer::Got { value, next } => {
             if MAX_TYPES < value {
-                return 0;
+                return Span { types: 0, end: at };
             }
-            MAX_TYPES - value
+            Span {
+                types: MAX_TYPES - value,
+                end: next,
+            }
         }
         Answer::Refused {
             number: _,
             place: _,
-        } => 0,
+        } => Span { types: 0, end: at },
     }
 }
 
-// The place of the next type of its list.
+// The place of the next type of a list, whose types stand one after the other or all at one place.
+pub fn next_place(at: usize, end: usize, moves: bool) -> usize
+    ensures { λ r. ⌜ r ≡ cond moves end at ⌝ }
+{
+    if moves { end } else { at }
+}
+
+// The same, where the type's end is to be found.
 pub fn next_type(s: &[u8], at: usize, moves: bool) -> usize
     ensures { λ r. ⌜ ((p : Shape) (k : Scalar) → Placed (now (s .entry)) at p k → r ≡ onward moves at p k) ⌝ }
 {
     if !moves {
         return at;
     }
-    let answer = read_type(s, at, MAX_DEPTH, MAX_TYPES);
-    match answer {
-        Answer::Got { value: _, next } => next,
-        Answer::Refused {
-            number: _,
-            place: _,
-        } => at,
+    let span = span_at(s, at);
+    span.end
+}
+
+// Whether its shape is [..], by the counts of its record.
+pub fn any_at(s: &[u8], at: usize) -> bool
+    requires { ⌜ HasPlaced (now s) at ⌝ }
+    ensures { λ r. ⌜ ((p : Shape) (k : Scalar) → Placed (now (s .entry)) at p k → r ≡ isAny p) ⌝ }
+{
+    if s[at + 2] != 0 {
+        return false;
     }
+    s[at + 3] == 0
 }
 
 // Whether its scalar keeps to the limits where `others` types stand elsewhere and `above` types around it: read again with
@@ -135,8 +152,9 @@ pub fn types_in(s: &[u8], start: usize, count: u64, moves: bool) -> u64
     let mut types = 0u64;
     let mut left = count;
     while 0 < left {
-        types += types_at(s, at);
-        at = next_type(s, at, moves);
+        let span = span_at(s, at);
+        types += span.types;
+        at = next_place(at, span.end, moves);
         left -= 1;
     }
     types

@@ -1,9 +1,10 @@
 // What a spec's scalar asks of a type's, with nothing written yet. Box contents are left to the walk.
 use crate::Plan;
 use crate::View;
+use crate::places::any_at;
 use crate::places::fits_at;
 use crate::places::look;
-use crate::places::types_at;
+use crate::places::span_at;
 use limits::ABSENT;
 use limits::ANY;
 use limits::BOX;
@@ -14,7 +15,6 @@ use limits::refusal::TOO_MANY;
 use limits::refusal::WRONG_SCALAR;
 use record::DynShape;
 use scalar::superset_codes;
-use shape::is_any;
 use walk::shape_at;
 use writer::size_count;
 ghost use mathlib.Core.Path.{_≡_};
@@ -29,6 +29,7 @@ ghost use Rattle.model.specs.Types as types;
 ghost use Rattle.format.specs.Outcome.{Outcome, accepted, refused};
 ghost use Rattle.record.specs.Answers.{shapeFor};
 ghost use Rattle.rules.specs.Order.{codeOf};
+ghost use Rattle.rules.specs.Shapes.{isAny};
 ghost use Rattle.rules.specs.Types.{whollyAny};
 ghost use Rattle.validation.specs.AsFields.{measured, fieldsFor};
 ghost use Rattle.validation.specs.FitsLaws.{fits};
@@ -52,10 +53,11 @@ fn code_of(v: View) -> u64
     }
 }
 
-fn wholly_any(t: DynShape, v: View) -> bool
-    ensures { λ r. ⌜ ((s : List ℕ) (k : Scalar) → Seen s k v → r ≡ whollyAny (ty (shapeFor t) k)) ⌝ }
+// [..] of Any: whether the shape is [..] is known.
+fn wholly_any(any: bool, v: View) -> bool
+    ensures { λ r. ⌜ ((s : List ℕ) (p : Shape) (k : Scalar) → any ≡ isAny p → Seen s k v → r ≡ whollyAny (ty p k)) ⌝ }
 {
-    if !is_any(t) {
+    if !any {
         return false;
     }
     code_of(v) == ANY
@@ -253,7 +255,7 @@ fn plan_named(
         View::BoxAny => plan_copies(n, 1, above < 7, 0, true, name, fields, count, others),
         View::BoxAll { content } => plan_copies(
             n,
-            types_at(ty, content),
+            span_at(ty, content).types,
             fits_at(ty, content, 0, above + 1),
             content,
             false,
@@ -303,8 +305,7 @@ pub fn plan_scalar(spec: &[u8], i: usize, ty: &[u8], j: usize, others: u64, abov
 {
     let a = look(spec, i);
     let b = look(ty, j);
-    let t = shape_at(ty, j);
-    if wholly_any(t, b) {
+    if wholly_any(any_at(ty, j), b) {
         return take_if(spec, i, others, above);
     }
     match a {
@@ -318,6 +319,7 @@ pub fn plan_scalar(spec: &[u8], i: usize, ty: &[u8], j: usize, others: u64, abov
             count,
         } => {
             if named {
+                let t = shape_at(ty, j);
                 return plan_named(spec, i, name, fields, count, t, ty, b, others, above);
             }
             plan_unnamed(spec, i, name, fields, count, ty, b, others, above)

@@ -1,3 +1,4 @@
+use mathlib.Core.Bool.{cond}
 use mathlib.Core.Path.{_≡_, refl, sym, ap, _∙_}
 use native.Mathlib.Omega.{arith}
 use borrow.Author.Needs.{needs}
@@ -33,7 +34,8 @@ use Rattle.validate.proofs.copies.copy_scalar.Reads as copy-scalar-read
 use Rattle.validate.proofs.copies.put_box.Reads as put-box-reads
 use Rattle.validate.proofs.copies.put_name.Reads as put-name-reads
 use Rattle.validate.proofs.places.next_type.Reads as next-type-reads
-use Rattle.validate.proofs.places.types_at.Reads as types-at-reads
+use Rattle.validate.proofs.places.span_at.Reads as span-at-reads
+use Rattle.validate.proofs.places.next_place.Reads as next-place-reads
 use Rattle.validate.proofs.places.types_in.Reads as types-in-reads
 use Rattle.validate.proofs.plans.plan_scalar.Reads as plan-scalar-reads
 use Rattle.validate.proofs.shapes.check_shapes.Reads as check-shapes-reads
@@ -97,12 +99,14 @@ check-fields-μ-loop spec first limit moves source second count steps others abo
 check-fields-types-in-requires : (t : ℕ) → check-fields-lts.Need-types-in-requires (
   types-in-reads.Asked,
   types-in-reads.Learnt,
-  types-at-reads.Asked,
-  types-at-reads.Learnt,
+  span-at-reads.Asked,
+  span-at-reads.Learnt,
   check-type-below t,
   check-type.Post,
   next-type-reads.Asked,
   next-type-reads.Learnt,
+  next-place-reads.Asked,
+  next-place-reads.Learnt,
   copy-fields-reads.Asked,
   copy-fields-reads.Learnt,
 ) (check-fields-at t) check-fields.Post check-fields-Inv-loop check-fields-μ-loop
@@ -111,40 +115,46 @@ check-fields-types-in-requires t c κs = lists-countable (c .before .before .bef
 check-fields-loop-holds : (t : ℕ) → check-fields-lts.Need-loop-holds (
   types-in-reads.Asked,
   types-in-reads.Learnt,
-  types-at-reads.Asked,
-  types-at-reads.Learnt,
+  span-at-reads.Asked,
+  span-at-reads.Learnt,
   check-type-below t,
   check-type.Post,
   next-type-reads.Asked,
   next-type-reads.Learnt,
+  next-place-reads.Asked,
+  next-place-reads.Learnt,
   copy-fields-reads.Asked,
   copy-fields-reads.Learnt,
 ) (check-fields-at t) check-fields.Post check-fields-Inv-loop check-fields-μ-loop
 check-fields-loop-holds t c = (refl, λ w. pacing-start w (take (c .before .before .before .before .args .to) (c .before .before .before .before .args .out .now)) (c .before .before .before .before .args .to) (c .types-in .ensures (w .type-fields) (w .type-listed) (w .type-count)))
 
-check-fields-sub-t27 : (t : ℕ) → check-fields-lts.Need-sub-t27 (
+check-fields-sub-t28 : (t : ℕ) → check-fields-lts.Need-sub-t28 (
   types-in-reads.Asked,
   types-in-reads.Learnt,
-  types-at-reads.Asked,
-  types-at-reads.Learnt,
+  span-at-reads.Asked,
+  span-at-reads.Learnt,
   check-type-below t,
   check-type.Post,
   next-type-reads.Asked,
   next-type-reads.Learnt,
+  next-place-reads.Asked,
+  next-place-reads.Learnt,
   copy-fields-reads.Asked,
   copy-fields-reads.Learnt,
 ) (check-fields-at t) check-fields.Post check-fields-Inv-loop check-fields-μ-loop
-check-fields-sub-t27 t c = omega (arith, (c .before .before .loop .inv .1 (c .before .before .before .before .before .before .before .pre .1 .0)) .ahead)
+check-fields-sub-t28 t c = omega (arith, (c .before .before .loop .inv .1 (c .before .before .before .before .before .before .before .pre .1 .0)) .ahead)
 
 check-fields-same-length : (t : ℕ) → check-fields-lts.Need-same-length (
   types-in-reads.Asked,
   types-in-reads.Learnt,
-  types-at-reads.Asked,
-  types-at-reads.Learnt,
+  span-at-reads.Asked,
+  span-at-reads.Learnt,
   check-type-below t,
   check-type.Post,
   next-type-reads.Asked,
   next-type-reads.Learnt,
+  next-place-reads.Asked,
+  next-place-reads.Learnt,
   copy-fields-reads.Asked,
   copy-fields-reads.Learnt,
 ) (check-fields-at t) check-fields.Post check-fields-Inv-loop check-fields-μ-loop
@@ -153,82 +163,94 @@ check-fields-same-length t c = c .before .before .loop .inv .0
 check-fields-returns : (t : ℕ) → check-fields-lts.Need-returns (
   types-in-reads.Asked,
   types-in-reads.Learnt,
-  types-at-reads.Asked,
-  types-at-reads.Learnt,
+  span-at-reads.Asked,
+  span-at-reads.Learnt,
   check-type-below t,
   check-type.Post,
   next-type-reads.Asked,
   next-type-reads.Learnt,
+  next-place-reads.Asked,
+  next-place-reads.Learnt,
   copy-fields-reads.Asked,
   copy-fields-reads.Learnt,
 ) (check-fields-at t) check-fields.Post check-fields-Inv-loop check-fields-μ-loop
 check-fields-returns t c = λ w. pacing-ended (c .before .before .loop .out) (c .before .before .loop .inv .1 w) (c .if1 .taken)
 
-check-fields-types-at-requires : (t : ℕ) → check-fields-lts.Need-types-at-requires (
+check-fields-span-at-requires : (t : ℕ) → check-fields-lts.Need-span-at-requires (
   types-in-reads.Asked,
   types-in-reads.Learnt,
-  types-at-reads.Asked,
-  types-at-reads.Learnt,
+  span-at-reads.Asked,
+  span-at-reads.Learnt,
   check-type-below t,
   check-type.Post,
   next-type-reads.Asked,
   next-type-reads.Learnt,
+  next-place-reads.Asked,
+  next-place-reads.Learnt,
   copy-fields-reads.Asked,
   copy-fields-reads.Learnt,
 ) (check-fields-at t) check-fields.Post check-fields-Inv-loop check-fields-μ-loop
-check-fields-types-at-requires t c κs = search needs
+check-fields-span-at-requires t c κs = search needs
 
 check-fields-sub-rest : (t : ℕ) → check-fields-lts.Need-sub-rest (
   types-in-reads.Asked,
   types-in-reads.Learnt,
-  types-at-reads.Asked,
-  types-at-reads.Learnt,
+  span-at-reads.Asked,
+  span-at-reads.Learnt,
   check-type-below t,
   check-type.Post,
   next-type-reads.Asked,
   next-type-reads.Learnt,
+  next-place-reads.Asked,
+  next-place-reads.Learnt,
   copy-fields-reads.Asked,
   copy-fields-reads.Learnt,
 ) (check-fields-at t) check-fields.Post check-fields-Inv-loop check-fields-μ-loop
-check-fields-sub-rest t c = omega (arith, first-types (c .before .before .before .loop .inv .1 (c .before .before .before .before .before .before .before .before .pre .1 .0)) (c .before .before .loop-test .taken) (c .before .if1 .left), (c .types-at .ensures .1 ((firsts (c .before .before .before .loop .inv .1 (c .before .before .before .before .before .before .before .before .pre .1 .0)) (c .before .before .loop-test .taken) (c .before .if1 .left)) .q) ((firsts (c .before .before .before .loop .inv .1 (c .before .before .before .before .before .before .before .before .pre .1 .0)) (c .before .before .loop-test .taken) (c .before .if1 .left)) .l) ((firsts (c .before .before .before .loop .inv .1 (c .before .before .before .before .before .before .before .before .pre .1 .0)) (c .before .before .loop-test .taken) (c .before .if1 .left)) .type-placed)))
+check-fields-sub-rest t c = omega (arith, first-types (c .before .before .before .before .loop .inv .1 (c .before .before .before .before .before .before .before .before .before .pre .1 .0)) (c .before .before .before .loop-test .taken) (c .before .before .if1 .left), (c .before .span-at .ensures .1 ((firsts (c .before .before .before .before .loop .inv .1 (c .before .before .before .before .before .before .before .before .before .pre .1 .0)) (c .before .before .before .loop-test .taken) (c .before .before .if1 .left)) .q) ((firsts (c .before .before .before .before .loop .inv .1 (c .before .before .before .before .before .before .before .before .before .pre .1 .0)) (c .before .before .before .loop-test .taken) (c .before .before .if1 .left)) .l) ((firsts (c .before .before .before .before .loop .inv .1 (c .before .before .before .before .before .before .before .before .before .pre .1 .0)) (c .before .before .before .loop-test .taken) (c .before .before .if1 .left)) .type-placed) .0))
 
 check-fields-add-check-type : (t : ℕ) → check-fields-lts.Need-add-check-type (
   types-in-reads.Asked,
   types-in-reads.Learnt,
-  types-at-reads.Asked,
-  types-at-reads.Learnt,
+  span-at-reads.Asked,
+  span-at-reads.Learnt,
   check-type-below t,
   check-type.Post,
   next-type-reads.Asked,
   next-type-reads.Learnt,
+  next-place-reads.Asked,
+  next-place-reads.Learnt,
   copy-fields-reads.Asked,
   copy-fields-reads.Learnt,
 ) (check-fields-at t) check-fields.Post check-fields-Inv-loop check-fields-μ-loop
-check-fields-add-check-type t c = omega (arith, pacing-few (c .before .before .before .loop .inv .1 (c .before .before .before .before .before .before .before .before .pre .1 .0)))
+check-fields-add-check-type t c = omega (arith, pacing-few (c .before .before .before .before .loop .inv .1 (c .before .before .before .before .before .before .before .before .before .pre .1 .0)))
 
 check-fields-check-type-requires : (t : ℕ) → check-fields-lts.Need-check-type-requires (
   types-in-reads.Asked,
   types-in-reads.Learnt,
-  types-at-reads.Asked,
-  types-at-reads.Learnt,
+  span-at-reads.Asked,
+  span-at-reads.Learnt,
   check-type-below t,
   check-type.Post,
   next-type-reads.Asked,
   next-type-reads.Learnt,
+  next-place-reads.Asked,
+  next-place-reads.Learnt,
   copy-fields-reads.Asked,
   copy-fields-reads.Learnt,
 ) (check-fields-at t) check-fields.Post check-fields-Inv-loop check-fields-μ-loop
-check-fields-check-type-requires t c κs = (omega (arith, c .before .before .before .before .before .before .before .before .before .pre .0), ((pacing-pair (c .before .before .before .before .loop .inv .1 (c .before .before .before .before .before .before .before .before .before .pre .1 .0)) (c .before .before .before .loop-test .taken) (c .before .before .if1 .left) (first-rest (c .before .before .before .before .loop .inv .1 (c .before .before .before .before .before .before .before .before .before .pre .1 .0)) (c .before .before .before .loop-test .taken) (c .before .before .if1 .left) (c .before .types-at .ensures .1 ((firsts (c .before .before .before .before .loop .inv .1 (c .before .before .before .before .before .before .before .before .before .pre .1 .0)) (c .before .before .before .loop-test .taken) (c .before .before .if1 .left)) .q) ((firsts (c .before .before .before .before .loop .inv .1 (c .before .before .before .before .before .before .before .before .before .pre .1 .0)) (c .before .before .before .loop-test .taken) (c .before .before .if1 .left)) .l) ((firsts (c .before .before .before .before .loop .inv .1 (c .before .before .before .before .before .before .before .before .before .pre .1 .0)) (c .before .before .before .loop-test .taken) (c .before .before .if1 .left)) .type-placed)))), omega (arith, (c .before .before .before .before .loop .inv .1 (c .before .before .before .before .before .before .before .before .before .pre .1 .0)) .room, (c .before .before .before .before .loop .inv .1 (c .before .before .before .before .before .before .before .before .before .pre .1 .0)) .ahead, pacing-few (c .before .before .before .before .loop .inv .1 (c .before .before .before .before .before .before .before .before .before .pre .1 .0)), c .before .before .before .before .before .before .before .before .before .pre .1 .1, c .before .before .before .before .loop .inv .0)))
+check-fields-check-type-requires t c κs = (omega (arith, c .before .before .before .before .before .before .before .before .before .before .pre .0), ((pacing-pair (c .before .before .before .before .before .loop .inv .1 (c .before .before .before .before .before .before .before .before .before .before .pre .1 .0)) (c .before .before .before .before .loop-test .taken) (c .before .before .before .if1 .left) (first-rest (c .before .before .before .before .before .loop .inv .1 (c .before .before .before .before .before .before .before .before .before .before .pre .1 .0)) (c .before .before .before .before .loop-test .taken) (c .before .before .before .if1 .left) (c .before .before .span-at .ensures .1 ((firsts (c .before .before .before .before .before .loop .inv .1 (c .before .before .before .before .before .before .before .before .before .before .pre .1 .0)) (c .before .before .before .before .loop-test .taken) (c .before .before .before .if1 .left)) .q) ((firsts (c .before .before .before .before .before .loop .inv .1 (c .before .before .before .before .before .before .before .before .before .before .pre .1 .0)) (c .before .before .before .before .loop-test .taken) (c .before .before .before .if1 .left)) .l) ((firsts (c .before .before .before .before .before .loop .inv .1 (c .before .before .before .before .before .before .before .before .before .before .pre .1 .0)) (c .before .before .before .before .loop-test .taken) (c .before .before .before .if1 .left)) .type-placed) .0))), omega (arith, (c .before .before .before .before .before .loop .inv .1 (c .before .before .before .before .before .before .before .before .before .before .pre .1 .0)) .room, (c .before .before .before .before .before .loop .inv .1 (c .before .before .before .before .before .before .before .before .before .before .pre .1 .0)) .ahead, pacing-few (c .before .before .before .before .before .loop .inv .1 (c .before .before .before .before .before .before .before .before .before .before .pre .1 .0)), c .before .before .before .before .before .before .before .before .before .before .pre .1 .1, c .before .before .before .before .before .loop .inv .0)))
 
 check-fields-enum-known-w : (t : ℕ) → check-fields-lts.Need-enum-known-w (
   types-in-reads.Asked,
   types-in-reads.Learnt,
-  types-at-reads.Asked,
-  types-at-reads.Learnt,
+  span-at-reads.Asked,
+  span-at-reads.Learnt,
   check-type-below t,
   check-type.Post,
   next-type-reads.Asked,
   next-type-reads.Learnt,
+  next-place-reads.Asked,
+  next-place-reads.Learnt,
   copy-fields-reads.Asked,
   copy-fields-reads.Learnt,
 ) (check-fields-at t) check-fields.Post check-fields-Inv-loop check-fields-μ-loop
@@ -237,12 +259,14 @@ check-fields-enum-known-w t c = search needs
 check-fields-enum-told : (t : ℕ) → check-fields-lts.Need-enum-told (
   types-in-reads.Asked,
   types-in-reads.Learnt,
-  types-at-reads.Asked,
-  types-at-reads.Learnt,
+  span-at-reads.Asked,
+  span-at-reads.Learnt,
   check-type-below t,
   check-type.Post,
   next-type-reads.Asked,
   next-type-reads.Learnt,
+  next-place-reads.Asked,
+  next-place-reads.Learnt,
   copy-fields-reads.Asked,
   copy-fields-reads.Learnt,
 ) (check-fields-at t) check-fields.Post check-fields-Inv-loop check-fields-μ-loop
@@ -251,82 +275,94 @@ check-fields-enum-told t c = search needs
 check-fields-same-length-2 : (t : ℕ) → check-fields-lts.Need-same-length-2 (
   types-in-reads.Asked,
   types-in-reads.Learnt,
-  types-at-reads.Asked,
-  types-at-reads.Learnt,
+  span-at-reads.Asked,
+  span-at-reads.Learnt,
   check-type-below t,
   check-type.Post,
   next-type-reads.Asked,
   next-type-reads.Learnt,
+  next-place-reads.Asked,
+  next-place-reads.Learnt,
   copy-fields-reads.Asked,
   copy-fields-reads.Learnt,
 ) (check-fields-at t) check-fields.Post check-fields-Inv-loop check-fields-μ-loop
-check-fields-same-length-2 t c = c .before .before .before .before .check-type .kept .1 .1 .1 .1 .1 .1 .1 .0 ∙ c .before .before .before .before .before .before .before .before .before .loop .inv .0
+check-fields-same-length-2 t c = c .before .before .before .before .check-type .kept .1 .1 .1 .1 .1 .1 .1 .0 ∙ c .before .before .before .before .before .before .before .before .before .before .loop .inv .0
 
 check-fields-returns-2 : (t : ℕ) → check-fields-lts.Need-returns-2 (
   types-in-reads.Asked,
   types-in-reads.Learnt,
-  types-at-reads.Asked,
-  types-at-reads.Learnt,
+  span-at-reads.Asked,
+  span-at-reads.Learnt,
   check-type-below t,
   check-type.Post,
   next-type-reads.Asked,
   next-type-reads.Learnt,
+  next-place-reads.Asked,
+  next-place-reads.Learnt,
   copy-fields-reads.Asked,
   copy-fields-reads.Learnt,
 ) (check-fields-at t) check-fields.Post check-fields-Inv-loop check-fields-μ-loop
-check-fields-returns-2 t c = λ w. pacing-stop (c .before .before .before .before .before .before .before .before .before .loop .inv .1 w) (c .before .before .before .before .before .before .before .before .loop-test .taken) (c .before .before .before .before .before .before .before .if1 .left) (first-rest (c .before .before .before .before .before .before .before .before .before .loop .inv .1 w) (c .before .before .before .before .before .before .before .before .loop-test .taken) (c .before .before .before .before .before .before .before .if1 .left) (c .before .before .before .before .before .before .types-at .ensures .1 ((firsts (c .before .before .before .before .before .before .before .before .before .loop .inv .1 w) (c .before .before .before .before .before .before .before .before .loop-test .taken) (c .before .before .before .before .before .before .before .if1 .left)) .q) ((firsts (c .before .before .before .before .before .before .before .before .before .loop .inv .1 w) (c .before .before .before .before .before .before .before .before .loop-test .taken) (c .before .before .before .before .before .before .before .if1 .left)) .l) ((firsts (c .before .before .before .before .before .before .before .before .before .loop .inv .1 w) (c .before .before .before .before .before .before .before .before .loop-test .taken) (c .before .before .before .before .before .before .before .if1 .left)) .type-placed))) (c .before .before .before .before .check-type .last .1 .1 .1 .1 .1 .1 .1 .0) (c .enum-told .given .1) (c .before .before .before .before .check-type .ensures (pacing-pair (c .before .before .before .before .before .before .before .before .before .loop .inv .1 w) (c .before .before .before .before .before .before .before .before .loop-test .taken) (c .before .before .before .before .before .before .before .if1 .left) (first-rest (c .before .before .before .before .before .before .before .before .before .loop .inv .1 w) (c .before .before .before .before .before .before .before .before .loop-test .taken) (c .before .before .before .before .before .before .before .if1 .left) (c .before .before .before .before .before .before .types-at .ensures .1 ((firsts (c .before .before .before .before .before .before .before .before .before .loop .inv .1 w) (c .before .before .before .before .before .before .before .before .loop-test .taken) (c .before .before .before .before .before .before .before .if1 .left)) .q) ((firsts (c .before .before .before .before .before .before .before .before .before .loop .inv .1 w) (c .before .before .before .before .before .before .before .before .loop-test .taken) (c .before .before .before .before .before .before .before .if1 .left)) .l) ((firsts (c .before .before .before .before .before .before .before .before .before .loop .inv .1 w) (c .before .before .before .before .before .before .before .before .loop-test .taken) (c .before .before .before .before .before .before .before .if1 .left)) .type-placed)))) .0)
+check-fields-returns-2 t c = λ w. pacing-stop (c .before .before .before .before .before .before .before .before .before .before .loop .inv .1 w) (c .before .before .before .before .before .before .before .before .before .loop-test .taken) (c .before .before .before .before .before .before .before .before .if1 .left) (first-rest (c .before .before .before .before .before .before .before .before .before .before .loop .inv .1 w) (c .before .before .before .before .before .before .before .before .before .loop-test .taken) (c .before .before .before .before .before .before .before .before .if1 .left) (c .before .before .before .before .before .before .before .span-at .ensures .1 ((firsts (c .before .before .before .before .before .before .before .before .before .before .loop .inv .1 w) (c .before .before .before .before .before .before .before .before .before .loop-test .taken) (c .before .before .before .before .before .before .before .before .if1 .left)) .q) ((firsts (c .before .before .before .before .before .before .before .before .before .before .loop .inv .1 w) (c .before .before .before .before .before .before .before .before .before .loop-test .taken) (c .before .before .before .before .before .before .before .before .if1 .left)) .l) ((firsts (c .before .before .before .before .before .before .before .before .before .before .loop .inv .1 w) (c .before .before .before .before .before .before .before .before .before .loop-test .taken) (c .before .before .before .before .before .before .before .before .if1 .left)) .type-placed) .0)) (c .before .before .before .before .check-type .last .1 .1 .1 .1 .1 .1 .1 .0) (c .enum-told .given .1) (c .before .before .before .before .check-type .ensures (pacing-pair (c .before .before .before .before .before .before .before .before .before .before .loop .inv .1 w) (c .before .before .before .before .before .before .before .before .before .loop-test .taken) (c .before .before .before .before .before .before .before .before .if1 .left) (first-rest (c .before .before .before .before .before .before .before .before .before .before .loop .inv .1 w) (c .before .before .before .before .before .before .before .before .before .loop-test .taken) (c .before .before .before .before .before .before .before .before .if1 .left) (c .before .before .before .before .before .before .before .span-at .ensures .1 ((firsts (c .before .before .before .before .before .before .before .before .before .before .loop .inv .1 w) (c .before .before .before .before .before .before .before .before .before .loop-test .taken) (c .before .before .before .before .before .before .before .before .if1 .left)) .q) ((firsts (c .before .before .before .before .before .before .before .before .before .before .loop .inv .1 w) (c .before .before .before .before .before .before .before .before .before .loop-test .taken) (c .before .before .before .before .before .before .before .before .if1 .left)) .l) ((firsts (c .before .before .before .before .before .before .before .before .before .before .loop .inv .1 w) (c .before .before .before .before .before .before .before .before .before .loop-test .taken) (c .before .before .before .before .before .before .before .before .if1 .left)) .type-placed) .0))) .0)
 
 check-fields-next-type-requires : (t : ℕ) → check-fields-lts.Need-next-type-requires (
   types-in-reads.Asked,
   types-in-reads.Learnt,
-  types-at-reads.Asked,
-  types-at-reads.Learnt,
+  span-at-reads.Asked,
+  span-at-reads.Learnt,
   check-type-below t,
   check-type.Post,
   next-type-reads.Asked,
   next-type-reads.Learnt,
+  next-place-reads.Asked,
+  next-place-reads.Learnt,
   copy-fields-reads.Asked,
   copy-fields-reads.Learnt,
 ) (check-fields-at t) check-fields.Post check-fields-Inv-loop check-fields-μ-loop
 check-fields-next-type-requires t c κs = search needs
 
-check-fields-next-type-requires-2 : (t : ℕ) → check-fields-lts.Need-next-type-requires-2 (
+check-fields-next-place-requires : (t : ℕ) → check-fields-lts.Need-next-place-requires (
   types-in-reads.Asked,
   types-in-reads.Learnt,
-  types-at-reads.Asked,
-  types-at-reads.Learnt,
+  span-at-reads.Asked,
+  span-at-reads.Learnt,
   check-type-below t,
   check-type.Post,
   next-type-reads.Asked,
   next-type-reads.Learnt,
+  next-place-reads.Asked,
+  next-place-reads.Learnt,
   copy-fields-reads.Asked,
   copy-fields-reads.Learnt,
 ) (check-fields-at t) check-fields.Post check-fields-Inv-loop check-fields-μ-loop
-check-fields-next-type-requires-2 t c κs = search needs
+check-fields-next-place-requires t c κs = search needs
 
 check-fields-add-before : (t : ℕ) → check-fields-lts.Need-add-before (
   types-in-reads.Asked,
   types-in-reads.Learnt,
-  types-at-reads.Asked,
-  types-at-reads.Learnt,
+  span-at-reads.Asked,
+  span-at-reads.Learnt,
   check-type-below t,
   check-type.Post,
   next-type-reads.Asked,
   next-type-reads.Learnt,
+  next-place-reads.Asked,
+  next-place-reads.Learnt,
   copy-fields-reads.Asked,
   copy-fields-reads.Learnt,
 ) (check-fields-at t) check-fields.Post check-fields-Inv-loop check-fields-μ-loop
-check-fields-add-before t c = omega (arith, pacing-few (pacing-next (c .before .before .before .before .before .before .before .before .before .before .before .before .loop .inv .1 (c .before .before .before .before .before .before .before .before .before .before .before .before .before .before .before .before .before .pre .1 .0)) (c .before .before .before .before .before .before .before .before .before .before .before .loop-test .taken) (c .before .before .before .before .before .before .before .before .before .before .if1 .left) (first-rest (c .before .before .before .before .before .before .before .before .before .before .before .before .loop .inv .1 (c .before .before .before .before .before .before .before .before .before .before .before .before .before .before .before .before .before .pre .1 .0)) (c .before .before .before .before .before .before .before .before .before .before .before .loop-test .taken) (c .before .before .before .before .before .before .before .before .before .before .if1 .left) (c .before .before .before .before .before .before .before .before .before .types-at .ensures .1 ((firsts (c .before .before .before .before .before .before .before .before .before .before .before .before .loop .inv .1 (c .before .before .before .before .before .before .before .before .before .before .before .before .before .before .before .before .before .pre .1 .0)) (c .before .before .before .before .before .before .before .before .before .before .before .loop-test .taken) (c .before .before .before .before .before .before .before .before .before .before .if1 .left)) .q) ((firsts (c .before .before .before .before .before .before .before .before .before .before .before .before .loop .inv .1 (c .before .before .before .before .before .before .before .before .before .before .before .before .before .before .before .before .before .pre .1 .0)) (c .before .before .before .before .before .before .before .before .before .before .before .loop-test .taken) (c .before .before .before .before .before .before .before .before .before .before .if1 .left)) .l) ((firsts (c .before .before .before .before .before .before .before .before .before .before .before .before .loop .inv .1 (c .before .before .before .before .before .before .before .before .before .before .before .before .before .before .before .before .before .pre .1 .0)) (c .before .before .before .before .before .before .before .before .before .before .before .loop-test .taken) (c .before .before .before .before .before .before .before .before .before .before .if1 .left)) .type-placed))) (c .before .before .before .before .before .before .before .check-type .last .1 .1 .1 .1 .1 .1 .1 .0) (c .before .before .before .w .given .1) (c .before .before .before .before .before .before .before .check-type .ensures (pacing-pair (c .before .before .before .before .before .before .before .before .before .before .before .before .loop .inv .1 (c .before .before .before .before .before .before .before .before .before .before .before .before .before .before .before .before .before .pre .1 .0)) (c .before .before .before .before .before .before .before .before .before .before .before .loop-test .taken) (c .before .before .before .before .before .before .before .before .before .before .if1 .left) (first-rest (c .before .before .before .before .before .before .before .before .before .before .before .before .loop .inv .1 (c .before .before .before .before .before .before .before .before .before .before .before .before .before .before .before .before .before .pre .1 .0)) (c .before .before .before .before .before .before .before .before .before .before .before .loop-test .taken) (c .before .before .before .before .before .before .before .before .before .before .if1 .left) (c .before .before .before .before .before .before .before .before .before .types-at .ensures .1 ((firsts (c .before .before .before .before .before .before .before .before .before .before .before .before .loop .inv .1 (c .before .before .before .before .before .before .before .before .before .before .before .before .before .before .before .before .before .pre .1 .0)) (c .before .before .before .before .before .before .before .before .before .before .before .loop-test .taken) (c .before .before .before .before .before .before .before .before .before .before .if1 .left)) .q) ((firsts (c .before .before .before .before .before .before .before .before .before .before .before .before .loop .inv .1 (c .before .before .before .before .before .before .before .before .before .before .before .before .before .before .before .before .before .pre .1 .0)) (c .before .before .before .before .before .before .before .before .before .before .before .loop-test .taken) (c .before .before .before .before .before .before .before .before .before .before .if1 .left)) .l) ((firsts (c .before .before .before .before .before .before .before .before .before .before .before .before .loop .inv .1 (c .before .before .before .before .before .before .before .before .before .before .before .before .before .before .before .before .before .pre .1 .0)) (c .before .before .before .before .before .before .before .before .before .before .before .loop-test .taken) (c .before .before .before .before .before .before .before .before .before .before .if1 .left)) .type-placed))))) (c .before .next-type .ensures ((firsts (c .before .before .before .before .before .before .before .before .before .before .before .before .loop .inv .1 (c .before .before .before .before .before .before .before .before .before .before .before .before .before .before .before .before .before .pre .1 .0)) (c .before .before .before .before .before .before .before .before .before .before .before .loop-test .taken) (c .before .before .before .before .before .before .before .before .before .before .if1 .left)) .p) ((firsts (c .before .before .before .before .before .before .before .before .before .before .before .before .loop .inv .1 (c .before .before .before .before .before .before .before .before .before .before .before .before .before .before .before .before .before .pre .1 .0)) (c .before .before .before .before .before .before .before .before .before .before .before .loop-test .taken) (c .before .before .before .before .before .before .before .before .before .before .if1 .left)) .k) ((firsts (c .before .before .before .before .before .before .before .before .before .before .before .before .loop .inv .1 (c .before .before .before .before .before .before .before .before .before .before .before .before .before .before .before .before .before .pre .1 .0)) (c .before .before .before .before .before .before .before .before .before .before .before .loop-test .taken) (c .before .before .before .before .before .before .before .before .before .before .if1 .left)) .spec-placed)) (c .next-type2 .ensures ((firsts (c .before .before .before .before .before .before .before .before .before .before .before .before .loop .inv .1 (c .before .before .before .before .before .before .before .before .before .before .before .before .before .before .before .before .before .pre .1 .0)) (c .before .before .before .before .before .before .before .before .before .before .before .loop-test .taken) (c .before .before .before .before .before .before .before .before .before .before .if1 .left)) .q) ((firsts (c .before .before .before .before .before .before .before .before .before .before .before .before .loop .inv .1 (c .before .before .before .before .before .before .before .before .before .before .before .before .before .before .before .before .before .pre .1 .0)) (c .before .before .before .before .before .before .before .before .before .before .before .loop-test .taken) (c .before .before .before .before .before .before .before .before .before .before .if1 .left)) .l) ((firsts (c .before .before .before .before .before .before .before .before .before .before .before .before .loop .inv .1 (c .before .before .before .before .before .before .before .before .before .before .before .before .before .before .before .before .before .pre .1 .0)) (c .before .before .before .before .before .before .before .before .before .before .before .loop-test .taken) (c .before .before .before .before .before .before .before .before .before .before .if1 .left)) .type-placed))))
+check-fields-add-before t c = omega (arith, pacing-few (pacing-next (c .before .before .before .before .before .before .before .before .before .before .before .before .before .loop .inv .1 (c .before .before .before .before .before .before .before .before .before .before .before .before .before .before .before .before .before .before .pre .1 .0)) (c .before .before .before .before .before .before .before .before .before .before .before .before .loop-test .taken) (c .before .before .before .before .before .before .before .before .before .before .before .if1 .left) (first-rest (c .before .before .before .before .before .before .before .before .before .before .before .before .before .loop .inv .1 (c .before .before .before .before .before .before .before .before .before .before .before .before .before .before .before .before .before .before .pre .1 .0)) (c .before .before .before .before .before .before .before .before .before .before .before .before .loop-test .taken) (c .before .before .before .before .before .before .before .before .before .before .before .if1 .left) (c .before .before .before .before .before .before .before .before .before .before .span-at .ensures .1 ((firsts (c .before .before .before .before .before .before .before .before .before .before .before .before .before .loop .inv .1 (c .before .before .before .before .before .before .before .before .before .before .before .before .before .before .before .before .before .before .pre .1 .0)) (c .before .before .before .before .before .before .before .before .before .before .before .before .loop-test .taken) (c .before .before .before .before .before .before .before .before .before .before .before .if1 .left)) .q) ((firsts (c .before .before .before .before .before .before .before .before .before .before .before .before .before .loop .inv .1 (c .before .before .before .before .before .before .before .before .before .before .before .before .before .before .before .before .before .before .pre .1 .0)) (c .before .before .before .before .before .before .before .before .before .before .before .before .loop-test .taken) (c .before .before .before .before .before .before .before .before .before .before .before .if1 .left)) .l) ((firsts (c .before .before .before .before .before .before .before .before .before .before .before .before .before .loop .inv .1 (c .before .before .before .before .before .before .before .before .before .before .before .before .before .before .before .before .before .before .pre .1 .0)) (c .before .before .before .before .before .before .before .before .before .before .before .before .loop-test .taken) (c .before .before .before .before .before .before .before .before .before .before .before .if1 .left)) .type-placed) .0)) (c .before .before .before .before .before .before .before .check-type .last .1 .1 .1 .1 .1 .1 .1 .0) (c .before .before .before .w .given .1) (c .before .before .before .before .before .before .before .check-type .ensures (pacing-pair (c .before .before .before .before .before .before .before .before .before .before .before .before .before .loop .inv .1 (c .before .before .before .before .before .before .before .before .before .before .before .before .before .before .before .before .before .before .pre .1 .0)) (c .before .before .before .before .before .before .before .before .before .before .before .before .loop-test .taken) (c .before .before .before .before .before .before .before .before .before .before .before .if1 .left) (first-rest (c .before .before .before .before .before .before .before .before .before .before .before .before .before .loop .inv .1 (c .before .before .before .before .before .before .before .before .before .before .before .before .before .before .before .before .before .before .pre .1 .0)) (c .before .before .before .before .before .before .before .before .before .before .before .before .loop-test .taken) (c .before .before .before .before .before .before .before .before .before .before .before .if1 .left) (c .before .before .before .before .before .before .before .before .before .before .span-at .ensures .1 ((firsts (c .before .before .before .before .before .before .before .before .before .before .before .before .before .loop .inv .1 (c .before .before .before .before .before .before .before .before .before .before .before .before .before .before .before .before .before .before .pre .1 .0)) (c .before .before .before .before .before .before .before .before .before .before .before .before .loop-test .taken) (c .before .before .before .before .before .before .before .before .before .before .before .if1 .left)) .q) ((firsts (c .before .before .before .before .before .before .before .before .before .before .before .before .before .loop .inv .1 (c .before .before .before .before .before .before .before .before .before .before .before .before .before .before .before .before .before .before .pre .1 .0)) (c .before .before .before .before .before .before .before .before .before .before .before .before .loop-test .taken) (c .before .before .before .before .before .before .before .before .before .before .before .if1 .left)) .l) ((firsts (c .before .before .before .before .before .before .before .before .before .before .before .before .before .loop .inv .1 (c .before .before .before .before .before .before .before .before .before .before .before .before .before .before .before .before .before .before .pre .1 .0)) (c .before .before .before .before .before .before .before .before .before .before .before .before .loop-test .taken) (c .before .before .before .before .before .before .before .before .before .before .before .if1 .left)) .type-placed) .0)))) (c .before .next-type .ensures ((firsts (c .before .before .before .before .before .before .before .before .before .before .before .before .before .loop .inv .1 (c .before .before .before .before .before .before .before .before .before .before .before .before .before .before .before .before .before .before .pre .1 .0)) (c .before .before .before .before .before .before .before .before .before .before .before .before .loop-test .taken) (c .before .before .before .before .before .before .before .before .before .before .before .if1 .left)) .p) ((firsts (c .before .before .before .before .before .before .before .before .before .before .before .before .before .loop .inv .1 (c .before .before .before .before .before .before .before .before .before .before .before .before .before .before .before .before .before .before .pre .1 .0)) (c .before .before .before .before .before .before .before .before .before .before .before .before .loop-test .taken) (c .before .before .before .before .before .before .before .before .before .before .before .if1 .left)) .k) ((firsts (c .before .before .before .before .before .before .before .before .before .before .before .before .before .loop .inv .1 (c .before .before .before .before .before .before .before .before .before .before .before .before .before .before .before .before .before .before .pre .1 .0)) (c .before .before .before .before .before .before .before .before .before .before .before .before .loop-test .taken) (c .before .before .before .before .before .before .before .before .before .before .before .if1 .left)) .spec-placed)) (c .next-place .ensures ∙ ap (λ e. cond (c .before .before .before .before .before .before .before .before .before .before .before .before .before .before .before .before .before .before .args .steps) e (c .before .before .before .before .before .before .before .before .before .before .before .before .before .loop .j)) (c .before .before .before .before .before .before .before .before .before .before .span-at .ensures .1 ((firsts (c .before .before .before .before .before .before .before .before .before .before .before .before .before .loop .inv .1 (c .before .before .before .before .before .before .before .before .before .before .before .before .before .before .before .before .before .before .pre .1 .0)) (c .before .before .before .before .before .before .before .before .before .before .before .before .loop-test .taken) (c .before .before .before .before .before .before .before .before .before .before .before .if1 .left)) .q) ((firsts (c .before .before .before .before .before .before .before .before .before .before .before .before .before .loop .inv .1 (c .before .before .before .before .before .before .before .before .before .before .before .before .before .before .before .before .before .before .pre .1 .0)) (c .before .before .before .before .before .before .before .before .before .before .before .before .loop-test .taken) (c .before .before .before .before .before .before .before .before .before .before .before .if1 .left)) .l) ((firsts (c .before .before .before .before .before .before .before .before .before .before .before .before .before .loop .inv .1 (c .before .before .before .before .before .before .before .before .before .before .before .before .before .before .before .before .before .before .pre .1 .0)) (c .before .before .before .before .before .before .before .before .before .before .before .before .loop-test .taken) (c .before .before .before .before .before .before .before .before .before .before .before .if1 .left)) .type-placed) .1))))
 
 check-fields-sub-left : (t : ℕ) → check-fields-lts.Need-sub-left (
   types-in-reads.Asked,
   types-in-reads.Learnt,
-  types-at-reads.Asked,
-  types-at-reads.Learnt,
+  span-at-reads.Asked,
+  span-at-reads.Learnt,
   check-type-below t,
   check-type.Post,
   next-type-reads.Asked,
   next-type-reads.Learnt,
+  next-place-reads.Asked,
+  next-place-reads.Learnt,
   copy-fields-reads.Asked,
   copy-fields-reads.Learnt,
 ) (check-fields-at t) check-fields.Post check-fields-Inv-loop check-fields-μ-loop
@@ -335,12 +371,14 @@ check-fields-sub-left t c = search needs
 check-fields-sub-todo : (t : ℕ) → check-fields-lts.Need-sub-todo (
   types-in-reads.Asked,
   types-in-reads.Learnt,
-  types-at-reads.Asked,
-  types-at-reads.Learnt,
+  span-at-reads.Asked,
+  span-at-reads.Learnt,
   check-type-below t,
   check-type.Post,
   next-type-reads.Asked,
   next-type-reads.Learnt,
+  next-place-reads.Asked,
+  next-place-reads.Learnt,
   copy-fields-reads.Asked,
   copy-fields-reads.Learnt,
 ) (check-fields-at t) check-fields.Post check-fields-Inv-loop check-fields-μ-loop
@@ -349,12 +387,14 @@ check-fields-sub-todo t c = search needs
 check-fields-loop-less : (t : ℕ) → check-fields-lts.Need-loop-less (
   types-in-reads.Asked,
   types-in-reads.Learnt,
-  types-at-reads.Asked,
-  types-at-reads.Learnt,
+  span-at-reads.Asked,
+  span-at-reads.Learnt,
   check-type-below t,
   check-type.Post,
   next-type-reads.Asked,
   next-type-reads.Learnt,
+  next-place-reads.Asked,
+  next-place-reads.Learnt,
   copy-fields-reads.Asked,
   copy-fields-reads.Learnt,
 ) (check-fields-at t) check-fields.Post check-fields-Inv-loop check-fields-μ-loop
@@ -363,26 +403,30 @@ check-fields-loop-less t c = search needs
 check-fields-loop-again : (t : ℕ) → check-fields-lts.Need-loop-again (
   types-in-reads.Asked,
   types-in-reads.Learnt,
-  types-at-reads.Asked,
-  types-at-reads.Learnt,
+  span-at-reads.Asked,
+  span-at-reads.Learnt,
   check-type-below t,
   check-type.Post,
   next-type-reads.Asked,
   next-type-reads.Learnt,
+  next-place-reads.Asked,
+  next-place-reads.Learnt,
   copy-fields-reads.Asked,
   copy-fields-reads.Learnt,
 ) (check-fields-at t) check-fields.Post check-fields-Inv-loop check-fields-μ-loop
-check-fields-loop-again t c = (c .before .before .before .before .before .before .before .check-type .kept .1 .1 .1 .1 .1 .1 .1 .0 ∙ c .before .before .before .before .before .before .before .before .before .before .before .before .loop .inv .0, λ w. pacing-next (c .before .before .before .before .before .before .before .before .before .before .before .before .loop .inv .1 w) (c .before .before .before .before .before .before .before .before .before .before .before .loop-test .taken) (c .before .before .before .before .before .before .before .before .before .before .if1 .left) (first-rest (c .before .before .before .before .before .before .before .before .before .before .before .before .loop .inv .1 w) (c .before .before .before .before .before .before .before .before .before .before .before .loop-test .taken) (c .before .before .before .before .before .before .before .before .before .before .if1 .left) (c .before .before .before .before .before .before .before .before .before .types-at .ensures .1 ((firsts (c .before .before .before .before .before .before .before .before .before .before .before .before .loop .inv .1 w) (c .before .before .before .before .before .before .before .before .before .before .before .loop-test .taken) (c .before .before .before .before .before .before .before .before .before .before .if1 .left)) .q) ((firsts (c .before .before .before .before .before .before .before .before .before .before .before .before .loop .inv .1 w) (c .before .before .before .before .before .before .before .before .before .before .before .loop-test .taken) (c .before .before .before .before .before .before .before .before .before .before .if1 .left)) .l) ((firsts (c .before .before .before .before .before .before .before .before .before .before .before .before .loop .inv .1 w) (c .before .before .before .before .before .before .before .before .before .before .before .loop-test .taken) (c .before .before .before .before .before .before .before .before .before .before .if1 .left)) .type-placed))) (c .before .before .before .before .before .before .before .check-type .last .1 .1 .1 .1 .1 .1 .1 .0) (c .before .before .before .w .given .1) (c .before .before .before .before .before .before .before .check-type .ensures (pacing-pair (c .before .before .before .before .before .before .before .before .before .before .before .before .loop .inv .1 w) (c .before .before .before .before .before .before .before .before .before .before .before .loop-test .taken) (c .before .before .before .before .before .before .before .before .before .before .if1 .left) (first-rest (c .before .before .before .before .before .before .before .before .before .before .before .before .loop .inv .1 w) (c .before .before .before .before .before .before .before .before .before .before .before .loop-test .taken) (c .before .before .before .before .before .before .before .before .before .before .if1 .left) (c .before .before .before .before .before .before .before .before .before .types-at .ensures .1 ((firsts (c .before .before .before .before .before .before .before .before .before .before .before .before .loop .inv .1 w) (c .before .before .before .before .before .before .before .before .before .before .before .loop-test .taken) (c .before .before .before .before .before .before .before .before .before .before .if1 .left)) .q) ((firsts (c .before .before .before .before .before .before .before .before .before .before .before .before .loop .inv .1 w) (c .before .before .before .before .before .before .before .before .before .before .before .loop-test .taken) (c .before .before .before .before .before .before .before .before .before .before .if1 .left)) .l) ((firsts (c .before .before .before .before .before .before .before .before .before .before .before .before .loop .inv .1 w) (c .before .before .before .before .before .before .before .before .before .before .before .loop-test .taken) (c .before .before .before .before .before .before .before .before .before .before .if1 .left)) .type-placed))))) (c .before .next-type .ensures ((firsts (c .before .before .before .before .before .before .before .before .before .before .before .before .loop .inv .1 w) (c .before .before .before .before .before .before .before .before .before .before .before .loop-test .taken) (c .before .before .before .before .before .before .before .before .before .before .if1 .left)) .p) ((firsts (c .before .before .before .before .before .before .before .before .before .before .before .before .loop .inv .1 w) (c .before .before .before .before .before .before .before .before .before .before .before .loop-test .taken) (c .before .before .before .before .before .before .before .before .before .before .if1 .left)) .k) ((firsts (c .before .before .before .before .before .before .before .before .before .before .before .before .loop .inv .1 w) (c .before .before .before .before .before .before .before .before .before .before .before .loop-test .taken) (c .before .before .before .before .before .before .before .before .before .before .if1 .left)) .spec-placed)) (c .next-type2 .ensures ((firsts (c .before .before .before .before .before .before .before .before .before .before .before .before .loop .inv .1 w) (c .before .before .before .before .before .before .before .before .before .before .before .loop-test .taken) (c .before .before .before .before .before .before .before .before .before .before .if1 .left)) .q) ((firsts (c .before .before .before .before .before .before .before .before .before .before .before .before .loop .inv .1 w) (c .before .before .before .before .before .before .before .before .before .before .before .loop-test .taken) (c .before .before .before .before .before .before .before .before .before .before .if1 .left)) .l) ((firsts (c .before .before .before .before .before .before .before .before .before .before .before .before .loop .inv .1 w) (c .before .before .before .before .before .before .before .before .before .before .before .loop-test .taken) (c .before .before .before .before .before .before .before .before .before .before .if1 .left)) .type-placed)))
+check-fields-loop-again t c = (c .before .before .before .before .before .before .before .check-type .kept .1 .1 .1 .1 .1 .1 .1 .0 ∙ c .before .before .before .before .before .before .before .before .before .before .before .before .before .loop .inv .0, λ w. pacing-next (c .before .before .before .before .before .before .before .before .before .before .before .before .before .loop .inv .1 w) (c .before .before .before .before .before .before .before .before .before .before .before .before .loop-test .taken) (c .before .before .before .before .before .before .before .before .before .before .before .if1 .left) (first-rest (c .before .before .before .before .before .before .before .before .before .before .before .before .before .loop .inv .1 w) (c .before .before .before .before .before .before .before .before .before .before .before .before .loop-test .taken) (c .before .before .before .before .before .before .before .before .before .before .before .if1 .left) (c .before .before .before .before .before .before .before .before .before .before .span-at .ensures .1 ((firsts (c .before .before .before .before .before .before .before .before .before .before .before .before .before .loop .inv .1 w) (c .before .before .before .before .before .before .before .before .before .before .before .before .loop-test .taken) (c .before .before .before .before .before .before .before .before .before .before .before .if1 .left)) .q) ((firsts (c .before .before .before .before .before .before .before .before .before .before .before .before .before .loop .inv .1 w) (c .before .before .before .before .before .before .before .before .before .before .before .before .loop-test .taken) (c .before .before .before .before .before .before .before .before .before .before .before .if1 .left)) .l) ((firsts (c .before .before .before .before .before .before .before .before .before .before .before .before .before .loop .inv .1 w) (c .before .before .before .before .before .before .before .before .before .before .before .before .loop-test .taken) (c .before .before .before .before .before .before .before .before .before .before .before .if1 .left)) .type-placed) .0)) (c .before .before .before .before .before .before .before .check-type .last .1 .1 .1 .1 .1 .1 .1 .0) (c .before .before .before .w .given .1) (c .before .before .before .before .before .before .before .check-type .ensures (pacing-pair (c .before .before .before .before .before .before .before .before .before .before .before .before .before .loop .inv .1 w) (c .before .before .before .before .before .before .before .before .before .before .before .before .loop-test .taken) (c .before .before .before .before .before .before .before .before .before .before .before .if1 .left) (first-rest (c .before .before .before .before .before .before .before .before .before .before .before .before .before .loop .inv .1 w) (c .before .before .before .before .before .before .before .before .before .before .before .before .loop-test .taken) (c .before .before .before .before .before .before .before .before .before .before .before .if1 .left) (c .before .before .before .before .before .before .before .before .before .before .span-at .ensures .1 ((firsts (c .before .before .before .before .before .before .before .before .before .before .before .before .before .loop .inv .1 w) (c .before .before .before .before .before .before .before .before .before .before .before .before .loop-test .taken) (c .before .before .before .before .before .before .before .before .before .before .before .if1 .left)) .q) ((firsts (c .before .before .before .before .before .before .before .before .before .before .before .before .before .loop .inv .1 w) (c .before .before .before .before .before .before .before .before .before .before .before .before .loop-test .taken) (c .before .before .before .before .before .before .before .before .before .before .before .if1 .left)) .l) ((firsts (c .before .before .before .before .before .before .before .before .before .before .before .before .before .loop .inv .1 w) (c .before .before .before .before .before .before .before .before .before .before .before .before .loop-test .taken) (c .before .before .before .before .before .before .before .before .before .before .before .if1 .left)) .type-placed) .0)))) (c .before .next-type .ensures ((firsts (c .before .before .before .before .before .before .before .before .before .before .before .before .before .loop .inv .1 w) (c .before .before .before .before .before .before .before .before .before .before .before .before .loop-test .taken) (c .before .before .before .before .before .before .before .before .before .before .before .if1 .left)) .p) ((firsts (c .before .before .before .before .before .before .before .before .before .before .before .before .before .loop .inv .1 w) (c .before .before .before .before .before .before .before .before .before .before .before .before .loop-test .taken) (c .before .before .before .before .before .before .before .before .before .before .before .if1 .left)) .k) ((firsts (c .before .before .before .before .before .before .before .before .before .before .before .before .before .loop .inv .1 w) (c .before .before .before .before .before .before .before .before .before .before .before .before .loop-test .taken) (c .before .before .before .before .before .before .before .before .before .before .before .if1 .left)) .spec-placed)) (c .next-place .ensures ∙ ap (λ e. cond (c .before .before .before .before .before .before .before .before .before .before .before .before .before .before .before .before .before .before .args .steps) e (c .before .before .before .before .before .before .before .before .before .before .before .before .before .loop .j)) (c .before .before .before .before .before .before .before .before .before .before .span-at .ensures .1 ((firsts (c .before .before .before .before .before .before .before .before .before .before .before .before .before .loop .inv .1 w) (c .before .before .before .before .before .before .before .before .before .before .before .before .loop-test .taken) (c .before .before .before .before .before .before .before .before .before .before .before .if1 .left)) .q) ((firsts (c .before .before .before .before .before .before .before .before .before .before .before .before .before .loop .inv .1 w) (c .before .before .before .before .before .before .before .before .before .before .before .before .loop-test .taken) (c .before .before .before .before .before .before .before .before .before .before .before .if1 .left)) .l) ((firsts (c .before .before .before .before .before .before .before .before .before .before .before .before .before .loop .inv .1 w) (c .before .before .before .before .before .before .before .before .before .before .before .before .loop-test .taken) (c .before .before .before .before .before .before .before .before .before .before .before .if1 .left)) .type-placed) .1)))
 
 check-fields-copy-fields-requires : (t : ℕ) → check-fields-lts.Need-copy-fields-requires (
   types-in-reads.Asked,
   types-in-reads.Learnt,
-  types-at-reads.Asked,
-  types-at-reads.Learnt,
+  span-at-reads.Asked,
+  span-at-reads.Learnt,
   check-type-below t,
   check-type.Post,
   next-type-reads.Asked,
   next-type-reads.Learnt,
+  next-place-reads.Asked,
+  next-place-reads.Learnt,
   copy-fields-reads.Asked,
   copy-fields-reads.Learnt,
 ) (check-fields-at t) check-fields.Post check-fields-Inv-loop check-fields-μ-loop
@@ -391,12 +435,14 @@ check-fields-copy-fields-requires t c κs = pacing-listable (c .before .before .
 check-fields-enum-known-w-2 : (t : ℕ) → check-fields-lts.Need-enum-known-w-2 (
   types-in-reads.Asked,
   types-in-reads.Learnt,
-  types-at-reads.Asked,
-  types-at-reads.Learnt,
+  span-at-reads.Asked,
+  span-at-reads.Learnt,
   check-type-below t,
   check-type.Post,
   next-type-reads.Asked,
   next-type-reads.Learnt,
+  next-place-reads.Asked,
+  next-place-reads.Learnt,
   copy-fields-reads.Asked,
   copy-fields-reads.Learnt,
 ) (check-fields-at t) check-fields.Post check-fields-Inv-loop check-fields-μ-loop
@@ -405,12 +451,14 @@ check-fields-enum-known-w-2 t c = search needs
 check-fields-enum-told-2 : (t : ℕ) → check-fields-lts.Need-enum-told-2 (
   types-in-reads.Asked,
   types-in-reads.Learnt,
-  types-at-reads.Asked,
-  types-at-reads.Learnt,
+  span-at-reads.Asked,
+  span-at-reads.Learnt,
   check-type-below t,
   check-type.Post,
   next-type-reads.Asked,
   next-type-reads.Learnt,
+  next-place-reads.Asked,
+  next-place-reads.Learnt,
   copy-fields-reads.Asked,
   copy-fields-reads.Learnt,
 ) (check-fields-at t) check-fields.Post check-fields-Inv-loop check-fields-μ-loop
@@ -419,12 +467,14 @@ check-fields-enum-told-2 t c = search needs
 check-fields-same-length-3 : (t : ℕ) → check-fields-lts.Need-same-length-3 (
   types-in-reads.Asked,
   types-in-reads.Learnt,
-  types-at-reads.Asked,
-  types-at-reads.Learnt,
+  span-at-reads.Asked,
+  span-at-reads.Learnt,
   check-type-below t,
   check-type.Post,
   next-type-reads.Asked,
   next-type-reads.Learnt,
+  next-place-reads.Asked,
+  next-place-reads.Learnt,
   copy-fields-reads.Asked,
   copy-fields-reads.Learnt,
 ) (check-fields-at t) check-fields.Post check-fields-Inv-loop check-fields-μ-loop
@@ -433,54 +483,62 @@ check-fields-same-length-3 t c = c .before .before .before .before .copy-fields 
 check-fields-returns-3 : (t : ℕ) → check-fields-lts.Need-returns-3 (
   types-in-reads.Asked,
   types-in-reads.Learnt,
-  types-at-reads.Asked,
-  types-at-reads.Learnt,
+  span-at-reads.Asked,
+  span-at-reads.Learnt,
   check-type-below t,
   check-type.Post,
   next-type-reads.Asked,
   next-type-reads.Learnt,
+  next-place-reads.Asked,
+  next-place-reads.Learnt,
   copy-fields-reads.Asked,
   copy-fields-reads.Learnt,
 ) (check-fields-at t) check-fields.Post check-fields-Inv-loop check-fields-μ-loop
 check-fields-returns-3 t c = λ w. not-refused (c .before .before .before .before .copy-fields .last .1 .1 .1 .1 .0) _ ((c .before .before .before .before .copy-fields .ensures ((c .before .before .before .before .before .before .before .loop .inv .1 w) .lists .type-fields) ((c .before .before .before .before .before .before .before .loop .inv .1 w) .lists .type-listed) ((c .before .before .before .before .before .before .before .loop .inv .1 w) .lists .type-count) (pacing-fits (c .before .before .before .before .before .before .before .loop .inv .1 w) (omega (arith, c .before .before .before .before .before .before .before .before .before .before .before .before .pre .1 .1, c .before .before .before .before .before .before .before .loop .inv .0)))) .0) (c .enum-told2 .given .1)
 
-check-fields-sub-t34 : (t : ℕ) → check-fields-lts.Need-sub-t34 (
+check-fields-sub-t35 : (t : ℕ) → check-fields-lts.Need-sub-t35 (
   types-in-reads.Asked,
   types-in-reads.Learnt,
-  types-at-reads.Asked,
-  types-at-reads.Learnt,
+  span-at-reads.Asked,
+  span-at-reads.Learnt,
   check-type-below t,
   check-type.Post,
   next-type-reads.Asked,
   next-type-reads.Learnt,
+  next-place-reads.Asked,
+  next-place-reads.Learnt,
   copy-fields-reads.Asked,
   copy-fields-reads.Learnt,
 ) (check-fields-at t) check-fields.Post check-fields-Inv-loop check-fields-μ-loop
-check-fields-sub-t34 t c = omega (arith, (c .before .before .before .before .before .before .before .before .loop .inv .1 (c .before .before .before .before .before .before .before .before .before .before .before .before .before .pre .1 .0)) .ahead)
+check-fields-sub-t35 t c = omega (arith, (c .before .before .before .before .before .before .before .before .loop .inv .1 (c .before .before .before .before .before .before .before .before .before .before .before .before .before .pre .1 .0)) .ahead)
 
-check-fields-add-t35 : (t : ℕ) → check-fields-lts.Need-add-t35 (
+check-fields-add-t36 : (t : ℕ) → check-fields-lts.Need-add-t36 (
   types-in-reads.Asked,
   types-in-reads.Learnt,
-  types-at-reads.Asked,
-  types-at-reads.Learnt,
+  span-at-reads.Asked,
+  span-at-reads.Learnt,
   check-type-below t,
   check-type.Post,
   next-type-reads.Asked,
   next-type-reads.Learnt,
+  next-place-reads.Asked,
+  next-place-reads.Learnt,
   copy-fields-reads.Asked,
   copy-fields-reads.Learnt,
 ) (check-fields-at t) check-fields.Post check-fields-Inv-loop check-fields-μ-loop
-check-fields-add-t35 t c = let q = done-number (c .before .before .before .before .before .copy-fields .last .1 .1 .1 .1 .0) (take (c .before .before .before .before .before .before .before .before .loop .end) (c .before .before .before .before .before .before .before .before .loop .out)) ((c .before .before .before .before .before .before .before .before .loop .inv .1 (c .before .before .before .before .before .before .before .before .before .before .before .before .before .pre .1 .0)) .lists .type-fields) (c .before .w2 .given .1) ((c .before .before .before .before .before .copy-fields .ensures ((c .before .before .before .before .before .before .before .before .loop .inv .1 (c .before .before .before .before .before .before .before .before .before .before .before .before .before .pre .1 .0)) .lists .type-fields) ((c .before .before .before .before .before .before .before .before .loop .inv .1 (c .before .before .before .before .before .before .before .before .before .before .before .before .before .pre .1 .0)) .lists .type-listed) ((c .before .before .before .before .before .before .before .before .loop .inv .1 (c .before .before .before .before .before .before .before .before .before .before .before .before .before .pre .1 .0)) .lists .type-count) (pacing-fits (c .before .before .before .before .before .before .before .before .loop .inv .1 (c .before .before .before .before .before .before .before .before .before .before .before .before .before .pre .1 .0)) (omega (arith, c .before .before .before .before .before .before .before .before .before .before .before .before .before .pre .1 .1, c .before .before .before .before .before .before .before .before .loop .inv .0)))) .0) in omega (arith, q, (c .before .before .before .before .before .before .before .before .loop .inv .1 (c .before .before .before .before .before .before .before .before .before .before .before .before .before .pre .1 .0)) .ahead, (c .before .before .before .before .before .before .before .before .loop .inv .1 (c .before .before .before .before .before .before .before .before .before .before .before .before .before .pre .1 .0)) .number, pacing-few (c .before .before .before .before .before .before .before .before .loop .inv .1 (c .before .before .before .before .before .before .before .before .before .before .before .before .before .pre .1 .0)))
+check-fields-add-t36 t c = let q = done-number (c .before .before .before .before .before .copy-fields .last .1 .1 .1 .1 .0) (take (c .before .before .before .before .before .before .before .before .loop .end) (c .before .before .before .before .before .before .before .before .loop .out)) ((c .before .before .before .before .before .before .before .before .loop .inv .1 (c .before .before .before .before .before .before .before .before .before .before .before .before .before .pre .1 .0)) .lists .type-fields) (c .before .w2 .given .1) ((c .before .before .before .before .before .copy-fields .ensures ((c .before .before .before .before .before .before .before .before .loop .inv .1 (c .before .before .before .before .before .before .before .before .before .before .before .before .before .pre .1 .0)) .lists .type-fields) ((c .before .before .before .before .before .before .before .before .loop .inv .1 (c .before .before .before .before .before .before .before .before .before .before .before .before .before .pre .1 .0)) .lists .type-listed) ((c .before .before .before .before .before .before .before .before .loop .inv .1 (c .before .before .before .before .before .before .before .before .before .before .before .before .before .pre .1 .0)) .lists .type-count) (pacing-fits (c .before .before .before .before .before .before .before .before .loop .inv .1 (c .before .before .before .before .before .before .before .before .before .before .before .before .before .pre .1 .0)) (omega (arith, c .before .before .before .before .before .before .before .before .before .before .before .before .before .pre .1 .1, c .before .before .before .before .before .before .before .before .loop .inv .0)))) .0) in omega (arith, q, (c .before .before .before .before .before .before .before .before .loop .inv .1 (c .before .before .before .before .before .before .before .before .before .before .before .before .before .pre .1 .0)) .ahead, (c .before .before .before .before .before .before .before .before .loop .inv .1 (c .before .before .before .before .before .before .before .before .before .before .before .before .before .pre .1 .0)) .number, pacing-few (c .before .before .before .before .before .before .before .before .loop .inv .1 (c .before .before .before .before .before .before .before .before .before .before .before .before .before .pre .1 .0)))
 
 check-fields-same-length-4 : (t : ℕ) → check-fields-lts.Need-same-length-4 (
   types-in-reads.Asked,
   types-in-reads.Learnt,
-  types-at-reads.Asked,
-  types-at-reads.Learnt,
+  span-at-reads.Asked,
+  span-at-reads.Learnt,
   check-type-below t,
   check-type.Post,
   next-type-reads.Asked,
   next-type-reads.Learnt,
+  next-place-reads.Asked,
+  next-place-reads.Learnt,
   copy-fields-reads.Asked,
   copy-fields-reads.Learnt,
 ) (check-fields-at t) check-fields.Post check-fields-Inv-loop check-fields-μ-loop
@@ -489,12 +547,14 @@ check-fields-same-length-4 t c = c .before .before .before .before .before .copy
 check-fields-returns-4 : (t : ℕ) → check-fields-lts.Need-returns-4 (
   types-in-reads.Asked,
   types-in-reads.Learnt,
-  types-at-reads.Asked,
-  types-at-reads.Learnt,
+  span-at-reads.Asked,
+  span-at-reads.Learnt,
   check-type-below t,
   check-type.Post,
   next-type-reads.Asked,
   next-type-reads.Learnt,
+  next-place-reads.Asked,
+  next-place-reads.Learnt,
   copy-fields-reads.Asked,
   copy-fields-reads.Learnt,
 ) (check-fields-at t) check-fields.Post check-fields-Inv-loop check-fields-μ-loop
@@ -1259,12 +1319,14 @@ pub +check-fields+check-scalar-at+check-type-spec : {M : Type 1} → statement M
     close μ-check-fields μ-check-scalar-at μ-check-type (λ t. check-fields-lts.spec (
       types-in-reads.Asked,
       types-in-reads.Learnt,
-      types-at-reads.Asked,
-      types-at-reads.Learnt,
+      span-at-reads.Asked,
+      span-at-reads.Learnt,
       check-type-below t,
       check-type.Post,
       next-type-reads.Asked,
       next-type-reads.Learnt,
+      next-place-reads.Asked,
+      next-place-reads.Learnt,
       copy-fields-reads.Asked,
       copy-fields-reads.Learnt,
     )
@@ -1274,10 +1336,10 @@ pub +check-fields+check-scalar-at+check-type-spec : {M : Type 1} → statement M
     check-fields-μ-loop
     (check-fields-types-in-requires t)
     (check-fields-loop-holds t)
-    (check-fields-sub-t27 t)
+    (check-fields-sub-t28 t)
     (check-fields-same-length t)
     (check-fields-returns t)
-    (check-fields-types-at-requires t)
+    (check-fields-span-at-requires t)
     (check-fields-sub-rest t)
     (check-fields-add-check-type t)
     (check-fields-check-type-requires t)
@@ -1286,7 +1348,7 @@ pub +check-fields+check-scalar-at+check-type-spec : {M : Type 1} → statement M
     (check-fields-same-length-2 t)
     (check-fields-returns-2 t)
     (check-fields-next-type-requires t)
-    (check-fields-next-type-requires-2 t)
+    (check-fields-next-place-requires t)
     (check-fields-add-before t)
     (check-fields-sub-left t)
     (check-fields-sub-todo t)
@@ -1297,8 +1359,8 @@ pub +check-fields+check-scalar-at+check-type-spec : {M : Type 1} → statement M
     (check-fields-enum-told-2 t)
     (check-fields-same-length-3 t)
     (check-fields-returns-3 t)
-    (check-fields-sub-t34 t)
-    (check-fields-add-t35 t)
+    (check-fields-sub-t35 t)
+    (check-fields-add-t36 t)
     (check-fields-same-length-4 t)
     (check-fields-returns-4 t))
     (λ t. check-scalar-at-lts.spec (

@@ -10,7 +10,7 @@ use Rattle.validate.proofs.plans.plan_scalar.Tie as tie
 use Rattle.validate.proofs.plans.plan_scalar.Reads as reads
 use Rattle.validate.proofs.plans.plan_scalar.Lts as lts
 use Rattle.scalar.proofs.superset_codes.Reads as superset-codes-reads
-use Rattle.walk.proofs.shape_at.Reads as shape-at-reads
+use Rattle.validate.proofs.places.any_at.Reads as any-at-reads
 use Rattle.validate.proofs.places.look.Reads as look-reads
 use Rattle.validate.proofs.plans.code_of.Reads as code-of-reads
 use Rattle.validate.proofs.plans.keep_if.Reads as keep-if-reads
@@ -19,78 +19,107 @@ use Rattle.validate.proofs.plans.plan_named.Reads as plan-named-reads
 use Rattle.validate.proofs.plans.plan_unnamed.Reads as plan-unnamed-reads
 use Rattle.validate.proofs.plans.take_if.Reads as take-if-reads
 use Rattle.validate.proofs.plans.wholly_any.Reads as wholly-any-reads
+use Rattle.walk.proofs.shape_at.Reads as shape-at-reads
 
+-- src/plans.rt:306:9
 look-requires : tie.Need-look-requires
 look-requires c κs = search needs
 
+-- src/plans.rt:307:9
 look-requires-2 : tie.Need-look-requires-2
 look-requires-2 c κs = search needs
 
-shape-at-requires : tie.Need-shape-at-requires
-shape-at-requires c κs = has-type (c .before .before .before .before .pre .type-placed)
+-- src/plans.rt:308:19
+any-at-requires : tie.Need-any-at-requires
+any-at-requires c κs = search needs
 
+-- src/plans.rt:308:8
 wholly-any-requires : tie.Need-wholly-any-requires
 wholly-any-requires c κs = search needs
 
+-- src/plans.rt:309:9
 take-if-requires : tie.Need-take-if-requires
 take-if-requires c κs = let r = some-left (c .before .before .before .before .before .before .before .args .others) (c .before .before .before .before .before .before .before .args .above) (c .before .before .before .before .before .before .before .pre .type-scalar) (c .before .before .before .before .before .before .before .pre .limits) in (omega (arith, r .0), omega (arith, r .1))
 
+-- src/plans.rt:309:9
 returns : tie.Need-returns
-returns c = λ w. c .take-if .ensures (c .before .before .before .before .before .before .before .before .args .ty .now) (scalarOf (c .before .before .before .before .before .before .before .before .args .others) (c .before .before .before .before .before .before .before .before .args .above) w) (w .spec-shape) (w .spec-scalar) (w .type-scalar) (w .spec-placed) (plan-any w (any-shape (w .type-scalar) (c .before .before .wholly-any .ensures (c .before .before .before .before .before .before .before .before .args .ty .now) (w .type-scalar) (c .before .before .before .before .look2 .ensures (w .type-shape) (w .type-scalar) (w .type-placed))) (c .before .before .before .shape-at .ensures maxDepth (ty (w .type-shape) (w .type-scalar)) (type-at (w .type-placed))) ∙ c .before .if1 .taken))
+returns c = λ w. c .take-if .ensures (c .before .before .before .before .before .before .before .before .args .ty .now) (scalarOf (c .before .before .before .before .before .before .before .before .args .others) (c .before .before .before .before .before .before .before .before .args .above) w) (w .spec-shape) (w .spec-scalar) (w .type-scalar) (w .spec-placed) (plan-any w (sym (c .before .before .wholly-any .ensures (c .before .before .before .before .before .before .before .before .args .ty .now) (w .type-shape) (w .type-scalar) (c .before .before .before .any-at .ensures (w .type-shape) (w .type-scalar) (w .type-placed)) (c .before .before .before .before .look2 .ensures (w .type-shape) (w .type-scalar) (w .type-placed))) ∙ c .before .if1 .taken))
 
+-- src/plans.rt:312:23
 enum-known-a : tie.Need-enum-known-a
 enum-known-a c = search needs
 
+-- src/plans.rt:312:62
 code-of-requires : tie.Need-code-of-requires
 code-of-requires c κs = search needs
 
+-- src/plans.rt:312:41
 superset-codes-requires : tie.Need-superset-codes-requires
 superset-codes-requires c κs = search needs
 
+-- src/plans.rt:312:33
 keep-if-requires : tie.Need-keep-if-requires
 keep-if-requires c κs = search needs
 
+-- src/plans.rt:313:53
 enum-told : tie.Need-enum-told
 enum-told c = search needs
 
+-- src/plans.rt:313:53
 code-of-requires-2 : tie.Need-code-of-requires-2
 code-of-requires-2 c κs = search needs
 
+-- src/plans.rt:313:33
 superset-codes-requires-2 : tie.Need-superset-codes-requires-2
 superset-codes-requires-2 c κs = search needs
 
+-- src/plans.rt:313:25
 keep-if-requires-2 : tie.Need-keep-if-requires-2
 keep-if-requires-2 c κs = search needs
 
+-- src/plans.rt:314:24
 enum-known-a-2 : tie.Need-enum-known-a-2
 enum-known-a-2 c = search needs
 
+-- src/plans.rt:314:37
 plan-all-requires : tie.Need-plan-all-requires
 plan-all-requires c κs = let r = some-left (c .before .before .before .before .before .before .before .before .before .before .args .others) (c .before .before .before .before .before .before .before .before .before .before .args .above) (c .before .before .before .before .before .before .before .before .before .before .pre .type-scalar) (c .before .before .before .before .before .before .before .before .before .before .pre .limits) in (omega (arith, r .0), omega (arith, r .1))
 
+-- src/plans.rt:316:13
 enum-known-a-3 : tie.Need-enum-known-a-3
 enum-known-a-3 c = search needs
 
+-- src/plans.rt:322:21
+shape-at-requires : tie.Need-shape-at-requires
+shape-at-requires c κs = has-type (c .before .before .before .before .before .before .before .before .before .before .before .pre .type-placed)
+
+-- src/plans.rt:323:17
 plan-named-requires : tie.Need-plan-named-requires
-plan-named-requires c κs = let r = some-left (c .before .before .before .before .before .before .before .before .before .before .before .args .others) (c .before .before .before .before .before .before .before .before .before .before .before .args .above) (c .before .before .before .before .before .before .before .before .before .before .before .pre .type-scalar) (c .before .before .before .before .before .before .before .before .before .before .before .pre .limits) in (omega (arith, r .0), omega (arith, r .1))
+plan-named-requires c κs = let r = some-left (c .before .before .before .before .before .before .before .before .before .before .before .before .args .others) (c .before .before .before .before .before .before .before .before .before .before .before .before .args .above) (c .before .before .before .before .before .before .before .before .before .before .before .before .pre .type-scalar) (c .before .before .before .before .before .before .before .before .before .before .before .before .pre .limits) in (omega (arith, r .0), omega (arith, r .1))
 
+-- src/plans.rt:323:17
 returns-2 : tie.Need-returns-2
-returns-2 c = λ w. c .plan-named .ensures (c .before .before .before .before .before .before .before .before .before .before .before .before .args .j) w (any-shape (w .type-scalar) (c .before .before .before .before .before .before .wholly-any .ensures (c .before .before .before .before .before .before .before .before .before .before .before .before .args .ty .now) (w .type-scalar) (c .before .before .before .before .before .before .before .before .look2 .ensures (w .type-shape) (w .type-scalar) (w .type-placed))) (c .before .before .before .before .before .before .before .shape-at .ensures maxDepth (ty (w .type-shape) (w .type-scalar)) (type-at (w .type-placed))) ∙ c .before .before .before .before .before .if1 .left) (c .before .before .before .before .before .before .before .shape-at .ensures maxDepth (ty (w .type-shape) (w .type-scalar)) (type-at (w .type-placed))) (def-flag (as-box-def (c .before .before .before .before .before .before .before .before .before .before .before .before .args .spec .now) (w .spec-scalar) (c .before .before .before .before .before .before .before .before .before .look .result) (c .before .before .before .before .before .before .before .before .before .look .ensures (w .spec-shape) (w .spec-scalar) (w .spec-placed)) (c .before .before .before .a3 .given .1)) (c .before .if2 .taken)) (c .before .before .before .before .before .before .before .before .look2 .ensures (w .type-shape) (w .type-scalar) (w .type-placed))
+returns-2 c = λ w. c .plan-named .ensures (c .before .before .before .before .before .before .before .before .before .before .before .before .before .args .j) w (sym (c .before .before .before .before .before .before .before .wholly-any .ensures (c .before .before .before .before .before .before .before .before .before .before .before .before .before .args .ty .now) (w .type-shape) (w .type-scalar) (c .before .before .before .before .before .before .before .before .any-at .ensures (w .type-shape) (w .type-scalar) (w .type-placed)) (c .before .before .before .before .before .before .before .before .before .look2 .ensures (w .type-shape) (w .type-scalar) (w .type-placed))) ∙ c .before .before .before .before .before .before .if1 .left) (c .before .shape-at .ensures maxDepth (ty (w .type-shape) (w .type-scalar)) (type-at (w .type-placed))) (def-flag (as-box-def (c .before .before .before .before .before .before .before .before .before .before .before .before .before .args .spec .now) (w .spec-scalar) (c .before .before .before .before .before .before .before .before .before .before .look .result) (c .before .before .before .before .before .before .before .before .before .before .look .ensures (w .spec-shape) (w .spec-scalar) (w .spec-placed)) (c .before .before .before .before .a3 .given .1)) (c .before .before .if2 .taken)) (c .before .before .before .before .before .before .before .before .before .look2 .ensures (w .type-shape) (w .type-scalar) (w .type-placed))
 
+-- src/plans.rt:325:13
 plan-unnamed-requires : tie.Need-plan-unnamed-requires
 plan-unnamed-requires c κs = let r = some-left (c .before .before .before .before .before .before .before .before .before .before .before .args .others) (c .before .before .before .before .before .before .before .before .before .before .before .args .above) (c .before .before .before .before .before .before .before .before .before .before .before .pre .type-scalar) (c .before .before .before .before .before .before .before .before .before .before .before .pre .limits) in (omega (arith, r .0), omega (arith, r .1))
 
+-- src/plans.rt:302:1
 returns-3 : tie.Need-returns-3
-returns-3 c = λ w. c .keep-if .ensures (c .before .before .before .before .before .before .before .before .before .before .before .before .before .args .spec .now) (c .before .before .before .before .before .before .before .before .before .before .before .before .before .args .ty .now) (c .before .before .before .before .before .before .before .before .before .before .before .before .before .args .others) (c .before .before .before .before .before .before .before .before .before .before .before .before .before .args .above) (scalarOf (c .before .before .before .before .before .before .before .before .before .before .before .before .before .args .others) (c .before .before .before .before .before .before .before .before .before .before .before .before .before .args .above) w) (w .spec-scalar) (w .type-scalar) (tested (scalarOf (c .before .before .before .before .before .before .before .before .before .before .before .before .before .args .others) (c .before .before .before .before .before .before .before .before .before .before .before .before .before .args .above) w) (w .type-scalar) (plan-plain w (any-shape (w .type-scalar) (c .before .before .before .before .before .before .before .wholly-any .ensures (c .before .before .before .before .before .before .before .before .before .before .before .before .before .args .ty .now) (w .type-scalar) (c .before .before .before .before .before .before .before .before .before .look2 .ensures (w .type-shape) (w .type-scalar) (w .type-placed))) (c .before .before .before .before .before .before .before .before .shape-at .ensures maxDepth (ty (w .type-shape) (w .type-scalar)) (type-at (w .type-placed))) ∙ c .before .before .before .before .before .before .if1 .left) (as-plain (c .before .before .before .before .before .before .before .before .before .before .before .before .before .args .spec .now) (w .spec-scalar) (c .before .before .before .before .before .before .before .before .before .before .look .result) (c .before .before .before .before .before .before .before .before .before .before .look .ensures (w .spec-shape) (w .spec-scalar) (w .spec-placed)) (c .before .before .before .before .a .given .1)) (c .before .before .code-of .ensures (c .before .before .before .before .before .before .before .before .before .before .before .before .before .args .ty .now) (w .type-scalar) (c .before .before .before .before .before .before .before .before .before .look2 .ensures (w .type-shape) (w .type-scalar) (w .type-placed)))) (c .before .superset-codes .ensures))
+returns-3 c = λ w. c .keep-if .ensures (c .before .before .before .before .before .before .before .before .before .before .before .before .before .args .spec .now) (c .before .before .before .before .before .before .before .before .before .before .before .before .before .args .ty .now) (c .before .before .before .before .before .before .before .before .before .before .before .before .before .args .others) (c .before .before .before .before .before .before .before .before .before .before .before .before .before .args .above) (scalarOf (c .before .before .before .before .before .before .before .before .before .before .before .before .before .args .others) (c .before .before .before .before .before .before .before .before .before .before .before .before .before .args .above) w) (w .spec-scalar) (w .type-scalar) (tested (scalarOf (c .before .before .before .before .before .before .before .before .before .before .before .before .before .args .others) (c .before .before .before .before .before .before .before .before .before .before .before .before .before .args .above) w) (w .type-scalar) (plan-plain w (sym (c .before .before .before .before .before .before .before .wholly-any .ensures (c .before .before .before .before .before .before .before .before .before .before .before .before .before .args .ty .now) (w .type-shape) (w .type-scalar) (c .before .before .before .before .before .before .before .before .any-at .ensures (w .type-shape) (w .type-scalar) (w .type-placed)) (c .before .before .before .before .before .before .before .before .before .look2 .ensures (w .type-shape) (w .type-scalar) (w .type-placed))) ∙ c .before .before .before .before .before .before .if1 .left) (as-plain (c .before .before .before .before .before .before .before .before .before .before .before .before .before .args .spec .now) (w .spec-scalar) (c .before .before .before .before .before .before .before .before .before .before .look .result) (c .before .before .before .before .before .before .before .before .before .before .look .ensures (w .spec-shape) (w .spec-scalar) (w .spec-placed)) (c .before .before .before .before .a .given .1)) (c .before .before .code-of .ensures (c .before .before .before .before .before .before .before .before .before .before .before .before .before .args .ty .now) (w .type-scalar) (c .before .before .before .before .before .before .before .before .before .look2 .ensures (w .type-shape) (w .type-scalar) (w .type-placed)))) (c .before .superset-codes .ensures))
 
+-- src/plans.rt:302:1
 returns-4 : tie.Need-returns-4
-returns-4 c = λ w. c .keep-if2 .ensures (c .before .before .before .before .before .before .before .before .before .before .before .before .args .spec .now) (c .before .before .before .before .before .before .before .before .before .before .before .before .args .ty .now) (c .before .before .before .before .before .before .before .before .before .before .before .before .args .others) (c .before .before .before .before .before .before .before .before .before .before .before .before .args .above) (scalarOf (c .before .before .before .before .before .before .before .before .before .before .before .before .args .others) (c .before .before .before .before .before .before .before .before .before .before .before .before .args .above) w) (w .spec-scalar) (w .type-scalar) (tested (scalarOf (c .before .before .before .before .before .before .before .before .before .before .before .before .args .others) (c .before .before .before .before .before .before .before .before .before .before .before .before .args .above) w) (w .type-scalar) (plan-box-any w (any-shape (w .type-scalar) (c .before .before .before .before .before .before .wholly-any .ensures (c .before .before .before .before .before .before .before .before .before .before .before .before .args .ty .now) (w .type-scalar) (c .before .before .before .before .before .before .before .before .look2 .ensures (w .type-shape) (w .type-scalar) (w .type-placed))) (c .before .before .before .before .before .before .before .shape-at .ensures maxDepth (ty (w .type-shape) (w .type-scalar)) (type-at (w .type-placed))) ∙ c .before .before .before .before .before .if1 .left) (as-box-any (c .before .before .before .before .before .before .before .before .before .before .before .before .args .spec .now) (w .spec-scalar) (c .before .before .before .before .before .before .before .before .before .look .result) (c .before .before .before .before .before .before .before .before .before .look .ensures (w .spec-shape) (w .spec-scalar) (w .spec-placed)) (c .before .before .before .enum-told .given .1)) (c .before .before .code-of2 .ensures (c .before .before .before .before .before .before .before .before .before .before .before .before .args .ty .now) (w .type-scalar) (c .before .before .before .before .before .before .before .before .look2 .ensures (w .type-shape) (w .type-scalar) (w .type-placed)))) (c .before .superset-codes2 .ensures))
+returns-4 c = λ w. c .keep-if2 .ensures (c .before .before .before .before .before .before .before .before .before .before .before .before .args .spec .now) (c .before .before .before .before .before .before .before .before .before .before .before .before .args .ty .now) (c .before .before .before .before .before .before .before .before .before .before .before .before .args .others) (c .before .before .before .before .before .before .before .before .before .before .before .before .args .above) (scalarOf (c .before .before .before .before .before .before .before .before .before .before .before .before .args .others) (c .before .before .before .before .before .before .before .before .before .before .before .before .args .above) w) (w .spec-scalar) (w .type-scalar) (tested (scalarOf (c .before .before .before .before .before .before .before .before .before .before .before .before .args .others) (c .before .before .before .before .before .before .before .before .before .before .before .before .args .above) w) (w .type-scalar) (plan-box-any w (sym (c .before .before .before .before .before .before .wholly-any .ensures (c .before .before .before .before .before .before .before .before .before .before .before .before .args .ty .now) (w .type-shape) (w .type-scalar) (c .before .before .before .before .before .before .before .any-at .ensures (w .type-shape) (w .type-scalar) (w .type-placed)) (c .before .before .before .before .before .before .before .before .look2 .ensures (w .type-shape) (w .type-scalar) (w .type-placed))) ∙ c .before .before .before .before .before .if1 .left) (as-box-any (c .before .before .before .before .before .before .before .before .before .before .before .before .args .spec .now) (w .spec-scalar) (c .before .before .before .before .before .before .before .before .before .look .result) (c .before .before .before .before .before .before .before .before .before .look .ensures (w .spec-shape) (w .spec-scalar) (w .spec-placed)) (c .before .before .before .enum-told .given .1)) (c .before .before .code-of2 .ensures (c .before .before .before .before .before .before .before .before .before .before .before .before .args .ty .now) (w .type-scalar) (c .before .before .before .before .before .before .before .before .look2 .ensures (w .type-shape) (w .type-scalar) (w .type-placed)))) (c .before .superset-codes2 .ensures))
 
+-- src/plans.rt:302:1
 returns-5 : tie.Need-returns-5
-returns-5 c = λ w. c .plan-all .ensures (c .before .before .before .before .before .before .before .before .before .before .before .args .j) w (any-shape (w .type-scalar) (c .before .before .before .before .before .wholly-any .ensures (c .before .before .before .before .before .before .before .before .before .before .before .args .ty .now) (w .type-scalar) (c .before .before .before .before .before .before .before .look2 .ensures (w .type-shape) (w .type-scalar) (w .type-placed))) (c .before .before .before .before .before .before .shape-at .ensures maxDepth (ty (w .type-shape) (w .type-scalar)) (type-at (w .type-placed))) ∙ c .before .before .before .before .if1 .left) (as-box-all (c .before .before .before .before .before .before .before .before .before .before .before .args .spec .now) (w .spec-scalar) (c .before .before .before .before .before .before .before .before .look .result) (c .before .before .before .before .before .before .before .before .look .ensures (w .spec-shape) (w .spec-scalar) (w .spec-placed)) (c .before .before .a2 .given .1)) (c .before .before .before .before .before .before .before .look2 .ensures (w .type-shape) (w .type-scalar) (w .type-placed))
+returns-5 c = λ w. c .plan-all .ensures (c .before .before .before .before .before .before .before .before .before .before .before .args .j) w (sym (c .before .before .before .before .before .wholly-any .ensures (c .before .before .before .before .before .before .before .before .before .before .before .args .ty .now) (w .type-shape) (w .type-scalar) (c .before .before .before .before .before .before .any-at .ensures (w .type-shape) (w .type-scalar) (w .type-placed)) (c .before .before .before .before .before .before .before .look2 .ensures (w .type-shape) (w .type-scalar) (w .type-placed))) ∙ c .before .before .before .before .if1 .left) (as-box-all (c .before .before .before .before .before .before .before .before .before .before .before .args .spec .now) (w .spec-scalar) (c .before .before .before .before .before .before .before .before .look .result) (c .before .before .before .before .before .before .before .before .look .ensures (w .spec-shape) (w .spec-scalar) (w .spec-placed)) (c .before .before .a2 .given .1)) (c .before .before .before .before .before .before .before .look2 .ensures (w .type-shape) (w .type-scalar) (w .type-placed))
 
+-- src/plans.rt:302:1
 returns-6 : tie.Need-returns-6
-returns-6 c = λ w. c .plan-unnamed .ensures (c .before .before .before .before .before .before .before .before .before .before .before .before .args .j) w (any-shape (w .type-scalar) (c .before .before .before .before .before .before .wholly-any .ensures (c .before .before .before .before .before .before .before .before .before .before .before .before .args .ty .now) (w .type-scalar) (c .before .before .before .before .before .before .before .before .look2 .ensures (w .type-shape) (w .type-scalar) (w .type-placed))) (c .before .before .before .before .before .before .before .shape-at .ensures maxDepth (ty (w .type-shape) (w .type-scalar)) (type-at (w .type-placed))) ∙ c .before .before .before .before .before .if1 .left) (def-flag (as-box-def (c .before .before .before .before .before .before .before .before .before .before .before .before .args .spec .now) (w .spec-scalar) (c .before .before .before .before .before .before .before .before .before .look .result) (c .before .before .before .before .before .before .before .before .before .look .ensures (w .spec-shape) (w .spec-scalar) (w .spec-placed)) (c .before .before .before .a3 .given .1)) (c .before .if2 .left)) (c .before .before .before .before .before .before .before .before .look2 .ensures (w .type-shape) (w .type-scalar) (w .type-placed))
+returns-6 c = λ w. c .plan-unnamed .ensures (c .before .before .before .before .before .before .before .before .before .before .before .before .args .j) w (sym (c .before .before .before .before .before .before .wholly-any .ensures (c .before .before .before .before .before .before .before .before .before .before .before .before .args .ty .now) (w .type-shape) (w .type-scalar) (c .before .before .before .before .before .before .before .any-at .ensures (w .type-shape) (w .type-scalar) (w .type-placed)) (c .before .before .before .before .before .before .before .before .look2 .ensures (w .type-shape) (w .type-scalar) (w .type-placed))) ∙ c .before .before .before .before .before .if1 .left) (def-flag (as-box-def (c .before .before .before .before .before .before .before .before .before .before .before .before .args .spec .now) (w .spec-scalar) (c .before .before .before .before .before .before .before .before .before .look .result) (c .before .before .before .before .before .before .before .before .before .look .ensures (w .spec-shape) (w .spec-scalar) (w .spec-placed)) (c .before .before .before .a3 .given .1)) (c .before .if2 .left)) (c .before .before .before .before .before .before .before .before .look2 .ensures (w .type-shape) (w .type-scalar) (w .type-placed))
 
 pub plan-scalar-spec : {M : Type 1} → statement M
 plan-scalar-spec =
@@ -98,7 +127,7 @@ plan-scalar-spec =
     (tie.spec
     look-requires
     look-requires-2
-    shape-at-requires
+    any-at-requires
     wholly-any-requires
     take-if-requires
     returns
@@ -113,6 +142,7 @@ plan-scalar-spec =
     enum-known-a-2
     plan-all-requires
     enum-known-a-3
+    shape-at-requires
     plan-named-requires
     returns-2
     plan-unnamed-requires

@@ -15,7 +15,8 @@ ghost use Rattle.format.specs.Reader.{mapRead, byte, judged};
 ghost use Rattle.format.specs.Records.{mark, dimNumber, listCount, isCount, isOptional, isPrinting, readMark, readDim, readName};
 ghost use Rattle.record.specs.Answers.{answerOf, nothing, eightBytes};
 
-fn wide(x: u8) -> u64
+// A byte as a number, known to be below 256.
+pub fn wide(x: u8) -> u64
     ensures { λ r. ⌜ (r ≡ x) × (r < 256) ⌝ }
 {
     x as u64

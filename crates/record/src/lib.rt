@@ -6,6 +6,8 @@ mod shapes;
 mod types;
 mod whole;
 
+pub use bytes::list_count;
+pub use bytes::wide;
 use limits::MAX_SIZES;
 pub use places::no_dims;
 pub use places::scalar_known;

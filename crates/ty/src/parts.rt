@@ -1,15 +1,14 @@
 // Where the parts of a lone type stand: what its scalar holds, and the fields of a Def.
-use limits::ABSENT;
 use limits::BOX;
 use limits::BOX_ALL;
 use limits::BOX_ANY;
 use limits::MAX_DEPTH;
 use limits::MAX_TYPES;
 use record::Answer;
+use record::list_count;
 use record::lone_scalar;
 use record::read_type;
 ghost use mathlib.Core.Path.{_≡_};
-ghost use Rattle.format.specs.Records.{listCount};
 ghost use Rattle.format.specs.Outcome.{accepted, mapped, lone};
 ghost use Rattle.record.specs.Answers.{nothing};
 ghost use Rattle.rules.specs.Types.{fieldPlace};
@@ -46,21 +45,12 @@ pub fn look_inside(s: &[u8]) -> Held
     if form == BOX_ALL {
         return Held::BoxAll { start: at + 6 };
     }
-    let name = name_length(s[at + 6] as u64) as usize;
+    let name = list_count(s[at + 6] as u64) as usize;
     let end = at + 7 + name;
     Held::BoxDef {
         start: end + 1,
         count: s[end] as u64,
     }
-}
-
-fn name_length(n: u64) -> u64
-    ensures { λ r. ⌜ r ≡ listCount n ⌝ }
-{
-    if n == ABSENT {
-        return 0;
-    }
-    n
 }
 
 // The place after the type that stands at `at`.

@@ -18,25 +18,6 @@ use Rattle.validation.specs.Validate.{checkShapeOnly}
 use Rattle.validate.specs.Answers.{checkedOf}
 use Rattle.validate.specs.declared.Checked.{Checked}
 
--- ---- two types
-
-module _ {A B : Type 0} (x : Outcome A) (y : Outcome B) where
-  pub both-refused : {C : Type 0} (f : A → B → Outcome C) {k p : ℕ} → both nothings x y ≡ refused k p → both f x y ≡ refused k p
-  both-refused {C} f {k} {p} e = go x y e
-    where
-      go : (x : Outcome A) (y : Outcome B) → both nothings x y ≡ refused k p → both f x y ≡ refused k p
-      go (accepted a) (accepted b) e = let z : _≡_ {A = ℕ} 0 1 = cc in absurd (omega arith)
-      go (accepted a) (refused j q) e = let u : j ≡ k = cc in let v : q ≡ p = cc in rw (u, v)
-      go (refused j q) y e = let u : j ≡ k = cc in let v : q ≡ p = cc in rw (u, v)
-
-  pub both-accepted : both nothings x y ≡ accepted 0 → (mapped nothing x ≡ accepted 0) × (mapped nothing y ≡ accepted 0)
-  both-accepted e = go x y e
-    where
-      go : (x : Outcome A) (y : Outcome B) → both nothings x y ≡ accepted 0 → (mapped nothing x ≡ accepted 0) × (mapped nothing y ≡ accepted 0)
-      go (accepted a) (accepted b) e = (refl, refl)
-      go (accepted a) (refused j q) e = let z : _≡_ {A = ℕ} 0 1 = cc in absurd (omega arith)
-      go (refused j q) y e = let z : _≡_ {A = ℕ} 0 1 = cc in absurd (omega arith)
-
 -- ---- `check_shape`
 
 module _ (side : Side) (x y : Outcome Ty) {s t : Shape} {w : List ℕ} (first : mapped shapeOf x ≡ accepted s) (second : mapped shapeOf y ≡ accepted t) (rest : mapped scalarRecord y ≡ accepted w) where
@@ -64,17 +45,3 @@ module _ (side : Side) (x y : Outcome Ty) {s t : Shape} {w : List ℕ} (first : 
 pub shape-clash : (side : Side) (x y : Outcome Ty) {s t : Shape} → mapped shapeOf x ≡ accepted s → mapped shapeOf y ≡ accepted t → (r : Checked) → checkedOf r ≡ checkShape side s t → r .clash ≡ true → both (λ a b. mapped writeTy (checkShapeOnly side a b)) x y ≡ refused wrongShape 0
 shape-clash side x (accepted (ty b l)) first second r checked e = shape-only side x (accepted (ty b l)) first second refl ∙ ap (mapped (λ u. writeShape u ++ writeScalar l)) (sym checked) ∙ rw e
 shape-clash side x (refused k p) first second r checked e = let z : _≡_ {A = ℕ} 0 1 = cc in absurd (omega arith)
-
--- the rest of a list, as a part of a slice has it
-pub rest-is : (s : List ℕ) (n : ℕ) → take (length s - n) (drop n s) ≡ drop n s
-rest-is s n = ap (λ k. take k (drop n s)) (sym (length-drop n s)) ∙ take-length (drop n s)
-
--- ---- one stretch after another at the front of a result
-
-pub two-laid : (d : List ℕ) (w v : List ℕ) {n : ℕ} {one two : List ℕ} → n ≡ length w → n + length v ≤ length d → one ≡ over d 0 w → two ≡ over one n v → two ≡ over d 0 (w ++ v)
-two-laid d w v {n} {one} {two} e fits laid then =
-    let k : n ≡ 0 + length w = omega arith in
-    then ∙ ap (λ x. over x n v) laid ∙ ap (λ j. over (over d 0 w) j v) k ∙ over-over d 0 w (omega arith) v
-
-pub two-long : (w v : List ℕ) {n : ℕ} → n ≡ length w → n + length v ≡ length (w ++ v)
-two-long w v e = simp length-append (omega arith)

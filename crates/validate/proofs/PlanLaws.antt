@@ -73,9 +73,6 @@ tested x l e q = e ∙ ap (λ c. cond c (accepted l) (refused wrongScalar 0)) (s
 pub def-flag : {s : List ℕ} {k : Scalar} {n f c : ℕ} {a b : Bool} → SeenDef s k n a f c → a ≡ b → SeenDef s k n b f c
 def-flag h e = rw e at h
 
-pub any-shape : (l : Scalar) {p q : Shape} {b : Bool} → b ≡ whollyAny (ty p l) → p ≡ q → whollyAny (ty q l) ≡ b
-any-shape l e h = sym (e ∙ ap (λ r. whollyAny (ty r l)) h)
-
 pub any-types : 1 ≡ suc (inside (plain any))
 unfolding inside
 any-types = refl

@@ -12,7 +12,6 @@ use Rattle.format.specs.Outcome.{Outcome, accepted, refused, mapped, both, lone
 use Rattle.format.specs.ReadWrite.{lone-write}
 use Rattle.format.specs.Views.{stands-all}
 use Rattle.record.specs.Answers.{nothings}
-use Rattle.record.proofs.LoneLaws.{passed-accepted}
 use Rattle.validation.specs.CheckShape.{Side, checkShape}
 use Rattle.validation.specs.CheckScalar.{inTurn, checkScalar}
 use Rattle.validation.specs.Validate.{validate, checkScalarOnly}
@@ -24,7 +23,7 @@ use Rattle.validate.specs.Plans.{Pair, scalarOf, sidedOf}
 use Rattle.validate.specs.Walk.{Piece, piece, wroteOf, scalarPiece, typePiece, Roomy}
 use Rattle.validate.specs.declared.Wrote.{Wrote}
 use Rattle.validate.specs.declared.Wrote.the-variants.{Done, Refused}
-use Rattle.validate.proofs.CallLaws.{both-accepted}
+use Rattle.walk.specs.WholeLaws.{both-accepted}
 
 -- ---- two lone types
 
@@ -41,8 +40,7 @@ lone-placed s small p k e =
 
 pub lones : (s t : List ℕ) → Bytes s → Bytes t → both nothings (lone s) (lone t) ≡ accepted 0 → Lones s t
 lones s t small little e =
-    let h = both-accepted (lone s) (lone t) e in
-    passed-accepted (lone s) (h .0) λ a f. passed-accepted (lone t) (h .1) λ b g. go a b f g
+    both-accepted (lone s) (lone t) e λ a b f g. go a b f g
   where
     go : (a b : Ty) → lone s ≡ accepted a → lone t ≡ accepted b → Lones s t
     go (ty p k) (ty q l) f g =

@@ -6,27 +6,24 @@ use crate::descent::check_type;
 use crate::shapes::check_shapes;
 use lent::Written;
 use lent::hand_over;
-use lent::lay;
 use limits::MAX_BYTES;
-use limits::refusal::TOO_SHORT;
 use limits::refusal::WRONG_SHAPE;
-use record::DynShape;
 use record::Lone;
 use record::lone_scalar;
 use record::lone_shape;
 use record::read_both;
+use ty::write_parts;
 use walk::shape_at;
 use writer::put_shape;
 use writer::shape_length;
 ghost use mathlib.Core.Path.{_≡_};
-ghost use mathlib.Core.List.{_++_};
 ghost use Prim.Native.Nat.{_≤_};
 ghost use lib.ListN.{length};
 ghost use Rattle.model.specs.Limits.{maxBytes};
-ghost use Rattle.format.specs.Records.{writeShape, writeTy};
+ghost use Rattle.format.specs.Records.{writeTy};
 ghost use Rattle.format.specs.Outcome.{accepted, deliver, mapped, both, lone};
 ghost use Rattle.lent.specs.Written.{delivered, Puts};
-ghost use Rattle.record.specs.Answers.{nothings, shapeFor};
+ghost use Rattle.record.specs.Answers.{nothings};
 ghost use Rattle.validation.specs.Validate.{validate, checkScalarOnly, checkShapeOnly};
 ghost use Rattle.validate.specs.Answers.{sideOf};
 
@@ -47,7 +44,7 @@ pub fn check_shape(side: Side, spec: &[u8], ty: &[u8], result: &mut [u8]) -> Wri
     }
     let shape = checked.shape;
     let start = lone_scalar(ty);
-    write_parts(shape, &ty[start..], &mut *result)
+    write_parts(shape, b"", &ty[start..], &mut *result)
 }
 
 // `validate`: scalar first, then shape. What the type then is goes to bytes of its own first, so that a refusal leaves the result
@@ -96,26 +93,4 @@ pub fn check_scalar(spec: &[u8], ty: &[u8], result: &mut [u8]) -> Written
         Wrote::Done { end, types: _ } => hand_over(&out[..end], &mut *result),
         Wrote::Refused { number } => Written::Refused { number, place: 0 },
     }
-}
-
-// A shape's record, then the bytes of a scalar's.
-fn write_parts(shape: DynShape, scalar: &[u8], result: &mut [u8]) -> Written
-    ensures { λ r. ⌜ delivered r (now (result .exit)) ≡ deliver (accepted (writeShape (shapeFor shape) ++ now (scalar .entry))) (now (result .entry)) ⌝ }
-{
-    let n = shape_length(shape);
-    if result.len() < n {
-        return Written::Refused {
-            number: TOO_SHORT,
-            place: 0,
-        };
-    }
-    if result.len() - n < scalar.len() {
-        return Written::Refused {
-            number: TOO_SHORT,
-            place: 0,
-        };
-    }
-    put_shape(&mut *result, 0, shape);
-    lay(scalar, &mut *result, n);
-    Written::Wrote(n + scalar.len())
 }

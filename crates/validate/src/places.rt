@@ -8,6 +8,7 @@ use limits::BOX_ANY;
 use limits::MAX_DEPTH;
 use limits::MAX_TYPES;
 use record::Answer;
+use record::list_count;
 use record::read_type;
 use record::scalar_known;
 use walk::form_at;
@@ -137,10 +138,7 @@ fn has_name(n: u8) -> bool
 pub fn name_length(n: u8) -> usize
     ensures { λ r. ⌜ (r ≡ listCount n) × (r < 256) ⌝ }
 {
-    if n as u64 == ABSENT {
-        return 0;
-    }
-    n as usize
+    list_count(n as u64) as usize
 }
 
 // How many types a list of as many is.

@@ -4,6 +4,7 @@ use limits::BOX;
 use limits::BOX_ALL;
 use record::DynShape;
 use record::shape_known;
+use record::wide;
 ghost use mathlib.Core.Path.{_≡_};
 ghost use mathlib.Core.List.{List};
 ghost use mathlib.Core.Option.{Option};
@@ -28,12 +29,6 @@ pub fn form_at(s: &[u8], at: usize) -> u64
     ensures { λ r. ⌜ (r ≡ getD (now (s .entry)) (at + 5) 0) × (r < 256) ⌝ }
 {
     wide(s[at + 5])
-}
-
-fn wide(x: u8) -> u64
-    ensures { λ r. ⌜ (r ≡ x) × (r < 256) ⌝ }
-{
-    x as u64
 }
 
 // Whether a scalar is an All box, whose content then stands six bytes on.

@@ -3,7 +3,7 @@ use native.Mathlib.Omega.{arith}
 use Rattle.model.specs.Types.{ty}
 use Rattle.model.specs.Limits.{maxDepth}
 use Rattle.validate.specs.Plans.{scalarOf}
-use Rattle.validate.proofs.PlanLaws.{has-type, as-plain, as-box-any, as-box-all, as-box-def, tested, def-flag, any-shape, type-at, plan-any, plan-plain, plan-box-any, some-left}
+use Rattle.validate.proofs.PlanLaws.{has-type, as-plain, as-box-any, as-box-all, as-box-def, tested, def-flag, type-at, plan-any, plan-plain, plan-box-any, some-left}
 use borrow.Author.Needs.{needs}
 use Rattle.validate.proofs.plans.plan_scalar.Statement.{statement}
 use Rattle.validate.proofs.plans.plan_scalar.Tie as tie

@@ -14,7 +14,7 @@ use Rattle.model.specs.Types.{Shape, Kind, bool, nat, int, num, complex, ascii,
 use Rattle.format.specs.ReaderLaws.{Bytes}
 use Rattle.format.specs.Records.{scalarMark, markBytes, code, boxCode, boxStart, countOf, listOf, writeShape, writeScalar, writeFields, writeTy}
 use Rattle.format.specs.Outcome.{Outcome, accepted, refused, mapped, lone, scalarRecord, delivery, deliver}
-use Rattle.format.specs.Views.{Stands, stands-first, stands-second, stands-part, stands-within}
+use Rattle.format.specs.Views.{rest-is, Stands, stands-first, stands-second, stands-part, stands-within}
 use Rattle.lent.specs.Over.{over, over-front, drop-over, over-over}
 use Rattle.lent.specs.Delivers.{deliver-short, deliver-wrote}
 use Rattle.record.specs.Answers.{nothing}
@@ -28,7 +28,6 @@ use Rattle.walk.specs.AtLaws.{all-content, def-content, def-name, def-fields, f
 use Rattle.walk.specs.Whole.{ofScalar}
 use Rattle.walk.specs.WholeLaws.{record-there, scalar-there}
 use Rattle.scalar.specs.Calls.{unrefined}
-use Rattle.scalar.proofs.CallLaws.{rest-is}
 
 -- ---- bytes laid over a part of what stands there
 

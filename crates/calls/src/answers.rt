@@ -95,8 +95,8 @@ fn sign(order: Order) -> Answer {
     }
 }
 
-// One line, after the answers that stand in `out` up to `end`. Answers where it ends. Without its bytes a line has less
-// than 64.
+// One line, after the answers that stand in `out` up to `end`. Answers where it ends. Apart from what stands in the result
+// a line takes less than 64 bytes.
 pub fn say(answer: Answer, result: &[u8], out: &mut [u8], end: usize) -> usize {
     let at = room_for(64, &*out, end);
     match answer {

@@ -27,8 +27,8 @@ use words::part;
 // Bytes of a line, its line feed not counted.
 const MAX_LINE: usize = 131072;
 
-// A line is held with one byte more, by which it is too long. The bytes that its arguments stand for take two digits
-// each. A result has room for the longest answer, the list of a type's boxes.
+// A line is held with one byte more than it may have, so that a longer one is told. The bytes that its arguments stand
+// for take two digits each. A result has room for the longest answer, the list of a type's boxes.
 fn main() {
     let mut chunk = [0u8; 65536];
     let mut line = [0u8; MAX_LINE + 1];
@@ -39,7 +39,8 @@ fn main() {
 }
 
 // Answers line by line until the input ends. What was answered is written before more is read, so that whoever asks by
-// hand is answered at once. That the input ends cannot be proved, so a number of turns falls that no input uses up.
+// hand is answered at once. The loop has to be proved to end, and that the input ends cannot be: so the turns are counted
+// down from a number that no input uses up.
 fn serve(chunk: &mut [u8], line: &mut [u8], input: &mut [u8], result: &mut [u8], out: &mut [u8]) {
     let mut held = 0usize;
     let mut turns = u64::MAX;
@@ -65,7 +66,7 @@ fn serve(chunk: &mut [u8], line: &mut [u8], input: &mut [u8], result: &mut [u8],
     flush(&*out, end);
 }
 
-// As much of the input as there is at once: no byte at its end.
+// One read: as much of the input as there is at once, and no byte at its end.
 fn read_some(chunk: &mut [u8]) -> usize {
     let got = libc::read(0, &mut *chunk);
     io::count(got, &*chunk)

@@ -54,7 +54,7 @@ fn field(n: u64, a: &[u8], result: &mut [u8]) -> Answer {
     }
 }
 
-// The place after a stretch, which no bytes reach where the sum does not fit.
+// The place after a stretch. Of a stretch of bytes that are there the sum fits; where it does not, the start.
 fn after(start: usize, length: usize) -> usize {
     if length <= usize::MAX - start {
         return start + length;

@@ -5,7 +5,7 @@ use crate::words::part;
 use text::Number;
 use text::parse_bits;
 
-// A line holds no more: its first word has at least ten bytes, and a number takes seventeen.
+// A line holds no more: a number takes seventeen bytes with the space before it.
 pub const MAX_NUMBERS: usize = 7710;
 
 const SIGN: u64 = 9223372036854775808;

@@ -1,4 +1,4 @@
-// NAME SIDE HEX HEX: requests that hold a spec to a type, for a side or none.
+// NAME SIDE HEX HEX: requests that hold a type to a spec, for a side or none.
 use crate::answers::Answer;
 use crate::answers::delivered;
 use crate::arguments::Both;

@@ -1,4 +1,4 @@
--- What an accepted call says of its sheet; the call's answer from the run of a list of steps; and the types left from a stack,
+-- What an accepted call says of its run; the call's answer from the run of a list of steps; and the types left from a stack,
 -- counted from the bottom.
 use Prim.Native.Nat.{ℕ, zero, suc, _≤_}
 use native.Mathlib.Omega.{arith}
@@ -12,7 +12,6 @@ use lib.Dec.{leb, ltb}
 use borrow.Author.Tests.{le-leb, le-ltb}
 use Rattle.model.specs.Refusals.{tooShort, unpervaded}
 use Rattle.model.specs.Types.{Ty}
-use Rattle.format.specs.ReaderLaws.{Bytes}
 use Rattle.format.specs.Outcome.{Outcome, accepted, refused}
 use Rattle.machine.specs.SheetLimits.{scratchBytes}
 use Rattle.machine.specs.Steps.{Step, SheetOf}
@@ -23,7 +22,7 @@ use Rattle.machine.specs.Real.{RealShape, Holds}
 use Rattle.demand.specs.Claims.{Leaves, Mismatched, EachHolds}
 use Rattle.machine.specs.StepsHold.{Held}
 use Rattle.machine.specs.StepsWithin.{writeTypes-suffices, writeTypes-same}
-use Rattle.machine.specs.Sheets.{bottomFirst, sheet-steps, accepted-steps, left-within}
+use Rattle.machine.specs.Sheets.{bottomFirst, sheet-steps, left-within}
 
 -- ---- an accepted call
 
@@ -33,11 +32,11 @@ unfolding sheetCall
 call-run s result scratch h = rw (le-ltb (length scratch) scratchBytes h)
 
 -- What an accepted call says.
-record Accepted (s result scratch : List ℕ) (c : Tally) (out after : List ℕ) (ts : List Ty) : Type 0 where
-  run : sheetRun s ≡ accepted ts
-  answer : tally (length ts) (length (writeTypes ts)) ≡ c
-  written : atFront (writeTypes ts) result ≡ out
-  zero-after : zeroed scratch ≡ after
+pub record Accepted (s result scratch : List ℕ) (c : Tally) (out after : List ℕ) (ts : List Ty) : Type 0 where
+  pub run : sheetRun s ≡ accepted ts
+  pub answer : tally (length ts) (length (writeTypes ts)) ≡ c
+  pub written : atFront (writeTypes ts) result ≡ out
+  pub zero-after : zeroed scratch ≡ after
 
 handed : {C : Type 0} (size : ℕ) (o : Outcome (List Ty)) (result scratch : List ℕ) {c : Tally} {out after : List ℕ} → handOver size o result scratch ≡ called (accepted c) out after → ((ts : List Ty) → o ≡ accepted ts → tally (length ts) (length (writeTypes ts)) ≡ c → atFront (writeTypes ts) result ≡ out → scratch ≡ after → C) → C
 unfolding handOver
@@ -48,20 +47,13 @@ handed {C} size (accepted ts) result scratch {c} {out} {after} e f = go (leb (le
     go true e = f ts refl (cc) (cc) (cc)
     go false e = let z : _≡_ {A = ℕ} 0 1 = cc in absurd (omega arith)
 
-call-accepted : (s result scratch : List ℕ) (c : Tally) (out after : List ℕ) → sheetCall s result scratch ≡ called (accepted c) out after → (ts : List Ty) × Accepted s result scratch c out after ts
+pub call-accepted : (s result scratch : List ℕ) (c : Tally) (out after : List ℕ) → sheetCall s result scratch ≡ called (accepted c) out after → (ts : List Ty) × Accepted s result scratch c out after ts
 unfolding sheetCall
 call-accepted s result scratch c out after e = go (ltb (length scratch) scratchBytes) e
   where
     go : (b : Bool) → cond b (called (refused tooShort 0) result scratch) (handOver (length s) (sheetRun s) result (zeroed scratch)) ≡ called (accepted c) out after → (ts : List Ty) × Accepted s result scratch c out after ts
     go true e = let z : _≡_ {A = ℕ} 0 1 = cc in absurd (omega arith)
     go false e = handed (length s) (sheetRun s) result (zeroed scratch) e λ ts r a w z. (ts, record { run = r; answer = a; written = w; zero-after = z })
-
--- A sheet that the call accepts is the bytes of a list of steps, and leaves types.
-pub accepted-call : (s result scratch : List ℕ) → Bytes s → (c : Tally) (out after : List ℕ) → sheetCall s result scratch ≡ called (accepted c) out after → (xs : List Step) × (ts : List Ty) × SheetOf s xs × (steps xs [] ≡ gives (reverse ts)) × Leaves s result scratch ts
-accepted-call s result scratch small c out after e =
-    let (ts, a) = call-accepted s result scratch c out after e in
-    let (xs, h, k) = accepted-steps s small ts (a .run) in
-    (xs, ts, h, k, record { within = left-within s xs ts h (a .run) .1; outcome = rw (a .answer, a .written, a .zero-after) e })
 
 -- The types that an accepted call leaves are those of its run.
 pub leaves-run : (s result scratch : List ℕ) (xs : List Step) (ts : List Ty) → SheetOf s xs → Leaves s result scratch ts → sheetRun s ≡ accepted ts

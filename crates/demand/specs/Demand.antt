@@ -4,7 +4,7 @@
 use Prim.Native.Nat.{ℕ, _≤_}
 use mathlib.Core.List.{List, [], _∷_, reverse, reverse-reverse}
 use mathlib.Core.Logic.{_↔_}
-use mathlib.Core.Path.{_≡_}
+use mathlib.Core.Path.{_≡_, sym, _∙_, ap}
 use lib.ListN.{length}
 use Rattle.model.specs.Types.{Ty}
 use Rattle.format.specs.ReaderLaws.{Bytes}
@@ -19,22 +19,27 @@ use Rattle.machine.specs.Real.{RealShape, Feeds, Through}
 use Rattle.machine.specs.Conditions.{puts, SamePuts, countClosing}
 use Rattle.demand.specs.Claims.{Leaves, Mismatched, verdictOf, FirstConditions, EachHolds, SecondConditions}
 use Rattle.machine.specs.StepsTook.{skim-took}
-use Rattle.machine.specs.Sheets.{bottomFirst, sheet-steps, steps-told, skim-steps, left-within}
+use Rattle.machine.specs.Sheets.{bottomFirst, sheet-steps, accepted-steps, skim-steps, left-within}
+use Rattle.machine.specs.StepsReads.{writeSteps-same}
 use Rattle.machine.specs.StepsHold.{steps-hold}
+use Rattle.machine.specs.Orders.{order-shape}
 use Rattle.machine.specs.Verdicts.{Answered, passes, fails, answered}
-use Rattle.demand.specs.Calls.{accepted-call, leaves-run, held-each}
-use Rattle.demand.specs.SecondCalls.{not-both, pervadings, leaves-of, mismatched-of, call-verdict, call-shape}
+use Rattle.demand.specs.Calls.{call-accepted, leaves-run, held-each}
+use Rattle.demand.specs.SecondCalls.{not-both, pervadings, leaves-of, mismatched-of, steps-of, record-same, both-or-neither}
 
 -- ---- sheets and lists of steps
 
 -- A sheet that the call accepts, whatever the two buffers held, is the bytes of a list of steps that are worked, from the empty
 -- stack, to the types left.
 pub accepted-sheet : (s result scratch : List ℕ) → Bytes s → (n : Tally) (out after : List ℕ) → sheetCall s result scratch ≡ called (accepted n) out after → (xs : List Step) × (ts : List Ty) × SheetOf s xs × (steps xs [] ≡ gives (reverse ts)) × Leaves s result scratch ts
-accepted-sheet = accepted-call
+accepted-sheet s result scratch small n out after e =
+    let (ts, a) = call-accepted s result scratch n out after e in
+    let (xs, h, k) = accepted-steps s small ts (a .run) in
+    (xs, ts, h, k, record { within = left-within s xs ts h (a .run) .1; outcome = rw (a .answer, a .written, a .zero-after) e })
 
 -- There is one such list.
 pub one-list : (s : List ℕ) (xs ys : List Step) → SheetOf s xs → SheetOf s ys → xs ≡ ys
-one-list = steps-told
+one-list s xs ys h k = writeSteps-same xs ys (h .within) (k .within) (sym (h .bytes) ∙ k .bytes)
 
 -- The bytes of a list of steps get what the steps get, the place aside: the same types left, bottom first, or the same refusal.
 pub sheet-of-steps : (s : List ℕ) (xs : List Step) → SheetOf s xs → aside (sheetRun s) ≡ bottomFirst (steps xs [])
@@ -104,9 +109,15 @@ module _ (s result scratch : List ℕ) (small : Bytes s) (xs : List Step) (c : S
 module _ (s result scratch s′ result′ scratch′ : List ℕ) (small : Bytes s) (small′ : Bytes s′) (xs ys : List Step) (c : SecondConditions s result scratch xs) (c′ : SecondConditions s′ result′ scratch′ ys) (same : SamePuts xs ys) where
   -- "Gets the same verdict": accepted or mismatch, the place aside.
   pub same-verdict : verdictOf (sheetCall s result scratch) ≡ verdictOf (sheetCall s′ result′ scratch′)
-  same-verdict = call-verdict s result scratch s′ result′ scratch′ small small′ xs ys c c′ same
+  same-verdict =
+      both-or-neither s result scratch s′ result′ scratch′ small small′ xs ys c c′ same
+      (λ t u e e′. ap verdictOf (leaves-of s result scratch small xs c t e .outcome) ∙ sym (ap verdictOf (leaves-of s′ result′ scratch′ small′ ys c′ u e′ .outcome)))
+      (λ e e′. ap verdictOf (mismatched-of s result scratch small xs c e .outcome) ∙ sym (ap verdictOf (mismatched-of s′ result′ scratch′ small′ ys c′ e′ .outcome)))
 
   -- "And, if accepted with at most two naming closing sizes, the same shape": at most two puts, each counted as often as it stands
   -- there; equal shape records.
   pub same-shape : (t : Ty) → Leaves s result scratch (t ∷ []) → countClosing (puts xs) ≤ 2 → (u : Ty) × Leaves s′ result′ scratch′ (u ∷ []) × (shapeRecord t ≡ shapeRecord u)
-  same-shape t l n = call-shape s result scratch s′ result′ scratch′ small small′ xs ys c c′ same t l n
+  same-shape t l n =
+      both-or-neither s result scratch s′ result′ scratch′ small small′ xs ys c c′ same
+      (λ t′ u e e′. (u, leaves-of s′ result′ scratch′ small′ ys c′ u e′, record-same t u (order-shape xs ys same (pervadings s result scratch small xs c) (pervadings s′ result′ scratch′ small′ ys c′) n t u (steps-of s result scratch small xs c t l) e′)))
+      (λ e e′. not-both s result scratch (t ∷ []) l (mismatched-of s result scratch small xs c e))

@@ -1,8 +1,8 @@
 -- The second half of demand 3, from lists of steps to what the call answers.
-use Prim.Native.Nat.{ℕ, _≤_}
+use Prim.Native.Nat.{ℕ}
 use native.Mathlib.Omega.{arith}
 use mathlib.Core.List.{List, [], _∷_}
-use mathlib.Core.Path.{_≡_, sym, _∙_, ap}
+use mathlib.Core.Path.{_≡_, sym, ap}
 use Rattle.model.specs.Refusals.{unpervaded}
 use Rattle.model.specs.Types.{Ty, ty, shapeOf}
 use Rattle.format.specs.ReaderLaws.{Bytes}
@@ -10,13 +10,12 @@ use Rattle.format.specs.Records.{writeShape}
 use Rattle.format.specs.Outcome.{shapeRecord}
 use Rattle.machine.specs.Steps.{Step, SheetOf}
 use Rattle.machine.specs.Run.{gives, refuses, steps}
-use Rattle.machine.specs.Call.{sheetCall}
-use Rattle.machine.specs.Conditions.{puts, SamePuts, countClosing}
-use Rattle.demand.specs.Claims.{Leaves, Mismatched, verdictOf, SecondConditions}
+use Rattle.machine.specs.Conditions.{SamePuts}
+use Rattle.demand.specs.Claims.{Leaves, Mismatched, SecondConditions}
 use Rattle.machine.specs.Sheets.{left-within}
 use Rattle.machine.specs.StepsTook.{skim-took}
 use Rattle.machine.specs.Verdicts.{Pervadings, Answered, passes, fails, answered}
-use Rattle.machine.specs.Orders.{order-mismatch, order-shape}
+use Rattle.machine.specs.Orders.{order-mismatch}
 use Rattle.demand.specs.Calls.{leaves-run, call-leaves, call-mismatch}
 
 -- Accepted and refused are two.
@@ -43,13 +42,13 @@ module _ (s result scratch : List ℕ) (small : Bytes s) (xs : List Step) (c : S
 
 -- ---- another order or grouping
 
-record-same : (t u : Ty) → shapeOf t ≡ shapeOf u → shapeRecord t ≡ shapeRecord u
+pub record-same : (t u : Ty) → shapeOf t ≡ shapeOf u → shapeRecord t ≡ shapeRecord u
 record-same (ty s k) (ty t l) e = ap writeShape e
 
 module _ (s result scratch s′ result′ scratch′ : List ℕ) (small : Bytes s) (small′ : Bytes s′) (xs ys : List Step) (c : SecondConditions s result scratch xs) (c′ : SecondConditions s′ result′ scratch′ ys) (same : SamePuts xs ys) where
   -- both accepted, or both mismatched
-  both : {C : Type 0} → ((t u : Ty) → steps xs [] ≡ gives (t ∷ []) → steps ys [] ≡ gives (u ∷ []) → C) → (steps xs [] ≡ refuses unpervaded → steps ys [] ≡ refuses unpervaded → C) → C
-  both {C} k l = go (answered xs p) (answered ys q)
+  pub both-or-neither : {C : Type 0} → ((t u : Ty) → steps xs [] ≡ gives (t ∷ []) → steps ys [] ≡ gives (u ∷ []) → C) → (steps xs [] ≡ refuses unpervaded → steps ys [] ≡ refuses unpervaded → C) → C
+  both-or-neither {C} k l = go (answered xs p) (answered ys q)
     where
       p : Pervadings xs
       p = pervadings s result scratch small xs c
@@ -62,15 +61,3 @@ module _ (s result scratch s′ result′ scratch′ : List ℕ) (small : Bytes 
       go (fails e h) (fails e′ h′) = l e e′
       go (fails e h) (passes u e′ f′ r′ h′) = let z = order-mismatch xs ys same p q e in let z : _≡_ {A = ℕ} 0 1 = cc in absurd (omega arith)
       go (passes t e f r h) (fails e′ h′) = let z = order-mismatch ys xs (λ t. sym (same t)) q p e′ in let z : _≡_ {A = ℕ} 0 1 = cc in absurd (omega arith)
-
-  pub call-verdict : verdictOf (sheetCall s result scratch) ≡ verdictOf (sheetCall s′ result′ scratch′)
-  call-verdict =
-      both
-      (λ t u e e′. ap verdictOf (leaves-of s result scratch small xs c t e .outcome) ∙ sym (ap verdictOf (leaves-of s′ result′ scratch′ small′ ys c′ u e′ .outcome)))
-      (λ e e′. ap verdictOf (mismatched-of s result scratch small xs c e .outcome) ∙ sym (ap verdictOf (mismatched-of s′ result′ scratch′ small′ ys c′ e′ .outcome)))
-
-  pub call-shape : (t : Ty) → Leaves s result scratch (t ∷ []) → countClosing (puts xs) ≤ 2 → (u : Ty) × Leaves s′ result′ scratch′ (u ∷ []) × (shapeRecord t ≡ shapeRecord u)
-  call-shape t l n =
-      both
-      (λ t′ u e e′. (u, leaves-of s′ result′ scratch′ small′ ys c′ u e′, record-same t u (order-shape xs ys same (pervadings s result scratch small xs c) (pervadings s′ result′ scratch′ small′ ys c′) n t u (steps-of s result scratch small xs c t l) e′)))
-      (λ e e′. not-both s result scratch (t ∷ []) l (mismatched-of s result scratch small xs c e))

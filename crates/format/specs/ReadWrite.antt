@@ -37,12 +37,19 @@ code-kind (suc (suc (suc (suc (suc (suc (suc (suc zero)))))))) k e = let z : _�
 code-kind (suc (suc (suc (suc (suc (suc (suc (suc (suc zero))))))))) k e = let x : any ≡ k = cc in rw (← x)
 code-kind (suc (suc (suc (suc (suc (suc (suc (suc (suc (suc n)))))))))) k e = let z : _≡_ {A = ℕ} 0 1 = cc in absurd (omega arith)
 
-dim-back : (n : ℕ) → (eqb n ones || leb n maxSize) ≡ true → (dimNumber (dimOf n) ≡ n) × DimWithin (dimOf n)
-dim-back n t = go (eqb n ones) refl t
+pub dim-number : (n : ℕ) → dimNumber (dimOf n) ≡ n
+dim-number n = go (eqb n ones) refl
   where
-    go : (b : Bool) → eqb n ones ≡ b → (b || leb n maxSize) ≡ true → (dimNumber (cond b unknown (static n)) ≡ n) × DimWithin (cond b unknown (static n))
-    go true h t = (sym (eqb-true n ones h), tt)
-    go false h t = (refl, leb-true n maxSize t)
+    go : (b : Bool) → eqb n ones ≡ b → dimNumber (cond b unknown (static n)) ≡ n
+    go true h = sym (eqb-true n ones h)
+    go false h = refl
+
+dim-within : (n : ℕ) → (eqb n ones || leb n maxSize) ≡ true → DimWithin (dimOf n)
+dim-within n t = go (eqb n ones) t
+  where
+    go : (b : Bool) → (b || leb n maxSize) ≡ true → DimWithin (cond b unknown (static n))
+    go true t = tt
+    go false t = leb-true n maxSize t
 
 -- A list that may be absent, of at most `most` elements.
 record Optional {A : Type 0} (P : A → Type 0) (most n : ℕ) (xs : List A) : Type 0 where
@@ -107,7 +114,7 @@ module _ (s : List ℕ) (small : Bytes s) where
       split (number s 8 p at) e λ v m e₁ e₂.
       needed (eqb v ones || leb v maxSize) _ _ _ _ e₂ λ t e₃.
       gave e₃ λ x y.
-      rw (← x, ← y) (rw (dim-back v t .0) (took-number s small 8 p at v m e₁ .0), dim-back v t .1)
+      rw (← x, ← y) (rw (dim-number v) (took-number s small 8 p at v m e₁ .0), dim-within v t)
 
   took-dims : (k p at : ℕ) (ds : List Dim) (n : ℕ) → readDims s k p at ≡ got ds n → Took s at (writeDims ds) n × All DimWithin ds × (length ds ≡ k)
   unfolding readDims

@@ -11,7 +11,7 @@ use lib.ListN.{length, getD, drop, length-append, length-drop}
 use lib.Seq.{drop-drop, drop-append-seam, getD-drop, drop-cons}
 use lib.Dec.{ltb, lit<}
 use lib.Arith.{digits-div, digits-mod, digits-lt}
-use borrow.Author.Tests.{lt-ltb, ltb-true}
+use borrow.Author.Tests.{lt-ltb, le-ltb, ltb-true}
 use Rattle.model.specs.Refusals.{ended, outOfRange}
 use Rattle.format.specs.Reader.{Read, got, stopped, Reader, andThen, _>>=_, _>>_, give, stop, need, here, byte, judged, number, bytesOf}
 
@@ -33,13 +33,20 @@ module _ (s : List ℕ) where
   pub drop-past : (at : ℕ) (xs ys : List ℕ) → drop at s ≡ xs ++ ys → drop (at + length xs) s ≡ ys
   drop-past at xs ys e = sym (drop-drop (length xs) at s) ∙ ap (drop (length xs)) e ∙ drop-append-seam xs ys
 
-  byte-at : (p at b : ℕ) (rest : List ℕ) → drop at s ≡ b ∷ rest → byte s p at ≡ got b (suc at)
+  pub byte-there : (p at : ℕ) → at < length s → byte s p at ≡ got (getD s at 0) (suc at)
   unfolding byte
+  byte-there p at h = rw (lt-ltb at (length s) h)
+
+  pub byte-ended : (p at : ℕ) → length s ≤ at → byte s p at ≡ stopped ended p
+  unfolding byte
+  byte-ended p at h = rw (le-ltb at (length s) h)
+
+  byte-at : (p at b : ℕ) (rest : List ℕ) → drop at s ≡ b ∷ rest → byte s p at ≡ got b (suc at)
   byte-at p at b rest e =
       let l : length (drop at s) ≡ suc (length rest) = ap length e in
       let l′ : at < length s = omega (arith, length-drop at s) in
       let g : getD s at 0 ≡ b = rw (add-zero at) at (sym (getD-drop at s 0 0) ∙ ap (λ (x : List ℕ). getD x 0 0) e) in
-      rw (lt-ltb at (length s) l′, g)
+      byte-there p at l′ ∙ rw g
 
 module _ {s : List ℕ} where
   pub reads-give : {A : Type 0} {a : A} → Reads s (give a) [] a

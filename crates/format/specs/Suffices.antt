@@ -33,7 +33,7 @@ closing-most : (c : Option (List Dim)) → Each DimsWithin c → length (listOf 
 closing-most none h = omega arith
 closing-most (some c) h = h .0
 
-name-most : (n : Option (List ℕ)) → Each NameWithin n → length (listOf n) ≤ maxName
+pub name-most : (n : Option (List ℕ)) → Each NameWithin n → length (listOf n) ≤ maxName
 name-most none h = omega arith
 name-most (some n) h = h .0
 

@@ -1,13 +1,17 @@
 -- Where written bytes stand inside others, and what stands at the places within them: what a walk over bytes that were once
 -- read goes by.
-use Prim.Native.Nat.{ℕ, zero, suc, _+_, _≤_, _<_}
+use Prim.Native.Nat.{ℕ, zero, suc, _+_, _-_, _≤_, _<_}
 use native.Mathlib.Omega.{arith}
 use native.Mathlib.Nat.{zero-add, add-zero}
 use mathlib.Core.List.{List, [], _∷_, _++_, append-assoc, append-nil}
 use mathlib.Core.Path.{_≡_, refl, sym, _∙_, ap}
 use lib.ListN.{length, getD, take, drop, length-append, length-drop, drop-of-length-le, List·getD-append}
-use lib.Seq.{getD-drop, take-append-seam}
+use lib.Seq.{getD-drop, take-length, take-append-seam}
 use Rattle.format.specs.ReaderLaws.{Took, drop-past}
+
+-- The rest of a list, as a part of a slice has it.
+pub rest-is : (s : List ℕ) (n : ℕ) → take (length s - n) (drop n s) ≡ drop n s
+rest-is s n = ap (λ k. take k (drop n s)) (sym (length-drop n s)) ∙ take-length (drop n s)
 
 -- From place `at` on stand the bytes w.
 abbrev pub Stands : List ℕ → ℕ → List ℕ → Type 0

@@ -59,7 +59,7 @@ module _ {A : Type 0} (most : ℕ) (small : most < absent) where
   optional-ok none h = refl
   optional-ok (some c) h = rw (ne-eqb (length c) absent (λ x. omega arith))
 
-  listCount-ok : (c : Option (List A)) → length (listOf c) ≤ most → listCount (countOf c) ≡ length (listOf c)
+  pub listCount-ok : (c : Option (List A)) → length (listOf c) ≤ most → listCount (countOf c) ≡ length (listOf c)
   listCount-ok none h = refl
   listCount-ok (some c) h = rw (ne-eqb (length c) absent (λ x. omega arith))
 

@@ -8,40 +8,28 @@ use mathlib.Core.Path.{_≡_, refl, _∙_}
 use lib.ListN.{length, take, drop, length-reverse}
 use lib.Seq.{take-append-seam}
 use lib.Dec.{leb, ltb}
-use borrow.Author.Tests.{le-leb, le-ltb, ltb-true}
-use Rattle.model.specs.Refusals.{tooShort, overflow}
+use borrow.Author.Tests.{le-leb, le-ltb}
+use Rattle.model.specs.Refusals.{tooShort}
 use Rattle.model.specs.Types.{Ty}
 use Rattle.model.specs.Within.{All, Within}
 use Rattle.format.specs.ReaderLaws.{Bytes}
 use Rattle.format.specs.Outcome.{Outcome, accepted, refused}
 use Rattle.machine.specs.SheetLimits.{maxStack, scratchBytes}
-use Rattle.machine.specs.Steps.{Step, put, row, pervading, join, validating}
-use Rattle.machine.specs.Run.{gives, refuses, Stack, step, steps}
+use Rattle.machine.specs.Steps.{Step}
+use Rattle.machine.specs.Run.{gives, Stack, step, steps}
 use Rattle.machine.specs.Sheet.{sheetRun}
 use Rattle.machine.specs.Call.{tally, called, writeTypes, zeroed, atFront, handOver, sheetCall}
 use Rattle.machine.specs.StepsHold.{following-gives}
 use Rattle.machine.specs.StepsWithin.{writeTypes-suffices}
-use Rattle.machine.specs.SheetWorked.{step-height}
+use Rattle.machine.specs.StepsReads.{step-room}
 use Rattle.machine.specs.Sheets.{accepted-steps, left-within}
 
 -- ---- at most eight types are left
 
-step-few : (x : Step) (st st₁ : Stack) → length st ≤ maxStack → step x st ≡ gives st₁ → length st₁ ≤ maxStack
-unfolding step
-step-few (put t) st st₁ h e = go (ltb (length st) maxStack) refl e
-  where
-    go : (b : Bool) → ltb (length st) maxStack ≡ b → cond b (gives (t ∷ st)) (refuses overflow) ≡ gives st₁ → length st₁ ≤ maxStack
-    go true l e = let w : t ∷ st ≡ st₁ = cc in rw (← w) (omega (arith, ltb-true (length st) maxStack l))
-    go false l e = let z : _≡_ {A = ℕ} 0 1 = cc in absurd (omega arith)
-step-few row st st₁ h e = omega (arith, step-height row st st₁ e)
-step-few (pervading f g) st st₁ h e = omega (arith, step-height (pervading f g) st st₁ e)
-step-few join st st₁ h e = omega (arith, step-height join st st₁ e)
-step-few (validating spec) st st₁ h e = omega (arith, step-height (validating spec) st st₁ e)
-
 steps-few : (xs : List Step) (st st₁ : Stack) → length st ≤ maxStack → steps xs st ≡ gives st₁ → length st₁ ≤ maxStack
 unfolding steps
 steps-few [] st st₁ h e = let w : st ≡ st₁ = cc in rw (← w) h
-steps-few (x ∷ xs) st st₁ h e = following-gives (step x st) e λ st₂ e₁ e₂. steps-few xs st₂ st₁ (step-few x st st₂ h e₁) e₂
+steps-few (x ∷ xs) st st₁ h e = following-gives (step x st) e λ st₂ e₁ e₂. steps-few xs st₂ st₁ (step-room x st st₂ h e₁) e₂
 
 -- What the types left of a sheet keep to.
 pub record Few (ts : List Ty) : Type 0 where

@@ -2,7 +2,7 @@
 -- closed or open and no more, which is all that the first half of demand 3 asks of a shape.
 use Prim.Native.Nat.{ℕ, suc, _+_, _-_, _≤_}
 use native.Mathlib.Omega.{arith}
-use mathlib.Core.Bool.{Bool, true, false, _&&_}
+use mathlib.Core.Bool.{true, _&&_}
 use mathlib.Core.List.{List, [], _∷_, _++_}
 use mathlib.Core.Option.{Option, none, some}
 use mathlib.Core.Path.{_≡_, refl, sym, _∙_, ap}
@@ -11,6 +11,7 @@ use lib.Seq.{drop-at}
 use lib.Dec.{leb}
 use borrow.Author.Tests.{eqb-true, eq-eqb, leb-true, le-leb}
 use Rattle.model.specs.Types.{Dim, static, unknown, shape}
+use Rattle.validation.specs.OutcomeLaws.{both-true}
 use Rattle.machine.specs.Real.{RealShape, fitsDim, fitsDims, starts, ends, fits}
 
 -- ---- the predicate
@@ -36,10 +37,6 @@ Fits (d ∷ o) c [] = ⊥
 Fits (d ∷ o) c (n ∷ r) = Fit d n × Fits o c r
 
 -- ---- from the test
-
-both-true : (a b : Bool) → (a && b) ≡ true → (a ≡ true) × (b ≡ true)
-both-true true b h = (refl, h)
-both-true false b h = let z : _≡_ {A = ℕ} 0 1 = cc in absurd (omega arith)
 
 fit-of : (d : Dim) (n : ℕ) → fitsDim d n ≡ true → Fit d n
 fit-of (static m) n h = eqb-true m n h

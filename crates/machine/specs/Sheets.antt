@@ -17,7 +17,7 @@ use Rattle.machine.specs.Sheet.{sheetFrom, outcomeOf, sheetRun, skim}
 use Rattle.machine.specs.WellFormed.{Heights}
 use Rattle.machine.specs.StepsTook.{skim-took}
 use Rattle.machine.specs.SheetWorked.{Same, accepted-skims}
-use Rattle.machine.specs.StepsReads.{written-worked, written-skims, writeSteps-same}
+use Rattle.machine.specs.StepsReads.{written-worked, written-skims}
 use Rattle.machine.specs.StepsWithin.{steps-within}
 
 -- a stack as the types left, bottom first
@@ -45,10 +45,6 @@ accepted-steps s small ts e = go (sheetFrom s maxSteps [] 0) refl e
         let (xs, e₁, e₂) = accepted-skims s maxSteps [] st 0 n h in
         let w : reverse st ≡ ts = cc in
         (xs, skim-took s small xs (rw e₁) .0, rw (← w, reverse-reverse st) e₂)
-
--- There is one such list.
-pub steps-told : (s : List ℕ) (xs ys : List Step) → SheetOf s xs → SheetOf s ys → xs ≡ ys
-steps-told s xs ys h k = writeSteps-same xs ys (h .within) (k .within) (sym (h .bytes) ∙ k .bytes)
 
 -- Steps that lack no types and lay down none too many are read back to the end.
 pub skim-steps : (s : List ℕ) (xs : List Step) → SheetOf s xs → Heights xs 0 → skim s ≡ accepted xs

@@ -88,7 +88,7 @@ overfull join st h k l = absurd (omega arith)
 overfull (validating spec) st h k l = absurd (omega arith)
 
 -- what an accepted step leaves is not too high
-step-room : (x : Step) (st st₁ : Stack) → length st ≤ maxStack → step x st ≡ gives st₁ → length st₁ ≤ maxStack
+pub step-room : (x : Step) (st st₁ : Stack) → length st ≤ maxStack → step x st ≡ gives st₁ → length st₁ ≤ maxStack
 step-room x st st₁ h e = go (leb (takes (opcodeOf x)) (length st)) (leb (leaves (opcodeOf x) (length st)) maxStack) refl refl
   where
     go : (t u : Bool) → leb (takes (opcodeOf x)) (length st) ≡ t → leb (leaves (opcodeOf x) (length st)) maxStack ≡ u → length st₁ ≤ maxStack

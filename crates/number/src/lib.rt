@@ -148,7 +148,7 @@ fn cast_whole(x: f64, negative: bool) -> Sized
     requires { ⌜ classOf x ≡ whole negative ⌝ }
     ensures { λ r. ⌜ sizeOutcome r ≡ sizeOfWhole negative (magnitude x) ⌝ }
 {
-    // -0 has the sign of a negative number, and a cast would lose it.
+    // -0 has the sign of a negative number, and is size 0 all the same.
     if x == 0.0 {
         return Sized::Size(0);
     }

@@ -1,11 +1,11 @@
 -- The order of lists, shapes and names: one law for each way out of a function.
-use Prim.Native.Nat.{ℕ, zero, suc, _+_, _-_, _≤_, _<_}
+use Prim.Native.Nat.{ℕ, suc, _+_, _-_, _≤_, _<_}
 use native.Mathlib.Omega.{arith}
 use native.Mathlib.Numerals.{add-one}
 use mathlib.Core.Bool.{Bool, true, false, cond}
-use mathlib.Core.List.{List, [], _∷_, map}
+use mathlib.Core.List.{List}
 use mathlib.Core.Option.{Option, none, some}
-use mathlib.Core.Path.{_≡_, refl, sym, _∙_, ap}
+use mathlib.Core.Path.{_≡_, sym, _∙_, ap}
 use lib.ListN.{length, take, drop, getD, length-drop}
 use lib.Seq.{length-take-le, getD-take, getD-drop}
 use Rattle.model.specs.Types.{Dim, unknown, Shape, shape}
@@ -13,6 +13,7 @@ use Rattle.format.specs.Records.{absent, countOf, listOf, dimOf}
 use Rattle.record.specs.Answers.{dimsOf, closingFor, shapeFor}
 use Rattle.record.specs.declared.Dims.{Dims}
 use Rattle.record.specs.declared.DynShape.{DynShape}
+use Rattle.record.proofs.ByValue.{size-at}
 use Rattle.rules.specs.Sizes.{Order, less, same, more, cmpNumber, cmpDim}
 use Rattle.rules.specs.Order.{thenBy, cmpList, cmpOption, cmpShape, cmpName}
 use Rattle.walk.specs.At.{NameAt}
@@ -51,12 +52,6 @@ module _ {A : Type 0} (cmp : A → A → Order) (x y : List A) (z : A) where
 
 -- ---- sizes by value
 
-at-index : (count : ℕ) (sizes : List ℕ) (i : ℕ) → i < length (map dimOf (take count sizes)) → getD (map dimOf (take count sizes)) i unknown ≡ dimOf (getD sizes i 0)
-at-index zero sizes i h = absurd (omega arith)
-at-index (suc count) [] i h = absurd (omega arith)
-at-index (suc count) (n ∷ sizes) zero h = refl
-at-index (suc count) (n ∷ sizes) (suc i) h = at-index count sizes i (omega arith)
-
 module _ (a b : Dims) where
   abbrev pub Sized : ℕ → Type 0
   Sized i = Walked cmpDim (dimsOf a) (dimsOf b) unknown i
@@ -76,7 +71,7 @@ module _ (a b : Dims) where
 
     module _ (h : i < length (dimsOf a)) (k : i < length (dimsOf b)) {o : Order} (e : o ≡ cmpDim (dimOf (getD (a .sizes) i 0)) (dimOf (getD (b .sizes) i 0))) where
       there : o ≡ cmpDim (getD (dimsOf a) i unknown) (getD (dimsOf b) i unknown)
-      there = e ∙ rw (at-index (a .count) (a .sizes) i h, at-index (b .count) (b .sizes) i k)
+      there = e ∙ rw (size-at a i h, size-at b i k)
 
       pub size-less : o ≡ less → cmpDims ≡ less
       size-less f = differs-less cmpDim (dimsOf a) (dimsOf b) unknown i w h k there f

@@ -12,7 +12,7 @@ ghost use Rattle.report.specs.Laid.{Laid};
 ghost use Rattle.report.specs.Report.{lineFeed, reported, callOutcome, programOutcome, printed};
 ghost use Rattle.report.specs.Room.{callRoom, printRoom};
 
-// Bytes of a sheet that the program reads.
+// The most bytes that a sheet may have for the program: a longer one is refused.
 pub const MAX_SHEET: usize = 49152;
 
 // Bytes that suffice for the text of any sheet.

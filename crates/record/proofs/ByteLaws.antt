@@ -8,23 +8,16 @@ use mathlib.Core.List.{List, _∷_}
 use mathlib.Core.Path.{_≡_, refl, sym, _∙_, ap}
 use lib.ListN.{length, getD}
 use lib.Dec.{eqb, leb, ltb}
-use borrow.Author.Tests.{lt-ltb, le-ltb, le-leb, lt-leb, eq-eqb, ne-eqb, ltb-true, ltb-false}
+use borrow.Author.Tests.{le-leb, lt-leb, eq-eqb, ne-eqb, ltb-true, ltb-false}
 use Rattle.model.specs.Limits.{ones, maxSize}
 use Rattle.model.specs.Refusals.{ended, unmarked, outOfRange, oversized}
 use Rattle.format.specs.Reader.{Read, got, stopped, Reader, andThen, mapRead, give, need, byte, judged, number}
+use Rattle.format.specs.ReaderLaws.{byte-there, byte-ended}
 use Rattle.format.specs.Records.{mark, absent, dimNumber, dimOf, isCount, isOptional, isPrinting, readMark, readDim, readName}
 use Rattle.record.specs.Answers.{nothing, eightBytes}
 use Rattle.record.proofs.Known.{stopped-map, got-map}
 
 module _ (s : List ℕ) where
-  pub byte-there : (p at : ℕ) → at < length s → byte s p at ≡ got (getD s at 0) (suc at)
-  unfolding byte
-  byte-there p at h = rw (lt-ltb at (length s) h)
-
-  pub byte-ended : (p at : ℕ) → length s ≤ at → byte s p at ≡ stopped ended p
-  unfolding byte
-  byte-ended p at h = rw (le-ltb at (length s) h)
-
   -- ---- a byte that is judged
 
   module _ (fits : ℕ → Bool) (p at : ℕ) where
@@ -75,16 +68,16 @@ module _ (s : List ℕ) where
   number-there p at zero i h = rw add-zero
   number-there p at (suc k) i h =
       let n : number s k p (suc (at + i)) ≡ got (low at k (suc i)) (at + (suc i + k)) = rw add-suc at (number-there p at k (suc i) (omega arith)) in
-      rw (byte-there p (at + i) (omega arith), n) (ap (got (low at k (suc i) * 256 + getD s (at + i) 0)) (omega arith))
+      rw (byte-there s p (at + i) (omega arith), n) (ap (got (low at k (suc i) * 256 + getD s (at + i) 0)) (omega arith))
 
   pub number-ended : (k p at : ℕ) → length s < at + suc k → number s (suc k) p at ≡ stopped ended p
   unfolding number
-  number-ended zero p at h = rw (byte-ended p at (omega arith))
+  number-ended zero p at h = rw (byte-ended s p at (omega arith))
   number-ended (suc k) p at h = go (ltb at (length s)) refl (number-ended k p (suc at) (omega arith))
     where
       go : (t : Bool) → ltb at (length s) ≡ t → number s (suc k) p (suc at) ≡ stopped ended p → number s (suc (suc k)) p at ≡ stopped ended p
-      go true e rest = rw (byte-there p at (ltb-true at (length s) e), rest)
-      go false e rest = rw (byte-ended p at (ltb-false at (length s) e))
+      go true e rest = rw (byte-there s p at (ltb-true at (length s) e), rest)
+      go false e rest = rw (byte-ended s p at (ltb-false at (length s) e))
 
   module _ (p at v : ℕ) (e : v ≡ eightBytes s at) (h : at + 8 ≤ length s) where
     pub number-eight : number s 8 p at ≡ got v (at + 8)

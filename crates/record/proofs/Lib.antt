@@ -1,4 +1,5 @@
 pub mod Known
+pub mod ByValue
 mod ByteLaws
 mod ShapeLaws
 mod PlaceLaws

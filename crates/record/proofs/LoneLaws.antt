@@ -41,6 +41,25 @@ module _ {A B : Type 0} (x : Outcome A) (y : Outcome B) where
       go (accepted b) = refl
       go (refused k p) = refl
 
+  pub both-refused : {C : Type 0} (f : A → B → Outcome C) {k p : ℕ} → both nothings x y ≡ refused k p → both f x y ≡ refused k p
+  both-refused f e = go x y e
+    where
+      go : (x : Outcome A) (y : Outcome B) {k p : ℕ} → both nothings x y ≡ refused k p → both f x y ≡ refused k p
+      go (refused j q) y e = cc
+      go (accepted a) (refused j q) e = cc
+      go (accepted a) (accepted b) e = let z : _≡_ {A = ℕ} 0 1 = cc in absurd (omega arith)
+
+  pub both-accepted : {C : Type 0} → both nothings x y ≡ accepted 0 → ((a : A) (b : B) → x ≡ accepted a → y ≡ accepted b → C) → C
+  both-accepted {C} e f = go x y refl refl e
+    where
+      go : (x′ : Outcome A) (y′ : Outcome B) → x ≡ x′ → y ≡ y′ → both nothings x′ y′ ≡ accepted 0 → C
+      go (refused j q) y′ g h e = let z : _≡_ {A = ℕ} 0 1 = cc in absurd (omega arith)
+      go (accepted a) (refused j q) g h e = let z : _≡_ {A = ℕ} 0 1 = cc in absurd (omega arith)
+      go (accepted a) (accepted b) g h e = f a b g h
+
+  pub both-passed : both nothings x y ≡ accepted 0 → (mapped nothing x ≡ accepted 0) × (mapped nothing y ≡ accepted 0)
+  both-passed e = both-accepted e λ a b g h. (ap (mapped nothing) g, ap (mapped nothing) h)
+
 -- ---- a lone type
 
 module _ (s : List ℕ) (f : Ty → ℕ) where

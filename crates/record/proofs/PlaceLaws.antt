@@ -6,9 +6,7 @@ use mathlib.Core.Bool.{Bool, true, false, _&&_, _||_, cond}
 use mathlib.Core.List.{List, [], _∷_, _++_, map, append-assoc, append-nil}
 use mathlib.Core.Option.{none, some}
 use mathlib.Core.Path.{_≡_, refl, sym, _∙_, ap}
-use native.Mathlib.Numerals.{add-one}
 use lib.ListN.{length, getD, take, set}
-use lib.Seq.{take-suc-set}
 use lib.Dec.{eqb, leb, ltb}
 use borrow.Author.Tests.{leb-true, leb-false, ltb-true, eq-eqb, ne-eqb}
 use Rattle.model.specs.Limits.{ones, maxSize, maxSizes}
@@ -19,6 +17,7 @@ use Rattle.format.specs.ReaderLaws.{split, needed, gave}
 use Rattle.format.specs.Records.{Mark, mark, shapeMark, absent, dimOf, isCount, isOptional, listCount, optional, readMark, readDim, readDims, shapeFrom, readShape}
 use Rattle.record.specs.Answers.{eightBytes}
 use Rattle.record.specs.Places.{sizesFrom}
+use Rattle.record.proofs.ByValue.{one-more}
 use Rattle.record.proofs.ByteLaws.{number-eight, number-ended}
 use Rattle.record.proofs.ShapeLaws.{optional-count}
 
@@ -158,13 +157,6 @@ module _ {s : List ℕ} {at : ℕ} {o : Shape} {n : ℕ} (h : ShapeIs s at o n) 
 abbrev pub Gathered : List ℕ → ℕ → ℕ → List ℕ → ℕ → ℕ → Type 0
 Gathered s count start sizes i at = sizesFrom s count start ≡ map dimOf (take i sizes) ++ sizesFrom s (count - i) at
 
-map-append : {A B : Type 0} (f : A → B) (xs ys : List A) → map f (xs ++ ys) ≡ map f xs ++ map f ys
-map-append f [] ys = refl
-map-append f (x ∷ xs) ys = rw (map-append f xs ys)
-
-sizes-more : (sizes : List ℕ) (i v : ℕ) → i < length sizes → map dimOf (take (i + 1) (set sizes i v)) ≡ map dimOf (take i sizes) ++ (dimOf v ∷ [])
-sizes-more sizes i v l = rw (add-one, take-suc-set sizes i v l) (map-append dimOf (take i sizes) (v ∷ []))
-
 module _ (s : List ℕ) where
   pub gathered-none : (count start : ℕ) (sizes : List ℕ) → Gathered s count start sizes 0 start
   gathered-none count start sizes = rw sub-zero
@@ -174,7 +166,7 @@ module _ (s : List ℕ) where
   gathered-more count start sizes i at v less l e h =
       let x : count - i ≡ suc (count - (i + 1)) = omega arith in
       let y : sizesFrom s (count - i) at ≡ dimOf v ∷ sizesFrom s (count - (i + 1)) (at + 8) = rw (x, e) in
-      h ∙ rw y (sym (ap (λ ds. ds ++ sizesFrom s (count - (i + 1)) (at + 8)) (sizes-more sizes i v l) ∙ append-assoc (map dimOf (take i sizes)) (dimOf v ∷ []) (sizesFrom s (count - (i + 1)) (at + 8))))
+      h ∙ rw y (sym (ap (λ ds. ds ++ sizesFrom s (count - (i + 1)) (at + 8)) (one-more sizes i v l) ∙ append-assoc (map dimOf (take i sizes)) (dimOf v ∷ []) (sizesFrom s (count - (i + 1)) (at + 8))))
 
   pub gathered-all : (count start : ℕ) (sizes : List ℕ) (i at : ℕ) → i ≡ count → Gathered s count start sizes i at → map dimOf (take count sizes) ≡ sizesFrom s count start
   unfolding sizesFrom

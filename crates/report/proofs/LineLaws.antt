@@ -15,7 +15,6 @@ use Rattle.format.specs.ReaderLaws.{drop-past}
 use Rattle.format.specs.Records.{writeTy, readType}
 use Rattle.format.specs.WriteRead.{write-read}
 use Rattle.format.specs.Outcome.{accepted, refused}
-use Rattle.lent.specs.Over.{over}
 use Rattle.machine.specs.Call.{writeTypes}
 use Rattle.record.specs.Answers.{answerOf}
 use Rattle.record.specs.declared.Answer.{Answer}
@@ -38,9 +37,6 @@ pub record Walked (n : ℕ) (s between out₀ : List ℕ) (at : ℕ) (ts : List 
   pub within : All Within rest
   pub room : length text ≤ linesRoom (length between) i from
 
-over-none : (d : List ℕ) (at : ℕ) → over d at [] ≡ d
-over-none d at = sym (paste-zero d at [])
-
 add-sub : (m n : ℕ) → m + n - m ≡ n
 add-sub m n = omega arith
 
@@ -51,7 +47,7 @@ module _ (n : ℕ) (s between out₀ : List ℕ) (at : ℕ) (ts : List Ty) where
         rest = ts;
         text = [];
         lines = refl;
-        laid = record { ends = omega arith; laid = sym (over-none out₀ at) };
+        laid = record { ends = omega arith; laid = paste-zero out₀ at [] };
         bytes = h .bytes;
         reached = omega arith;
         count = h .count ∙ omega arith;

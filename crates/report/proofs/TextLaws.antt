@@ -14,7 +14,7 @@ use Rattle.text.specs.Place.{placed, noRoom, place}
 use Rattle.text.specs.Answers.{placing}
 use Rattle.text.specs.declared.Placed.{Placed}
 use Rattle.text.specs.declared.Placed.the-variants.{To, NoRoom}
-use Rattle.text.proofs.RenderLaws.{length-hexOf}
+use Rattle.text.specs.RoundTrips.{length-hexOf}
 use Rattle.report.specs.Laid.{Laid}
 use Rattle.report.specs.Report.{space, headed, typeLine}
 use Rattle.report.specs.Room.{headRoom, lineRoom}

@@ -1,4 +1,4 @@
--- Worked examples: document 01's two, a refusal, two types left, and other signs between the lines.
+-- Worked examples: document 01's two, a refusal, two types left, and other characters between the lines.
 use Prim.Native.Nat.{ℕ}
 use mathlib.Core.List.{List, [], _∷_, _++_}
 use mathlib.Core.Path.{_≡_, refl}

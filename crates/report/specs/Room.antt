@@ -1,4 +1,4 @@
--- Room that suffices for a text, by counts that code has at hand.
+-- Room that suffices for a text, by how many types it shows and how many bytes these take.
 use Prim.Native.Nat.{ℕ, _+_, _*_}
 use Rattle.machine.specs.SheetLimits.{maxStack, scratchBytes}
 
@@ -6,7 +6,7 @@ use Rattle.machine.specs.SheetLimits.{maxStack, scratchBytes}
 abbrev pub numberRoom : ℕ
 numberRoom = 20
 
--- a word of three signs and two numbers with a space between them
+-- a word of three characters and two numbers with a space between them
 abbrev pub headRoom : ℕ
 headRoom = 3 + numberRoom + 1 + numberRoom
 

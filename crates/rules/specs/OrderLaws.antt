@@ -4,34 +4,23 @@ use native.Mathlib.Omega.{arith}
 use mathlib.Core.List.{List, [], _∷_}
 use mathlib.Core.Option.{Option, none, some}
 use mathlib.Core.Path.{_≡_, refl, sym, ap}
-use Rattle.model.specs.Types.{Shape, shape, Kind, bool, nat, int, num, complex, ascii, char, stream, any, Scalar, plain, boxAny, boxAll, boxDef, Fields, noFields, field, Ty, ty}
+use Rattle.model.specs.Types.{Shape, shape, Kind, Scalar, plain, boxAny, boxAll, boxDef, Fields, noFields, field, Ty, ty}
 use Rattle.format.specs.Records.{code, kindOf, boxCode}
+use Rattle.format.specs.WriteRead.{kind-code}
 use Rattle.rules.specs.Sizes.{Order, less, same, more, cmpNumber, cmpDim}
 use Rattle.rules.specs.Order.{codeOf, thenBy, cmpList, cmpOption, cmpShape, cmpName, cmpScalar, cmpFields, compare}
 use Rattle.rules.specs.SizesLaws.{cmpNumber-refl, cmpNumber-same, cmpDim-refl, cmpDim-same}
 
 -- ---- codes
 
-kindOf-code : (k : Kind) → kindOf (code k) ≡ some k
-unfolding kindOf code
-kindOf-code bool = refl
-kindOf-code nat = refl
-kindOf-code int = refl
-kindOf-code num = refl
-kindOf-code complex = refl
-kindOf-code ascii = refl
-kindOf-code char = refl
-kindOf-code stream = refl
-kindOf-code any = refl
-
 pub code-same : (k l : Kind) → code k ≡ code l → k ≡ l
-code-same k l h = let a = kindOf-code k in let b = kindOf-code l in cc
+code-same k l h = let a = kind-code k in let b = kind-code l in cc
 
 -- no kind but Box has its code
 pub code-box : (k : Kind) → code k ≡ boxCode → ⊥
 unfolding kindOf
 code-box k h =
-    let a = kindOf-code k in
+    let a = kind-code k in
     let b : kindOf boxCode ≡ none = refl in
     let z : _≡_ {A = ℕ} 0 1 = cc in omega arith
 

@@ -5,10 +5,11 @@ use mathlib.Core.List.{List, [], _∷_, _++_}
 use mathlib.Core.Option.{Option}
 use mathlib.Core.Path.{_≡_, refl, sym, _∙_, ap}
 use lib.ListN.{length, getD, length-append}
-use Rattle.model.specs.Types.{Shape, Kind, bool, nat, int, num, complex, ascii, char, stream, any, Scalar, plain, boxAny, boxAll, boxDef, Fields, fieldCount}
-use Rattle.format.specs.Records.{code, boxCode, countOf, listOf, boxStart, writeShape, writeScalar, writeFields}
+use Rattle.model.specs.Types.{Shape, Kind, Scalar, plain, boxAny, boxAll, boxDef, Fields, Ty, ty, fieldCount}
+use Rattle.format.specs.Records.{boxCode, countOf, listOf, boxStart, writeShape, writeScalar, writeFields, writeTy}
 use Rattle.format.specs.Views.{Stands, stands-second, stands-nth, stands-within}
 use Rattle.rules.specs.Order.{codeOf}
+use Rattle.rules.specs.OrderLaws.{code-box}
 
 -- The form of a box: 0 Any, 1 All, 2 Def; a scalar that is no box has none of these.
 unfoldable pub formOf : Scalar → ℕ
@@ -40,21 +41,13 @@ scalar-least boxAny = omega arith
 scalar-least (boxAll s k) = omega arith
 scalar-least (boxDef n f) = omega arith
 
-code-boxed : (k : Kind) → code k ≡ boxCode → ⊥
-unfolding code
-code-boxed bool e = omega arith
-code-boxed nat e = omega arith
-code-boxed int e = omega arith
-code-boxed num e = omega arith
-code-boxed complex e = omega arith
-code-boxed ascii e = omega arith
-code-boxed char e = omega arith
-code-boxed stream e = omega arith
-code-boxed any e = omega arith
+pub type-least : (t : Ty) → 0 < length (writeTy t)
+unfolding writeTy
+type-least (ty o k) = omega (arith, length-append (writeShape o) (writeScalar k), scalar-least k)
 
 pub box-bytes : (k : Scalar) → codeOf k ≡ boxCode → writeScalar k ≡ boxStart (formOf k) ++ afterForm k
 unfolding writeScalar codeOf formOf afterForm
-box-bytes (plain k) e = absurd (code-boxed k e)
+box-bytes (plain k) e = absurd (code-box k e)
 box-bytes boxAny e = refl
 box-bytes (boxAll s k) e = refl
 box-bytes (boxDef n f) e = refl
@@ -112,7 +105,7 @@ is-box-def (boxDef n g) e f = f n g refl
 -- a box has one of the three forms
 pub is-box-def-else : (k : Scalar) → codeOf k ≡ boxCode → (formOf k ≡ 0 → ⊥) → (formOf k ≡ 1 → ⊥) → formOf k ≡ 2
 unfolding codeOf formOf
-is-box-def-else (plain l) e f g = absurd (code-boxed l e)
+is-box-def-else (plain l) e f g = absurd (code-box l e)
 is-box-def-else boxAny e f g = absurd (f refl)
 is-box-def-else (boxAll s l) e f g = absurd (g refl)
 is-box-def-else (boxDef n h) e f g = refl

@@ -29,7 +29,7 @@ use Rattle.record.proofs.Known.{known, told, got-map, stopped-map}
 use Rattle.rules.specs.Pervade.{pervade}
 use Rattle.rules.specs.Scalars.{union}
 use Rattle.machine.specs.Run.{pervadeTypes}
-use Rattle.walk.specs.WholeLaws.{both-accepted}
+use Rattle.record.proofs.LoneLaws.{both-accepted}
 use Rattle.run.specs.Answers.{atStart}
 
 -- ---- what a rule wrote

@@ -3,18 +3,18 @@ use Prim.Native.Nat.{ℕ, zero, suc, _+_, _-_, _≤_, _<_}
 use native.Mathlib.Omega.{arith}
 use native.Mathlib.Nat.{zero-add, add-zero}
 use native.Mathlib.Numerals.{add-one}
-use mathlib.Core.List.{List, [], _∷_, _++_, append-assoc, append-nil}
+use mathlib.Core.List.{List, [], _∷_, _++_, append-assoc}
 use mathlib.Core.Option.{Option}
 use mathlib.Core.Path.{_≡_, refl, sym, _∙_, ap, subst}
 use lib.ListN.{length, getD, set, take, drop, length-append, length-drop, take-append-drop}
-use lib.Seq.{take-add, set-split, append-snoc, drop-append-seam}
+use lib.Seq.{take-add, set-split, paste-zero, append-snoc, drop-append-seam}
 use Rattle.model.specs.Limits.{maxDepth}
 use Rattle.model.specs.Refusals.{tooShort}
 use Rattle.model.specs.Types.{Shape, Kind, bool, nat, int, num, complex, ascii, char, stream, any, Scalar, plain, boxAny, boxAll, boxDef, Fields, noFields, field, Ty, ty, shapeOf, scalarOf, fieldCount}
 use Rattle.format.specs.ReaderLaws.{Bytes}
 use Rattle.format.specs.Records.{scalarMark, markBytes, code, boxCode, boxStart, countOf, listOf, writeShape, writeScalar, writeFields, writeTy}
 use Rattle.format.specs.Outcome.{Outcome, accepted, refused, mapped, lone, scalarRecord, delivery, deliver}
-use Rattle.format.specs.Views.{Stands, stands-first, stands-second, stands-part, stands-within}
+use Rattle.format.specs.Views.{rest-is, Stands, stands-first, stands-second, stands-part, stands-within}
 use Rattle.lent.specs.Over.{over, over-front, drop-over, over-over}
 use Rattle.lent.specs.Delivers.{deliver-short, deliver-wrote}
 use Rattle.record.specs.Answers.{nothing}
@@ -28,14 +28,10 @@ use Rattle.walk.specs.AtLaws.{all-content, def-content, def-name, def-fields, f
 use Rattle.walk.specs.Whole.{ofScalar}
 use Rattle.walk.specs.WholeLaws.{record-there, scalar-there}
 use Rattle.scalar.specs.Calls.{unrefined}
-use Rattle.scalar.proofs.CallLaws.{rest-is}
 
 -- ---- bytes laid over a part of what stands there
 
 module _ (d : List ℕ) (at : ℕ) where
-  pub over-nothing : over d at [] ≡ d
-  over-nothing = rw (append-nil, add-zero) (take-append-drop at d)
-
   pub over-same : (w : List ℕ) → Stands d at w → over d at w ≡ d
   over-same w h = append-assoc (take at d) w (drop (at + length w) d) ∙ ap (λ x. take at d ++ x) (sym (h .is)) ∙ take-append-drop at d
 
@@ -215,7 +211,7 @@ module _ {out : List ℕ} {at d left end : ℕ} {final : List ℕ} (l : Left out
   left-end n = go (l .f) (l .count) (l .ends) (l .is)
     where
       go : (f : Fields) → left ≡ fieldCount f → at + length (writeFields f) ≡ end → over out at (writeFields (unrefineFields f)) ≡ final → (at ≡ end) × (out ≡ final)
-      go noFields c e is = (omega arith, sym (over-nothing out at) ∙ is)
+      go noFields c e is = (omega arith, paste-zero out at [] ∙ is)
       go (field o k f) c e is = absurd (omega arith)
 
   pub left-next : {r : ℕ} {after : List ℕ} → 0 < left → ((t : Ty) → TypeAt out at d t → (r ≡ at + length (writeTy t)) × (after ≡ over out at (writeTy (unrefined t)))) → Left after r d (left - 1) end final

@@ -7,12 +7,13 @@ use mathlib.Core.List.{List, [], _∷_, _++_, map}
 use mathlib.Core.Option.{Option, none, some}
 use mathlib.Core.Path.{_≡_, refl, sym, _∙_, ap}
 use lib.ListN.{length, take, drop, getD, set, getElem?, length-drop}
-use lib.Seq.{take-suc, take-suc-set, take-length, getD-drop}
-use borrow.Author.Tests.{le-leb, lt-leb}
+use lib.Seq.{take-suc, take-length, getD-drop}
+use borrow.Author.Tests.{le-leb, lt-leb, not-true, not-false}
 use Rattle.model.specs.Types.{Dim, unknown}
 use Rattle.format.specs.Records.{dimOf}
 use Rattle.record.specs.Answers.{dimsOf}
 use Rattle.record.specs.declared.Dims.{Dims}
+use Rattle.record.proofs.ByValue.{size-at, one-more}
 use Rattle.rules.specs.Sizes.{larger, rowCompatible, joinDim}
 use Rattle.rules.specs.Shapes.{compatibleDims, mergeDims, joinDims, joinEnds}
 use Rattle.rules.specs.ShapesLaws.{compatible-counts, merge-length, join-length, joinEnds-length}
@@ -21,14 +22,8 @@ use Rattle.rules.specs.Lists.{getElem?-in}
 
 -- ---- what stands at an index
 
-at-index : (count : ℕ) (sizes : List ℕ) (i : ℕ) (z : Dim) → i < length (map dimOf (take count sizes)) → getD (map dimOf (take count sizes)) i z ≡ dimOf (getD sizes i 0)
-at-index zero sizes i z h = absurd (omega arith)
-at-index (suc count) [] i z h = absurd (omega arith)
-at-index (suc count) (n ∷ sizes) zero z h = refl
-at-index (suc count) (n ∷ sizes) (suc i) z h = at-index count sizes i z (omega arith)
-
 pub slot-there : (d : Dims) (i : ℕ) → i < length (dimsOf d) → getElem? (dimsOf d) i ≡ some (dimOf (getD (d .sizes) i 0))
-slot-there d i h = getElem?-in (dimsOf d) i unknown h ∙ ap some (at-index (d .count) (d .sizes) i unknown h)
+slot-there d i h = getElem?-in (dimsOf d) i unknown h ∙ ap some (sym (size-at d i h))
 
 pub slot-size : (l : List Dim) (i : ℕ) (z : Dim) {d : Dim} → some d ≡ getElem? l i → d ≡ getD l i z
 slot-size [] i z e = cc
@@ -64,14 +59,6 @@ module _ (l : List Dim) (i : ℕ) where
   end-there h = rw (le-leb i (length l) h)
 
 -- ---- a list built index by index: the first i of it are there
-
-map-append : {A B : Type 0} (f : A → B) (l m : List A) → map f (l ++ m) ≡ map f l ++ map f m
-map-append f [] m = refl
-map-append f (x ∷ l) m = ap (λ r. f x ∷ r) (map-append f l m)
-
--- the first i numbers and one more
-pub one-more : (sizes : List ℕ) (i v : ℕ) → i < length sizes → map dimOf (take (i + 1) (set sizes i v)) ≡ map dimOf (take i sizes) ++ (dimOf v ∷ [])
-one-more sizes i v h = rw (add-one, take-suc-set sizes i v h) (map-append dimOf (take i sizes) (v ∷ []))
 
 abbrev pub Built : List Dim → List ℕ → ℕ → Type 0
 Built l sizes i = map dimOf (take i sizes) ≡ take i l
@@ -115,14 +102,6 @@ compatible-uneven o p h = go (compatibleDims o p) refl
     go : (t : Bool) → compatibleDims o p ≡ t → t ≡ false
     go true e = absurd (h (compatible-counts o p e))
     go false e = refl
-
-not-false : (t : Bool) → not t ≡ false → t ≡ true
-not-false true u = refl
-not-false false u = cc
-
-not-true : (t : Bool) → not t ≡ true → t ≡ false
-not-true true u = cc
-not-true false u = refl
 
 module _ (o p : List Dim) (i : ℕ) (m : i < length o) (n : i < length p) {x y : Dim} {t : Bool} (e : x ≡ getD o i unknown) (f : y ≡ getD p i unknown) (w : t ≡ rowCompatible x y) where
   step : compatibleDims (drop i o) (drop i p) ≡ (t && compatibleDims (drop (i + 1) o) (drop (i + 1) p))

@@ -17,7 +17,7 @@ use Rattle.record.specs.declared.Dims.{Dims}
 use Rattle.rules.specs.Pervade.{sizes, clash, thenRest, pervadeDims, unequal, together, againstAbsent, pervadeClosing, pervade}
 use Rattle.rules.specs.PervadeSteps.{pervadeAt, pervade-step, pervade-end, after, after-start, after-more, after-stop, after-end}
 use Rattle.rules.specs.Sizes.{Order, cmpDim}
-use Rattle.shape.proofs.DimsLaws.{one-more}
+use Rattle.record.proofs.ByValue.{one-more}
 use Rattle.shape.specs.Answers.{sizesBeside, shapeBeside}
 use Rattle.shape.specs.declared.Verdict.{Verdict}
 use Rattle.shape.specs.declared.Verdict.the-variants.{Pervaded as Pervades, Clash}

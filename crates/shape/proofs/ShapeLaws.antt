@@ -9,16 +9,7 @@ use lib.Dec.{eqb}
 use lib.ListN.{length, drop, getElem?}
 use borrow.Author.Tests.{ne-eqb}
 use Rattle.model.specs.Types.{Dim, static, unknown, shape}
-use Rattle.record.specs.Answers.{dimsOf, closingFor}
-use Rattle.record.specs.declared.DynShape.{DynShape}
 use Rattle.rules.specs.Shapes.{isScalar, isAny, rowCount, rank, rowShape, mergeDims, mergeClosing, joinDims, joinEnds, joinClosing, joinShapes}
-
-module _ (s : DynShape) where
-  pub closed-is : s .closed ≡ true → closingFor s ≡ none
-  closed-is e = rw e
-
-  pub open-is : s .closed ≡ false → closingFor s ≡ some (dimsOf (s .suffix))
-  open-is e = rw e
 
 -- ---- row count and rank
 

@@ -4,36 +4,16 @@ use native.Mathlib.Omega.{arith}
 use mathlib.Core.Bool.{Bool, true, false, not, cond}
 use mathlib.Core.List.{List}
 use mathlib.Core.Path.{_≡_, refl, sym, _∙_, ap}
+use borrow.Author.Tests.{not-true, not-false}
 use Rattle.model.specs.Refusals.{oversized}
 use Rattle.model.specs.Types.{Dim, Shape, Ty, ty, shapeOf}
 use Rattle.format.specs.Records.{dimOf}
 use Rattle.format.specs.Outcome.{Outcome, accepted, refused, mapped, bound, both, lone}
 use Rattle.record.specs.Answers.{nothing, nothings}
-use Rattle.record.proofs.LoneLaws.{passed-refused}
+use Rattle.record.proofs.LoneLaws.{passed-refused, both-refused}
 use Rattle.shape_calls.specs.Calls.{isSize, sizeAt, onSizes, onShape, onShapes}
 
--- ---- two outcomes whose values are passed over
-
-module _ {A B : Type 0} where
-  both-told : {C : Type 0} (f : A → B → Outcome C) (x : Outcome A) (y : Outcome B) {k p : ℕ} → both nothings x y ≡ refused k p → both f x y ≡ refused k p
-  both-told f (accepted a) (accepted b) e = let z : _≡_ {A = ℕ} 0 1 = cc in absurd (omega arith)
-  both-told f (accepted a) (refused j q) {k} {p} e = let x : j ≡ k = cc in let y : q ≡ p = cc in rw (x, y)
-  both-told f (refused j q) y {k} {p} e = let x : j ≡ k = cc in let z : q ≡ p = cc in rw (x, z)
-
-  pub both-passed : (x : Outcome A) (y : Outcome B) → both nothings x y ≡ accepted 0 → (mapped nothing x ≡ accepted 0) × (mapped nothing y ≡ accepted 0)
-  both-passed (accepted a) (accepted b) e = (refl, refl)
-  both-passed (accepted a) (refused k p) e = let z : _≡_ {A = ℕ} 0 1 = cc in absurd (omega arith)
-  both-passed (refused k p) y e = let z : _≡_ {A = ℕ} 0 1 = cc in absurd (omega arith)
-
 -- ---- two sizes
-
-not-true : (t : Bool) → not t ≡ true → t ≡ false
-not-true true e = cc
-not-true false e = refl
-
-not-false : (t : Bool) → not t ≡ false → t ≡ true
-not-false true e = refl
-not-false false e = cc
 
 module _ (a b : ℕ) where
   module _ {t : Bool} (e : t ≡ isSize a) where
@@ -49,7 +29,7 @@ module _ (a b : ℕ) where
 
   module _ {C : Type 0} (f : Dim → Dim → C) where
     pub sizes-told : {k p : ℕ} → both nothings (sizeAt 0 a) (sizeAt 1 b) ≡ refused k p → onSizes f a b ≡ refused k p
-    sizes-told e = both-told (λ d e. accepted (f d e)) (sizeAt 0 a) (sizeAt 1 b) e
+    sizes-told e = both-refused (sizeAt 0 a) (sizeAt 1 b) (λ d e. accepted (f d e)) e
 
     pub sizes-passed : both nothings (sizeAt 0 a) (sizeAt 1 b) ≡ accepted 0 → onSizes f a b ≡ accepted (f (dimOf a) (dimOf b))
     sizes-passed e = go (isSize a) (isSize b) e
@@ -80,7 +60,7 @@ both-shapes f (refused k p) y e h = let z : _≡_ {A = ℕ} 0 1 = cc in absurd (
 
 module _ {C : Type 0} (f : Shape → Shape → Outcome C) (a b : List ℕ) where
   pub shapes-told : {k p : ℕ} → both nothings (lone a) (lone b) ≡ refused k p → onShapes f a b ≡ refused k p
-  shapes-told e = both-told (λ t u. f (shapeOf t) (shapeOf u)) (lone a) (lone b) e
+  shapes-told e = both-refused (lone a) (lone b) (λ t u. f (shapeOf t) (shapeOf u)) e
 
   pub shapes-are : {s t : Shape} → mapped shapeOf (lone a) ≡ accepted s → mapped shapeOf (lone b) ≡ accepted t → onShapes f a b ≡ f s t
   shapes-are e h = both-shapes f (lone a) (lone b) e h

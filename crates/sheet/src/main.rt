@@ -12,7 +12,7 @@ pub enum Input {
     Failed,
 }
 
-// A byte more than a sheet may have is asked for, so that a longer one is told. Of a sheet that could not be read to its
+// One byte more than a sheet may have is read, so that a longer one is refused. Of a sheet that could not be read to its
 // end nothing is said.
 fn main() {
     let mut sheet = [0u8; MAX_SHEET + 1];
@@ -45,7 +45,7 @@ fn read_input(buf: &mut [u8]) -> Input
     Input::Bytes(n)
 }
 
-// One read: no byte at the input's end.
+// One read, which gives no byte at the input's end.
 fn read_some(buf: &mut [u8]) -> Input
     ensures { λ r. ⌜ Inside r (length (now (buf .entry))) ⌝ }
 {

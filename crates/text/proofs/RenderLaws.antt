@@ -1,4 +1,4 @@
--- Laws of texts that are written: how long they are and what stands at each place, and that twenty decimal digits suffice.
+-- Laws of texts that are written: what stands at each place, and that twenty decimal digits suffice.
 use Prim.Native.Nat.{ℕ, zero, suc, _+_, _*_, _/_, _%_, _^_, _≤_, _<_}
 use native.Mathlib.Omega.{arith}
 use native.Mathlib.Nat.{le-div-iff-mul-le, div-lt-iff-lt-mul, mod-eq-of-lt, pow-suc, one-le-pow, pow-le-pow-right}
@@ -12,11 +12,7 @@ use lib.Dec.{ltb}
 use borrow.Author.Tests.{lt-ltb, le-ltb, ltb-true, ltb-false}
 use Rattle.io.specs.Digits.{glyph, digits, Fewest}
 use Rattle.text.specs.Digits.{hexOf, decimalWithin, decimalOf}
-
-pub length-hexOf : (s : List ℕ) → length (hexOf s) ≡ 2 * length s
-unfolding hexOf
-length-hexOf [] = refl
-length-hexOf (b ∷ s) = omega (arith, length-hexOf s)
+use Rattle.text.specs.RoundTrips.{length-hexOf}
 
 pub getD-hexOf-high : (s : List ℕ) (i : ℕ) → i < length s → getD (hexOf s) (2 * i) 0 ≡ glyph (getD s i 0 / 16)
 unfolding hexOf

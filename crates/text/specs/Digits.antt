@@ -1,4 +1,4 @@
--- Bytes and numbers as text: what signs stand for, and what is written. A text is the list of its ASCII codes.
+-- Bytes and numbers as text: what characters stand for, and what is written. A text is the list of its ASCII codes.
 use Prim.Native.Nat.{ℕ, zero, suc, _+_, _-_, _*_, _/_, _%_, _^_}
 use mathlib.Core.Bool.{Bool, true, cond, _&&_}
 use mathlib.Core.List.{List, [], _∷_, _++_}
@@ -12,11 +12,11 @@ use Rattle.io.specs.Digits.{glyph}
 abbrev pub between : ℕ → ℕ → ℕ → Bool
 between low high c = leb low c && leb c high
 
--- What a sign is worth as a digit: 0 to 9, a to f in either case; 16, more than any digit, where it is none.
+-- What a character is worth as a digit: 0 to 9, a to f in either case; 16, more than any digit, where it is none.
 unfoldable pub digit : ℕ → ℕ
 digit c = cond (between 48 57 c) (c - 48) (cond (between 97 102 c) (c - 87) (cond (between 65 70 c) (c - 55) 16))
 
--- All signs are digits of the base.
+-- All characters are digits of the base.
 unfoldable pub areDigits : ℕ → List ℕ → Bool
 areDigits base [] = true
 areDigits base (c ∷ cs) = ltb (digit c) base && areDigits base cs
@@ -26,7 +26,7 @@ unfoldable pub numberAfter : ℕ → ℕ → List ℕ → ℕ
 numberAfter base n [] = n
 numberAfter base n (c ∷ cs) = numberAfter base (n * base + digit c) cs
 
--- A number in digits of a base that fits 64 bits.
+-- A number in digits of a base, if it fits 64 bits.
 unfoldable pub numeral : ℕ → List ℕ → Option ℕ
 numeral base s = cond (areDigits base s && ltb (numberAfter base 0 s) (2 ^ 64)) (some (numberAfter base 0 s)) none
 

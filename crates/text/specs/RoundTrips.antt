@@ -38,13 +38,13 @@ areDigits-hexOf (b ∷ s) h =
     let y : digit (glyph (b % 16)) ≡ b % 16 = digit-glyph (b % 16) (omega arith) in
     rw (x, y, lt-ltb (b / 16) 16 (omega (arith, h .0)), lt-ltb (b % 16) 16 (omega arith)) (areDigits-hexOf s (h .1))
 
-length-hexOf : (s : List ℕ) → length (hexOf s) % 2 ≡ 0
+pub length-hexOf : (s : List ℕ) → length (hexOf s) ≡ 2 * length s
 unfolding hexOf
 length-hexOf [] = refl
 length-hexOf (b ∷ s) = omega (arith, length-hexOf s)
 
 pub isHex-hexOf : (s : List ℕ) → Bytes s → isHex (hexOf s) ≡ true
-isHex-hexOf s h = rw (eq-eqb (length (hexOf s) % 2) 0 (length-hexOf s)) (areDigits-hexOf s h)
+isHex-hexOf s h = rw (eq-eqb (length (hexOf s) % 2) 0 (omega (arith, length-hexOf s))) (areDigits-hexOf s h)
 
 pub unhex-hexOf : (s : List ℕ) → Bytes s → unhex (hexOf s) ≡ s
 unfolding unhex hexOf

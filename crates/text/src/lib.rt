@@ -10,7 +10,7 @@ pub use render::put_bytes;
 pub use render::put_decimal;
 pub use render::put_hex;
 
-// What a text stands for.
+// The number that a text stands for; Other where it stands for none.
 pub enum Number {
     Value(u64),
     Other,
@@ -22,7 +22,7 @@ pub enum Placed {
     NoRoom,
 }
 
-// The same for the bytes that a text stands for.
+// The same for the bytes that a text stands for, or that it is no hexadecimal text.
 pub enum Decoded {
     To(usize),
     NoRoom,

@@ -1,4 +1,4 @@
-// What signs stand for. Either case of a hexadecimal digit will do.
+// What a text stands for. Hexadecimal digits are read in either case.
 use crate::Decoded;
 use crate::Number;
 ghost use mathlib.Core.Path.{_≡_};
@@ -10,7 +10,7 @@ ghost use Rattle.text.specs.Digits.{digit, areDigits, numeral, decimal, 
 ghost use Rattle.text.specs.Place.{placeDecoded};
 ghost use Rattle.text.specs.Answers.{numberOf, decoding};
 
-// A digit's value, or 16 for a sign that is no digit.
+// A digit's value, or 16 for a character that is no digit.
 pub fn hex_digit_value(c: u8) -> u8
     ensures { λ r. ⌜ (r ≡ digit c) × (r ≤ 16) ⌝ }
 {
@@ -56,7 +56,7 @@ pub fn decode_hex(text: &[u8], out: &mut [u8], at: usize) -> Decoded
     Decoded::To(at + n)
 }
 
-// A decimal number of at most 64 bits. Zeros before it do no harm.
+// A decimal number of at most 64 bits, which may have zeros before it.
 pub fn parse_decimal(text: &[u8]) -> Number
     ensures { λ r. ⌜ numberOf r ≡ decimal (now (text .entry)) ⌝ }
 {

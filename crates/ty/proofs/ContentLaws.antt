@@ -1,12 +1,12 @@
 -- What stands in a box: the bytes of each way out, and that they stand inside the type's own.
-use Prim.Native.Nat.{ℕ, zero, suc, _+_, _-_, _≤_, _<_}
+use Prim.Native.Nat.{ℕ, zero, suc, _+_, _-_, _≤_}
 use native.Mathlib.Omega.{arith}
 use mathlib.Core.Bool.{true, false}
 use mathlib.Core.List.{List, [], _∷_, _++_}
 use mathlib.Core.Option.{Option, none, some}
 use mathlib.Core.Path.{_≡_, refl, sym, _∙_, ap}
-use lib.ListN.{length, take, drop, length-append, length-drop}
-use lib.Seq.{take-length, drop-drop}
+use lib.ListN.{length, take, drop, length-drop}
+use lib.Seq.{drop-drop}
 use Rattle.model.specs.Limits.{maxBytes}
 use Rattle.model.specs.Types.{Shape, Scalar, plain, boxAny, boxAll, boxDef, Fields, noFields, field, Ty, ty, shapeOf}
 use Rattle.format.specs.ReaderLaws.{Bytes}
@@ -14,23 +14,19 @@ use Rattle.format.specs.Records.{code, writeShape, writeScalar, writeFields, wr
 use Rattle.format.specs.Outcome.{Outcome, accepted, refused, mapped, lone}
 use Rattle.format.specs.ReadWrite.{lone-parts, lone-write}
 use Rattle.format.specs.Suffices.{suffices}
-use Rattle.format.specs.Views.{Stands, stands-first, stands-second, stands-within}
+use Rattle.format.specs.Views.{rest-is, Stands, stands-first, stands-second, stands-within}
 use Rattle.record.specs.Answers.{nothing}
 use Rattle.record.proofs.LoneLaws.{passed-accepted}
 use Rattle.rules.specs.Shapes.{isScalar}
 use Rattle.rules.specs.Types.{anyTy, fieldIn, firstField, orElse, stretch, stretchIn, fieldAt, fieldPlace, unboxed}
 use Rattle.rules.specs.FieldsLaws.{cut, written, field-bytes}
-use Rattle.rules.specs.Views.{scalar-least}
+use Rattle.rules.specs.Views.{type-least}
 use Rattle.ty.specs.Parts.{heldBy, contentOf}
 use Rattle.ty.specs.declared.parts.Held.the-variants.{Plain, BoxAny, BoxAll, BoxDef}
 use Rattle.ty.proofs.PartLaws.{View, view, view-plain, view-any, view-all}
 use Rattle.ty.proofs.FieldLaws.{Def, fields}
 
 -- ---- parts of a slice
-
--- the rest of a list, as a part of a slice has it
-pub rest-is : (s : List ℕ) (n : ℕ) → take (length s - n) (drop n s) ≡ drop n s
-rest-is s n = ap (λ k. take k (drop n s)) (sym (length-drop n s)) ∙ take-length (drop n s)
 
 pub rest-short : (s : List ℕ) (n : ℕ) {most : ℕ} → length s ≤ most → length (take (length s - n) (drop n s)) ≤ most
 rest-short s n h = rw (rest-is s n) (omega (arith, length-drop n s))
@@ -46,10 +42,6 @@ anyBytes = 0x53 ∷ 0x48 ∷ 0 ∷ 0 ∷ 0x53 ∷ 0x43 ∷ 9 ∷ []
 pub any-bytes : writeTy anyTy ≡ anyBytes
 unfolding writeTy writeShape writeScalar code
 any-bytes = refl
-
-type-least : (t : Ty) → 0 < length (writeTy t)
-unfolding writeTy
-type-least (ty s k) = omega (arith, length-append (writeShape s) (writeScalar k), scalar-least k)
 
 pub lone-short : (s : List ℕ) → Bytes s → mapped nothing (lone s) ≡ accepted 0 → length s ≤ maxBytes
 lone-short s small accepts = passed-accepted (lone s) accepts λ t e.

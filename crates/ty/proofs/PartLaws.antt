@@ -4,15 +4,18 @@ use native.Mathlib.Omega.{arith}
 use native.Mathlib.Nat.{zero-add}
 use mathlib.Core.Path.{_≡_, refl, sym, _∙_, ap}
 use mathlib.Core.List.{List, [], _∷_, _++_}
-use mathlib.Core.Option.{Option, none, some}
+use mathlib.Core.Option.{Option, some}
 use lib.ListN.{length, getD, drop, length-append, length-drop}
-use borrow.Author.Tests.{ne-eqb}
+use lib.Dec.{lit<}
+use Rattle.model.specs.Limits.{maxName}
 use Rattle.model.specs.Types.{Shape, Kind, Scalar, plain, boxAny, boxAll, boxDef, Fields, Ty, ty, fieldCount}
-use Rattle.model.specs.Within.{Each, NameWithin, Within}
+use Rattle.model.specs.Within.{Within}
 use Rattle.format.specs.ReaderLaws.{Bytes}
 use Rattle.format.specs.Records.{boxCode, countOf, listOf, listCount, writeShape, writeScalar, writeFields, writeTy}
 use Rattle.format.specs.Outcome.{Outcome, accepted, refused, mapped, lone, scalarRecord}
+use Rattle.format.specs.WriteRead.{listCount-ok}
 use Rattle.format.specs.ReadWrite.{lone-write}
+use Rattle.format.specs.Suffices.{name-most}
 use Rattle.format.specs.Views.{Stands, stands-all, stands-second, stands-byte, stands-within}
 use Rattle.rules.specs.Order.{codeOf}
 use Rattle.rules.specs.Types.{beforeFields}
@@ -36,10 +39,6 @@ pub record Named (s : List ℕ) (at : ℕ) (n : Option (List ℕ)) (f : Fields) 
   pub whole : at + 7 + length (listOf n) + 1 ≤ length s
   pub fields : getD s (at + 7 + length (listOf n)) 0 ≡ fieldCount f
   pub stands : Stands s (at + 7 + length (listOf n) + 1) (writeFields f)
-
-name-count : (n : Option (List ℕ)) → Each NameWithin n → listCount (countOf n) ≡ length (listOf n)
-name-count none h = refl
-name-count (some n) h = rw (ne-eqb (length n) 255 (λ x. omega (arith, h .0)))
 
 module _ (s : List ℕ) where
   pub named : (at : ℕ) (n : Option (List ℕ)) (f : Fields) → Stands s (at + 6) (countOf n ∷ (listOf n ++ (fieldCount f ∷ writeFields f))) → Named s at n f
@@ -121,7 +120,7 @@ module _ (s : List ℕ) (small : Bytes s) (at : ℕ) (scalar : mapped scalarReco
       name-there = def λ o n f h g. omega (arith, g .whole)
 
       counted : (o : Shape) (n : Option (List ℕ)) (f : Fields) → Opened s at o (boxDef n f) → Named s at n f → listCount (getD s (at + 6) 0) ≡ length (listOf n)
-      counted o n f h g = ap listCount (g .count) ∙ name-count n (h .within .records .1 .0)
+      counted o n f h g = ap listCount (g .count) ∙ listCount-ok maxName (lit< tt) n (name-most n (h .within .records .1 .0))
 
       pub count-there : {l : ℕ} → l ≡ listCount (getD s (at + 6) 0) → at + 7 + l + 1 ≤ length s
       count-there e = def λ o n f h g. omega (arith, g .whole, counted o n f h g)

@@ -46,9 +46,9 @@ rowDelivered (Number x) buffer = handed x buffer
 rowDelivered (Wrote n) buffer = written (delivery (accepted n) buffer)
 rowDelivered (RefusedRow k p) buffer = written (delivery (refused k p) buffer)
 
--- ---- what helpers lay down
+-- ---- records by the code of a kind
 
--- a scalar's record by its kind's code, and a type's of these sizes, closed
+-- a plain scalar's record, and that of a type with these sizes and no closing ones
 abbrev pub kindRecord : ℕ → List ℕ
 kindRecord kind = markBytes scalarMark ++ (kind ∷ [])
 

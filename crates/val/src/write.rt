@@ -1,4 +1,4 @@
-// What the answers of this crate are written by: closed types of a plain kind, and a type's own bytes.
+// How the answers of this crate are written: a closed type of a plain kind, a plain scalar alone, or a type's own bytes.
 use lent::Written;
 use lent::hand_over;
 use limits::MAX_SIZES;

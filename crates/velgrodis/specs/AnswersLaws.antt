@@ -1,19 +1,9 @@
--- Sizes as numbers: a number that was taken for a size stands for it.
+-- Lists of sizes as numbers: numbers that were taken for sizes stand for them.
 use Prim.Native.Nat.{ℕ}
-use mathlib.Core.Bool.{Bool, true, false}
 use mathlib.Core.List.{List, [], _∷_, map}
-use mathlib.Core.Path.{_≡_, refl, sym, _∙_, ap}
-use lib.Dec.{eqb}
-use borrow.Author.Tests.{eqb-true}
-use Rattle.model.specs.Limits.{ones}
+use mathlib.Core.Path.{_≡_, refl, _∙_, ap}
 use Rattle.format.specs.Records.{dimNumber, dimOf}
-
-pub dim-number : (n : ℕ) → dimNumber (dimOf n) ≡ n
-dim-number n = go (eqb n ones) refl
-  where
-    go : (t : Bool) → eqb n ones ≡ t → dimNumber (dimOf n) ≡ n
-    go true e = rw e (sym (eqb-true n ones e))
-    go false e = rw e
+use Rattle.format.specs.ReadWrite.{dim-number}
 
 pub dims-numbers : (ns : List ℕ) → map dimNumber (map dimOf ns) ≡ ns
 dims-numbers [] = refl

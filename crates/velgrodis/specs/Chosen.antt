@@ -1,4 +1,4 @@
--- What the answers of this crate among themselves say.
+-- What the choices of this crate say: the side, or the value, that a host's number stands for.
 use Prim.Native.Nat.{ℕ}
 use mathlib.Core.List.{List}
 use lib.Ieee.{Float}

@@ -1,5 +1,5 @@
 -- Numbers by which a host says what it means: a flag, a side, what value it hands in. They are judged before anything is read: one that
--- says nothing is 3, at place 0.
+-- stands for nothing is refusal 3, at place 0.
 use Prim.Native.Nat.{ℕ}
 use mathlib.Core.Bool.{cond}
 use mathlib.Core.List.{List, [], _∷_}

@@ -11,7 +11,7 @@ use Rattle.rules.specs.Sizes.{Order, less, same, more}
 use Rattle.rules.specs.Types.{Stretch, stretch}
 use Rattle.machine.specs.Call.{Tally, tally}
 use Rattle.velgrodis.specs.Answers.{answered, counted, tested, sized, compared, found, tallied}
-use Rattle.velgrodis.specs.AnswersLaws.{dim-number}
+use Rattle.format.specs.ReadWrite.{dim-number}
 use Rattle.velgrodis.specs.declared.Answer.{Answer}
 
 -- by its kind a refusal, or what the two numbers say

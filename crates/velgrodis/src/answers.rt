@@ -1,4 +1,4 @@
-// Each enum that a call answers, as an answer that crosses.
+// Each enum that a call answers, as the answer that crosses to a host.
 use crate::Answer;
 use lent::Counted;
 use lent::Tested;

@@ -12,7 +12,7 @@ ghost use Rattle.shape_calls.specs.Calls.{mergeCall, joinCall, rowCall, compati
 ghost use Rattle.velgrodis.specs.Answers.{handed, written, counted, sized, tested};
 ghost use Rattle.velgrodis.specs.Codes.{pervadeFlagged};
 
-// A flag byte.
+// The greatest flag, which has both bits.
 const MAX_FLAG: u64 = 3;
 
 // The first merges from the second.

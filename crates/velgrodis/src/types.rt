@@ -13,7 +13,7 @@ ghost use Rattle.ty.specs.Calls.{deliverBoxes};
 ghost use Rattle.join.specs.Calls.{joinCall};
 ghost use Rattle.velgrodis.specs.Answers.{handed, counted, found, written, listed};
 
-// A lone type: the value is 0.
+// Whether the bytes are a lone type: the value is 0 if they are.
 #[no_mangle]
 pub extern "C" fn vg_read(ty: &[u8]) -> Answer
     ensures { λ r. ⌜ r ≡ counted (mapped nothing (lone (now (ty .entry)))) ⌝ }

@@ -12,7 +12,7 @@ ghost use Rattle.velgrodis.specs.Answers.{handed, written};
 ghost use Rattle.velgrodis.specs.Codes.{sideFor, sided};
 ghost use Rattle.velgrodis.specs.Chosen.{sideChosen};
 
-// The side that a number says, if it says one.
+// The side that a number stands for, if it stands for one.
 pub enum Sided {
     For(Side),
     Unsaid,

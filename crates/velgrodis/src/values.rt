@@ -1,4 +1,4 @@
-// Calls on values handed in. What a value is says a number before it: 0 the number x, 1 the list, 2 the type.
+// Calls on values handed in. The number `kind` says which of those lent is the value: 0 the number x, 1 the list, 2 the type.
 use crate::Answer;
 use crate::answers::nothing;
 use crate::answers::of_count;
@@ -21,7 +21,7 @@ ghost use Rattle.velgrodis.specs.Answers.{handed, written, listed, count
 ghost use Rattle.velgrodis.specs.Codes.{handedIn};
 ghost use Rattle.velgrodis.specs.Chosen.{valueChosen};
 
-// The value that a number says, if it says one.
+// The value that a number stands for, if it stands for one.
 pub enum Chosen {
     Is(Value),
     Unsaid,

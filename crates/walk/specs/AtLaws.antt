@@ -5,7 +5,7 @@ use mathlib.Core.Bool.{true, false}
 use mathlib.Core.List.{List, [], _∷_, _++_}
 use mathlib.Core.Option.{Option, none, some}
 use mathlib.Core.Path.{_≡_, refl, sym, _∙_, ap, subst}
-use lib.ListN.{length, getD, take, drop, length-append}
+use lib.ListN.{length, getD, take, drop}
 use lib.Dec.{eqb}
 use Rattle.model.specs.Types.{Shape, Scalar, plain, boxAny, boxAll, boxDef, Fields, field, Ty, ty, shapeOf, scalarOf, fieldCount, below, deepest}
 use Rattle.model.specs.Within.{Each, NameWithin}
@@ -15,7 +15,7 @@ use Rattle.format.specs.Records.{absent, boxCode, boxStart, countOf, listOf, wr
 use Rattle.format.specs.WriteRead.{reads-shape}
 use Rattle.format.specs.Views.{Stands, stands-first, stands-second, stands-byte, stands-within, stands-part}
 use Rattle.rules.specs.Order.{codeOf}
-use Rattle.rules.specs.Views.{formOf, scalar-least, kind-within, kind-byte, form-within, form-byte, is-box-all, is-box-def, is-box-def-else}
+use Rattle.rules.specs.Views.{formOf, type-least, kind-within, kind-byte, form-within, form-byte, is-box-all, is-box-def, is-box-def-else}
 use Rattle.record.specs.Answers.{shapeFor}
 use Rattle.record.specs.Places.{HasShape}
 use Rattle.record.specs.declared.DynShape.{DynShape}
@@ -87,10 +87,6 @@ module _ (s : List ℕ) (at d : ℕ) where
       records = h .records .2;
       shallow = omega (arith, h .shallow);
     }
-
-pub type-least : (t : Ty) → 0 < length (writeTy t)
-unfolding writeTy
-type-least (ty o k) = omega (arith, length-append (writeShape o) (writeScalar k), scalar-least k)
 
 pub type-within : (s : List ℕ) (at d : ℕ) (t : Ty) → TypeAt s at d t → at + length (writeTy t) ≤ length s
 type-within s at d t h = stands-within s at (writeTy t) (type-least t) (h .stands)

@@ -1,40 +1,21 @@
--- Whole types: what a call on two of them refuses, and what stands where in those that were read.
+-- Whole types: what stands where in those that were read.
 use Prim.Native.Nat.{ℕ, _+_, _-_, _≤_}
 use native.Mathlib.Omega.{arith}
 use mathlib.Core.List.{List, [], _++_, append-nil}
-use mathlib.Core.Path.{_≡_, refl, sym, _∙_, ap}
+use mathlib.Core.Path.{_≡_, sym, _∙_, ap}
 use lib.ListN.{length, drop, length-drop, drop-of-length-le}
 use Rattle.model.specs.Limits.{maxDepth}
 use Rattle.model.specs.Types.{Scalar, Ty, ty, scalarOf}
 use Rattle.format.specs.ReaderLaws.{Bytes}
 use Rattle.format.specs.Records.{writeScalar, writeTy}
-use Rattle.format.specs.Outcome.{Outcome, accepted, refused, mapped, bound, both, lone, scalarRecord}
+use Rattle.format.specs.Outcome.{accepted, mapped, both, lone, scalarRecord}
 use Rattle.format.specs.ReadWrite.{lone-write}
 use Rattle.format.specs.Views.{Stands, stands-all}
 use Rattle.rules.specs.Views.{kind-within}
 use Rattle.record.specs.Answers.{nothing, nothings}
-use Rattle.record.proofs.LoneLaws.{passed-accepted}
+use Rattle.record.proofs.LoneLaws.{passed-accepted, both-accepted, both-passed}
 use Rattle.walk.specs.At.{ScalarAt, TypeAt, HasScalar, HasType}
 use Rattle.walk.specs.Whole.{ofTypes, ofScalars}
-
--- ---- two outcomes
-
-module _ {A B : Type 0} (x : Outcome A) (y : Outcome B) where
-  pub both-refused : {C : Type 0} (f : A → B → Outcome C) {k p : ℕ} → both nothings x y ≡ refused k p → both f x y ≡ refused k p
-  both-refused f e = go x y e
-    where
-      go : (x : Outcome A) (y : Outcome B) {k p : ℕ} → both nothings x y ≡ refused k p → both f x y ≡ refused k p
-      go (refused j q) y e = cc
-      go (accepted a) (refused j q) e = cc
-      go (accepted a) (accepted b) e = let z : _≡_ {A = ℕ} 0 1 = cc in absurd (omega arith)
-
-  pub both-accepted : {C : Type 0} → both nothings x y ≡ accepted 0 → ((a : A) (b : B) → x ≡ accepted a → y ≡ accepted b → C) → C
-  both-accepted {C} e f = go x y refl refl e
-    where
-      go : (x′ : Outcome A) (y′ : Outcome B) → x ≡ x′ → y ≡ y′ → both nothings x′ y′ ≡ accepted 0 → C
-      go (refused j q) y′ g h e = let z : _≡_ {A = ℕ} 0 1 = cc in absurd (omega arith)
-      go (accepted a) (refused j q) g h e = let z : _≡_ {A = ℕ} 0 1 = cc in absurd (omega arith)
-      go (accepted a) (accepted b) g h e = f a b g h
 
 -- ---- a type that was read, and its scalar
 
@@ -66,10 +47,10 @@ module _ (s : List ℕ) (small : Bytes s) where
 
 module _ (a b : List ℕ) (good : both nothings (lone a) (lone b) ≡ accepted 0) where
   pub first-good : mapped nothing (lone a) ≡ accepted 0
-  first-good = both-accepted (lone a) (lone b) good λ t u e f. rw e
+  first-good = both-passed (lone a) (lone b) good .0
 
   pub second-good : mapped nothing (lone b) ≡ accepted 0
-  second-good = both-accepted (lone a) (lone b) good λ t u e f. rw f
+  second-good = both-passed (lone a) (lone b) good .1
 
   module _ (small : Bytes a) (small′ : Bytes b) where
     pub types-there : {A C : Type 0} (f : Ty → Ty → A) → ((t u : Ty) → TypeAt a 0 maxDepth t → TypeAt b 0 maxDepth u → ofTypes f a b ≡ accepted (f t u) → C) → C

@@ -1,19 +1,16 @@
 -- What the stores of this crate come to, as records laid over a buffer.
-use Prim.Native.Nat.{ℕ, zero, suc, _+_, _*_, _≤_, _<_, min}
+use Prim.Native.Nat.{ℕ, _+_, _*_, _≤_, _<_, min}
 use native.Mathlib.Omega.{arith}
 use native.Mathlib.Numerals.{add-one, unary-clauses}
-use mathlib.Core.Bool.{Bool, true, false, cond}
 use mathlib.Core.List.{List, [], _∷_, _++_, map, append-assoc, append-nil}
 use mathlib.Core.Path.{_≡_, refl, sym, _∙_, ap}
-use lib.ListN.{length, getD, set, take, drop, length-map, length-take, length-append}
+use lib.ListN.{length, getD, set, take, length-map, length-take, List·getD-map}
 use lib.Seq.{sets, sets-eq, take-suc, take-length, getD-take, length-take-le, paste-zero}
 use Rattle.format.specs.Suffices.{length-writeDims}
-use lib.Dec.{eqb}
-use borrow.Author.Tests.{eqb-true}
-use Rattle.model.specs.Limits.{ones}
-use Rattle.model.specs.Types.{Dim, static, unknown}
+use Rattle.model.specs.Types.{Dim}
 use Rattle.format.specs.Reader.{bytesOf}
 use Rattle.format.specs.Records.{dimNumber, dimOf, writeDims}
+use Rattle.format.specs.ReadWrite.{dim-number}
 use Rattle.lent.specs.Over.{over, over-over}
 
 pub eight-stores : (out : List ℕ) (at a b c d e f g h : ℕ) → at + 8 ≤ length out → set (set (set (set (set (set (set (set out at a) (at + 1) b) (at + 2) c) (at + 3) d) (at + 4) e) (at + 5) f) (at + 6) g) (at + 7) h ≡ over out at (a ∷ b ∷ c ∷ d ∷ e ∷ f ∷ g ∷ h ∷ [])
@@ -21,21 +18,8 @@ eight-stores out at a b c d e f g h fits =
     let stores : set (set (set (set (set (set (set (set out at a) (at + 1) b) (at + 2) c) (at + 3) d) (at + 4) e) (at + 5) f) (at + 6) g) (at + 7) h ≡ sets out at (a ∷ b ∷ c ∷ d ∷ e ∷ f ∷ g ∷ h ∷ []) = simp unary-clauses in
     stores ∙ sets-eq (a ∷ b ∷ c ∷ d ∷ e ∷ f ∷ g ∷ h ∷ []) out at fits
 
-number-dim : (n : ℕ) → dimNumber (dimOf n) ≡ n
-number-dim n = go (eqb n ones) refl
-  where
-    go : (t : Bool) → eqb n ones ≡ t → dimNumber (cond t unknown (static n)) ≡ n
-    go true e = sym (eqb-true n ones e)
-    go false e = refl
-
 pub length-dims : (sizes : List ℕ) (count : ℕ) → length (map dimOf (take count sizes)) ≡ min count (length sizes)
 length-dims sizes count = length-map (take count sizes) dimOf ∙ length-take count sizes
-
-getD-map : {A B : Type 0} (f : A → B) (l : List A) (i : ℕ) (z : A) → getD (map f l) i (f z) ≡ f (getD l i z)
-getD-map f [] zero z = refl
-getD-map f [] (suc i) z = refl
-getD-map f (x ∷ l) zero z = refl
-getD-map f (x ∷ l) (suc i) z = getD-map f l i z
 
 writeDims-append : (ds es : List Dim) → writeDims (ds ++ es) ≡ writeDims ds ++ writeDims es
 writeDims-append [] es = refl
@@ -53,7 +37,7 @@ module _ (out : List ℕ) (start : ℕ) (sizes : List ℕ) (count : ℕ) where
   dims-more : (i : ℕ) → i < length dims → writeDims (take (i + 1) dims) ≡ writeDims (take i dims) ++ bytesOf 8 (getD sizes i 0)
   dims-more i h =
       let l : i < count = omega (arith, length-dims sizes count) in
-      let v : dimNumber (getD dims i (dimOf 0)) ≡ getD sizes i 0 = ap dimNumber (getD-map dimOf (take count sizes) i 0 ∙ ap dimOf (getD-take count sizes i 0 l)) ∙ number-dim (getD sizes i 0) in
+      let v : dimNumber (getD dims i (dimOf 0)) ≡ getD sizes i 0 = ap dimNumber (List·getD-map dimOf (take count sizes) i 0 ∙ ap dimOf (getD-take count sizes i 0 l)) ∙ dim-number (getD sizes i 0) in
       rw (add-one, take-suc dims i (dimOf 0) h) (writeDims-append (take i dims) (getD dims i (dimOf 0) ∷ []) ∙ ap (λ w. writeDims (take i dims) ++ w) (append-nil (bytesOf 8 (dimNumber (getD dims i (dimOf 0)))) ∙ ap (bytesOf 8) v))
 
   length-some : (i : ℕ) → i ≤ length dims → length (writeDims (take i dims)) ≡ 8 * i

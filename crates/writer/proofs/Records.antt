@@ -1,20 +1,17 @@
 -- A shape's record in its parts: what each way through the writer lays down, and what a lone type's parts are.
-use Prim.Native.Nat.{ℕ, suc, _+_, _-_, _*_, _≤_, _<_}
+use Prim.Native.Nat.{ℕ, _+_, _*_, _≤_}
 use native.Mathlib.Omega.{arith}
 use native.Mathlib.Numerals.{unary-clauses}
-use mathlib.Core.Bool.{Bool, true, false, cond}
 use mathlib.Core.List.{List, [], _∷_, _++_, append-assoc, append-nil}
 use mathlib.Core.Option.{Option, none, some}
 use mathlib.Core.Path.{_≡_, refl, sym, _∙_, ap}
-use lib.ListN.{length, set, take, drop, length-append, length-drop}
-use lib.Seq.{sets, sets-eq, take-length}
+use lib.ListN.{length, set, length-append}
+use lib.Seq.{sets, sets-eq}
 use Rattle.model.specs.Types.{Dim, Shape, shape, Ty, ty, shapeOf}
-use Rattle.format.specs.Records.{shapeMark, markBytes, absent, countOf, listOf, writeDims, writeShape}
+use Rattle.format.specs.Records.{shapeMark, markBytes, countOf, listOf, writeDims, writeShape}
 use Rattle.format.specs.Suffices.{length-writeDims}
 use Rattle.format.specs.Outcome.{Outcome, accepted, refused, mapped, shapeRecord}
-use Rattle.lent.specs.Over.{over, over-over, length-over}
-use Rattle.record.specs.Answers.{dimsOf, closingFor, shapeFor}
-use Rattle.record.specs.declared.DynShape.{DynShape}
+use Rattle.lent.specs.Over.{over, over-over}
 
 abbrev head : ℕ → ℕ → List ℕ
 head m n = markBytes shapeMark ++ (m ∷ n ∷ [])
@@ -23,13 +20,6 @@ pub four-stores : (out : List ℕ) (at m n : ℕ) → at + 4 ≤ length out → 
 four-stores out at m n fits =
     let stores : set (set (set (set out at 0x53) (at + 1) 0x48) (at + 2) m) (at + 3) n ≡ sets out at (head m n) = simp unary-clauses in
     stores ∙ sets-eq (head m n) out at fits
-
-module _ (s : DynShape) where
-  pub closed-is : s .closed ≡ true → closingFor s ≡ none
-  closed-is e = rw e
-
-  pub open-is : s .closed ≡ false → closingFor s ≡ some (dimsOf (s .suffix))
-  open-is e = rw e
 
 pub length-record : (o : List Dim) (c : Option (List Dim)) → length (writeShape (shape o c)) ≡ 4 + 8 * length o + 8 * length (listOf c)
 unfolding writeShape
@@ -62,10 +52,6 @@ module _ (out : List ℕ) (at : ℕ) (o : List Dim) (c : Option (List Dim)) (fit
       ∙ ap (over out at) (append-assoc (head (length o) (countOf c)) (writeDims o) (writeDims d) ∙ ap (λ x. head (length o) (countOf c) ++ (writeDims o ++ writeDims (listOf x))) (sym opened))
 
 -- ---- the parts of a lone type
-
--- the rest of a list, as a part of a slice has it
-pub rest-is : (s : List ℕ) (n : ℕ) → take (length s - n) (drop n s) ≡ drop n s
-rest-is s n = ap (λ k. take k (drop n s)) (sym (length-drop n s)) ∙ take-length (drop n s)
 
 pub shape-record-is : (o : Outcome Ty) {s : Shape} → mapped shapeOf o ≡ accepted s → mapped shapeRecord o ≡ accepted (writeShape s)
 shape-record-is (accepted (ty t k)) {s} e = let x : t ≡ s = cc in rw x

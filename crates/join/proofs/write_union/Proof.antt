@@ -5,7 +5,8 @@ use Rattle.format.specs.Records.{writeShape, writeScalar}
 use Rattle.format.specs.Outcome.{accepted, deliver}
 use Rattle.record.specs.Answers.{shapeFor}
 use Rattle.walk.specs.WholeLaws.{first-good, second-good, has-scalars}
-use Rattle.join.proofs.Laws.{union-first, union-second, union-box-any, union-any, rest-is}
+use Rattle.format.specs.Views.{rest-is}
+use Rattle.join.proofs.Laws.{union-first, union-second, union-box-any, union-any}
 use borrow.Author.Needs.{needs}
 use Rattle.join.proofs.write_union.Statement.{statement}
 use Rattle.join.proofs.write_union.Tie as tie

@@ -1,6 +1,6 @@
 use mathlib.Core.Path.{_≡_, refl, sym, ap, _∙_}
 use Rattle.format.specs.Records.{countOf}
-use Rattle.writer.proofs.Records.{closed-is, open-is}
+use Rattle.record.proofs.ByValue.{open-is}
 use borrow.Author.Needs.{needs}
 use Rattle.writer.proofs.closing_count.Statement.{statement}
 use Rattle.writer.proofs.closing_count.Tie as tie

@@ -4,7 +4,8 @@ use lib.ListN.{length}
 use Rattle.format.specs.Records.{listOf, writeShape}
 use Rattle.format.specs.Suffices.{length-writeDims}
 use Rattle.record.specs.Answers.{dimsOf, closingFor, shapeFor}
-use Rattle.writer.proofs.Records.{closed-is, open-is, length-record, lay-closed, lay-open}
+use Rattle.record.proofs.ByValue.{closed-is, open-is}
+use Rattle.writer.proofs.Records.{length-record, lay-closed, lay-open}
 use borrow.Author.Needs.{needs}
 use Rattle.writer.proofs.put_shape.Statement.{statement}
 use Rattle.writer.proofs.put_shape.Tie as tie

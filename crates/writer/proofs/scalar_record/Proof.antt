@@ -4,7 +4,7 @@ use Rattle.format.specs.Outcome.{accepted, lone, deliver, scalarRecord}
 use Rattle.lent.specs.Delivers.{deliver-refused}
 use Rattle.record.specs.Answers.{loneOf}
 use Rattle.record.proofs.LoneLaws.{passed-refused, mapped-refused}
-use Rattle.writer.proofs.Records.{rest-is}
+use Rattle.format.specs.Views.{rest-is}
 use borrow.Author.Needs.{needs}
 use Rattle.writer.proofs.scalar_record.Statement.{statement}
 use Rattle.writer.proofs.scalar_record.Tie as tie

@@ -4,7 +4,8 @@ use Prim.Native.Nat.{_+_, _*_}
 use lib.ListN.{length}
 use Rattle.format.specs.Records.{listOf}
 use Rattle.record.specs.Answers.{dimsOf, closingFor}
-use Rattle.writer.proofs.Records.{closed-is, open-is, length-record}
+use Rattle.record.proofs.ByValue.{closed-is, open-is}
+use Rattle.writer.proofs.Records.{length-record}
 use borrow.Author.Needs.{needs}
 use Rattle.writer.proofs.shape_length.Statement.{statement}
 use Rattle.writer.proofs.shape_length.Tie as tie

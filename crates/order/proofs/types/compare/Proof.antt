@@ -3,7 +3,8 @@ use native.Mathlib.Omega.{arith}
 use Rattle.format.specs.Outcome.{accepted, lone}
 use Rattle.rules.specs.Order.{compare}
 use Rattle.record.specs.Answers.{loneOf}
-use Rattle.walk.specs.WholeLaws.{both-refused, has-types}
+use Rattle.record.proofs.LoneLaws.{both-refused}
+use Rattle.walk.specs.WholeLaws.{has-types}
 use Rattle.order.proofs.TypeLaws.{whole-less, whole-same, whole-more}
 use borrow.Author.Needs.{needs}
 use Rattle.order.proofs.types.compare.Statement.{statement}

@@ -1,7 +1,7 @@
 use mathlib.Core.Path.{_∙_, sym, ap}
 use native.Mathlib.Numerals.{add-one}
 use Rattle.format.specs.Reader.{got}
-use Rattle.record.proofs.ByteLaws.{byte-there, byte-ended}
+use Rattle.format.specs.ReaderLaws.{byte-there, byte-ended}
 use borrow.Author.Needs.{needs}
 use Rattle.record.proofs.bytes.read_byte.Statement.{statement}
 use Rattle.record.proofs.bytes.read_byte.Tie as tie

@@ -1,5 +1,5 @@
 use native.Mathlib.Omega.{arith}
-use Rattle.text.proofs.RenderLaws.{length-hexOf}
+use Rattle.text.specs.RoundTrips.{length-hexOf}
 use Rattle.report.proofs.TextLaws.{placed-laid, never-short}
 use borrow.Author.Needs.{needs}
 use Rattle.report.proofs.parts.put_hex.Statement.{statement}

@@ -8,7 +8,7 @@ use Rattle.lent.specs.Delivers.{deliver-refused}
 use Rattle.record.specs.Answers.{loneOf, shapeFor}
 use Rattle.rules.specs.Scalars.{union}
 use Rattle.machine.specs.Run.{pervadeTypes}
-use Rattle.walk.specs.WholeLaws.{both-refused, both-accepted, first-good, second-good}
+use Rattle.walk.specs.WholeLaws.{first-good, second-good}
 use Rattle.join.specs.ShapesLaws.{by-scalars}
 use Rattle.shape.specs.Answers.{shapeBeside}
 use Rattle.run.specs.Answers.{atStart}

@@ -6,8 +6,10 @@ use Rattle.format.specs.Outcome.{accepted, lone, deliver}
 use Rattle.lent.specs.Delivers.{deliver-refused}
 use Rattle.rules.specs.Scalars.{union}
 use Rattle.record.specs.Answers.{loneOf}
-use Rattle.walk.specs.WholeLaws.{both-refused, first-good, second-good, has-scalars}
-use Rattle.scalar.proofs.CallLaws.{union-first, union-second, union-box-any, union-any, rest-is}
+use Rattle.record.proofs.LoneLaws.{both-refused}
+use Rattle.walk.specs.WholeLaws.{first-good, second-good, has-scalars}
+use Rattle.format.specs.Views.{rest-is}
+use Rattle.scalar.proofs.CallLaws.{union-first, union-second, union-box-any, union-any}
 use borrow.Author.Needs.{needs}
 use Rattle.scalar.proofs.unions.union.Statement.{statement}
 use Rattle.scalar.proofs.unions.union.Tie as tie

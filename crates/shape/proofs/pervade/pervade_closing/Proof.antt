@@ -1,7 +1,7 @@
 use mathlib.Core.Path.{sym, ap, _∙_}
 use Rattle.record.specs.Answers.{dimsOf, closingFor}
 use Rattle.model.specs.Types.{shape}
-use Rattle.shape.proofs.ShapeLaws.{closed-is, open-is}
+use Rattle.record.proofs.ByValue.{closed-is, open-is}
 use Rattle.shape.proofs.PervadeLaws.{pervade-first, pervade-second, pervade-empty, pervade-named, pervade-twice}
 use borrow.Author.Needs.{needs}
 use Rattle.shape.proofs.pervade.pervade_closing.Statement.{statement}

@@ -1,7 +1,8 @@
 use mathlib.Core.Path.{sym}
 use native.Mathlib.Omega.{arith}
 use Rattle.record.specs.Answers.{dimsOf, closingFor}
-use Rattle.shape.proofs.ShapeLaws.{closed-is, open-is, any-opening, any-closed, any-open}
+use Rattle.record.proofs.ByValue.{closed-is, open-is}
+use Rattle.shape.proofs.ShapeLaws.{any-opening, any-closed, any-open}
 use borrow.Author.Needs.{needs}
 use Rattle.shape.proofs.shapes.is_any.Statement.{statement}
 use Rattle.shape.proofs.shapes.is_any.Tie as tie

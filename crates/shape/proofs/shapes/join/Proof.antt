@@ -1,6 +1,7 @@
 use mathlib.Core.Path.{_∙_}
 use Rattle.record.specs.Answers.{dimsOf, closingFor}
-use Rattle.shape.proofs.ShapeLaws.{closed-is, open-is, join-closed, join-open}
+use Rattle.record.proofs.ByValue.{closed-is, open-is}
+use Rattle.shape.proofs.ShapeLaws.{join-closed, join-open}
 use borrow.Author.Needs.{needs}
 use Rattle.shape.proofs.shapes.join.Statement.{statement}
 use Rattle.shape.proofs.shapes.join.Tie as tie

@@ -1,7 +1,8 @@
 use mathlib.Core.Path.{sym, ap, _∙_}
 use Rattle.record.specs.Answers.{dimsOf, closingFor}
 use Rattle.model.specs.Types.{shape}
-use Rattle.shape.proofs.ShapeLaws.{closed-is, open-is, merge-closed, merge-unnamed, merge-named}
+use Rattle.record.proofs.ByValue.{closed-is, open-is}
+use Rattle.shape.proofs.ShapeLaws.{merge-closed, merge-unnamed, merge-named}
 use borrow.Author.Needs.{needs}
 use Rattle.shape.proofs.shapes.merge_closing.Statement.{statement}
 use Rattle.shape.proofs.shapes.merge_closing.Tie as tie

@@ -1,6 +1,7 @@
 use native.Mathlib.Omega.{arith}
 use Rattle.record.specs.Answers.{dimsOf}
-use Rattle.shape.proofs.ShapeLaws.{closed-is, open-is, rank-closed, rank-open}
+use Rattle.record.proofs.ByValue.{closed-is, open-is}
+use Rattle.shape.proofs.ShapeLaws.{rank-closed, rank-open}
 use borrow.Author.Needs.{needs}
 use Rattle.shape.proofs.shapes.rank.Statement.{statement}
 use Rattle.shape.proofs.shapes.rank.Tie as tie

@@ -1,7 +1,8 @@
 use mathlib.Core.Path.{sym, ap, _∙_}
 use Rattle.record.specs.Answers.{dimsOf, closingFor}
 use Rattle.shape.specs.Answers.{slotOf}
-use Rattle.shape.proofs.ShapeLaws.{closed-is, open-is, rows-first, rows-closed, rows-open}
+use Rattle.record.proofs.ByValue.{closed-is, open-is}
+use Rattle.shape.proofs.ShapeLaws.{rows-first, rows-closed, rows-open}
 use borrow.Author.Needs.{needs}
 use Rattle.shape.proofs.shapes.row_count.Statement.{statement}
 use Rattle.shape.proofs.shapes.row_count.Tie as tie

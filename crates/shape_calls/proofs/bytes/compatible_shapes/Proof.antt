@@ -2,7 +2,8 @@ use mathlib.Core.Path.{sym, ap, _∙_}
 use Rattle.record.specs.Answers.{loneOf}
 use Rattle.rules.specs.Shapes.{compatibleShapes}
 use Rattle.format.specs.Outcome.{accepted, lone}
-use Rattle.shape_calls.proofs.CallLaws.{both-passed, shapes-told, shapes-are}
+use Rattle.record.proofs.LoneLaws.{both-passed}
+use Rattle.shape_calls.proofs.CallLaws.{shapes-told, shapes-are}
 use borrow.Author.Needs.{needs}
 use Rattle.shape_calls.proofs.bytes.compatible_shapes.Statement.{statement}
 use Rattle.shape_calls.proofs.bytes.compatible_shapes.Tie as tie

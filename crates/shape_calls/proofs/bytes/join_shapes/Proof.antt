@@ -4,7 +4,8 @@ use Rattle.lent.specs.Delivers.{deliver-refused}
 use Rattle.rules.specs.Shapes.{joinShapes}
 use Rattle.format.specs.Outcome.{lone, deliver}
 use Rattle.shape_calls.specs.Calls.{written}
-use Rattle.shape_calls.proofs.CallLaws.{both-passed, shapes-told, shapes-are}
+use Rattle.record.proofs.LoneLaws.{both-passed}
+use Rattle.shape_calls.proofs.CallLaws.{shapes-told, shapes-are}
 use borrow.Author.Needs.{needs}
 use Rattle.shape_calls.proofs.bytes.join_shapes.Statement.{statement}
 use Rattle.shape_calls.proofs.bytes.join_shapes.Tie as tie

@@ -5,7 +5,8 @@ use Rattle.rules.specs.Pervade as rules
 use Rattle.shape.specs.Answers.{shapeBeside}
 use Rattle.format.specs.Outcome.{lone, deliver}
 use Rattle.shape_calls.specs.Calls.{pervaded}
-use Rattle.shape_calls.proofs.CallLaws.{both-passed, shapes-told, shapes-are}
+use Rattle.record.proofs.LoneLaws.{both-passed}
+use Rattle.shape_calls.proofs.CallLaws.{shapes-told, shapes-are}
 use borrow.Author.Needs.{needs}
 use Rattle.shape_calls.proofs.pervading.pervade.Statement.{statement}
 use Rattle.shape_calls.proofs.pervading.pervade.Tie as tie

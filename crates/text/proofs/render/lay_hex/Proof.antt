@@ -6,7 +6,8 @@ use lib.ListN.{length, length-set}
 use lib.Seq.{paste, paste-zero}
 use Rattle.text.specs.Digits.{hexOf}
 use Rattle.text.proofs.PlaceLaws.{paste-all}
-use Rattle.text.proofs.RenderLaws.{length-hexOf, hex-more}
+use Rattle.text.specs.RoundTrips.{length-hexOf}
+use Rattle.text.proofs.RenderLaws.{hex-more}
 use Rattle.text.proofs.render.lay_hex.Statement.{statement}
 use Rattle.text.proofs.render.lay_hex.Tie as tie
 use Rattle.text.proofs.render.lay_hex.Reads as reads

@@ -1,5 +1,5 @@
 use native.Mathlib.Omega.{arith}
-use Rattle.text.proofs.RenderLaws.{length-hexOf}
+use Rattle.text.specs.RoundTrips.{length-hexOf}
 use Rattle.text.proofs.PlaceLaws.{place-short, place-fits}
 use borrow.Author.Needs.{needs}
 use Rattle.text.proofs.render.put_hex.Statement.{statement}

@@ -2,7 +2,8 @@ use mathlib.Core.Path.{sym, ap, _∙_}
 use native.Mathlib.Omega.{arith}
 use Rattle.format.specs.Outcome.{accepted, deliver}
 use Rattle.ty.specs.Parts.{partOf}
-use Rattle.ty.proofs.ContentLaws.{rest-is, stretch-is, all-there, content-all, field-there, content-plain, content-any, content-first, content-none}
+use Rattle.format.specs.Views.{rest-is}
+use Rattle.ty.proofs.ContentLaws.{stretch-is, all-there, content-all, field-there, content-plain, content-any, content-first, content-none}
 use borrow.Author.Needs.{needs}
 use Rattle.ty.proofs.content.write_content.Statement.{statement}
 use Rattle.ty.proofs.content.write_content.Tie as tie

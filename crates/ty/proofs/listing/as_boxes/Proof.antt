@@ -7,7 +7,8 @@ use Rattle.record.specs.Answers.{loneOf}
 use Rattle.record.proofs.LoneLaws.{passed-refused}
 use Rattle.ty.specs.Calls.{offered}
 use Rattle.ty.specs.Copies.{listedFor}
-use Rattle.ty.proofs.ContentLaws.{rest-is, rest-short, lone-short, all-there}
+use Rattle.format.specs.Views.{rest-is}
+use Rattle.ty.proofs.ContentLaws.{rest-short, lone-short, all-there}
 use Rattle.ty.proofs.ListingLaws.{offer-is, boxes-refused, boxes-plain, boxes-any, boxes-all, name-within, boxes-def}
 use borrow.Author.Needs.{needs}
 use Rattle.ty.proofs.listing.as_boxes.Statement.{statement}

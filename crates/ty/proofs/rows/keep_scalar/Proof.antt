@@ -3,7 +3,7 @@ use mathlib.Core.List.{_++_}
 use Rattle.format.specs.Records.{writeShape}
 use Rattle.format.specs.Outcome.{accepted, lone, deliver}
 use Rattle.record.specs.Answers.{shapeFor}
-use Rattle.ty.proofs.ContentLaws.{rest-is}
+use Rattle.format.specs.Views.{rest-is}
 use Rattle.ty.proofs.RowLaws.{keep-bytes}
 use borrow.Author.Needs.{needs}
 use Rattle.ty.proofs.rows.keep_scalar.Statement.{statement}

@@ -1,7 +1,7 @@
 use mathlib.Core.Path.{sym, ap, _∙_}
 use Rattle.velgrodis.specs.Answers.{value, sizedOrNone}
 use Rattle.val.specs.Answers.{maybeDim}
-use Rattle.velgrodis.specs.AnswersLaws.{dim-number}
+use Rattle.format.specs.ReadWrite.{dim-number}
 use borrow.Author.Needs.{needs}
 use Rattle.velgrodis.proofs.answers.of_dim.Statement.{statement}
 use Rattle.velgrodis.proofs.answers.of_dim.Tie as tie

@@ -1,7 +1,7 @@
 use mathlib.Core.Path.{sym, ap, _∙_}
 use Rattle.velgrodis.specs.Answers.{value, sized}
 use Rattle.lent.specs.Answers.{countedDim}
-use Rattle.velgrodis.specs.AnswersLaws.{dim-number}
+use Rattle.format.specs.ReadWrite.{dim-number}
 use borrow.Author.Needs.{needs}
 use Rattle.velgrodis.proofs.answers.of_size.Statement.{statement}
 use Rattle.velgrodis.proofs.answers.of_size.Tie as tie

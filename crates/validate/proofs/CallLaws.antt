@@ -1,24 +1,18 @@
--- The public calls: what the two types that a call reads come to, and what it hands over.
-use Prim.Native.Nat.{ℕ, _+_, _-_, _≤_}
+-- `check_shape`: what it comes to on two types that were read.
+use Prim.Native.Nat.{ℕ}
 use native.Mathlib.Omega.{arith}
-use native.Mathlib.Nat.{zero-add}
-use mathlib.Core.Bool.{Bool, true, false, cond}
+use mathlib.Core.Bool.{true, false}
 use mathlib.Core.List.{List, _++_}
 use mathlib.Core.Path.{_≡_, refl, sym, _∙_, ap}
-use lib.ListN.{length, take, drop, length-append, length-drop}
-use lib.Seq.{take-length}
 use Rattle.model.specs.Refusals.{wrongShape}
 use Rattle.model.specs.Types.{Shape, Scalar, Ty, ty, shapeOf}
 use Rattle.format.specs.Records.{writeShape, writeScalar, writeTy}
-use Rattle.format.specs.Outcome.{Outcome, accepted, refused, mapped, bound, both, scalarRecord}
-use Rattle.lent.specs.Over.{over, over-over}
-use Rattle.record.specs.Answers.{nothing, nothings, shapeFor}
+use Rattle.format.specs.Outcome.{Outcome, accepted, refused, mapped, both, scalarRecord}
+use Rattle.record.specs.Answers.{shapeFor}
 use Rattle.validation.specs.CheckShape.{Side, checkShape}
 use Rattle.validation.specs.Validate.{checkShapeOnly}
 use Rattle.validate.specs.Answers.{checkedOf}
 use Rattle.validate.specs.declared.Checked.{Checked}
-
--- ---- `check_shape`
 
 module _ (side : Side) (x y : Outcome Ty) {s t : Shape} {w : List ℕ} (first : mapped shapeOf x ≡ accepted s) (second : mapped shapeOf y ≡ accepted t) (rest : mapped scalarRecord y ≡ accepted w) where
   shape-only : both (λ a b. mapped writeTy (checkShapeOnly side a b)) x y ≡ mapped (λ u. writeShape u ++ w) (checkShape side s t)

@@ -7,10 +7,12 @@ use mathlib.Core.List.{List, [], _∷_, _++_, append-assoc, append-nil}
 use mathlib.Core.Option.{Option, none, some}
 use mathlib.Core.Path.{_≡_, refl, sym, _∙_, ap}
 use lib.ListN.{length, getD, set, take, drop, length-append, length-drop}
+use lib.Dec.{lit<}
 use lib.Seq.{sets, sets-eq, length-take-le}
 use Rattle.model.specs.Limits.{maxName, maxTypes}
 use Rattle.model.specs.Types.{Shape, Scalar, Fields, noFields, field, fieldCount, Ty, ty, inside, among}
 use Rattle.format.specs.Records.{absent, boxStart, countOf, listOf, listCount, writeShape, writeScalar, writeFields}
+use Rattle.format.specs.WriteRead.{listCount-ok}
 use Rattle.format.specs.Suffices.{shapeBytes, boxBytes, shape-suffices, scalar-suffices}
 use Rattle.format.specs.Views.{Stands, stands-byte, stands-within, stands-part}
 use Rattle.format.specs.Outcome.{Outcome, accepted, refused}
@@ -20,7 +22,7 @@ use Rattle.validate.specs.Places.{Placed, onward, Listed}
 use Rattle.validate.specs.Walk.{Piece, piece, wroteOf, scalarPiece, typePiece, fieldsPiece, Roomy, Copyable, Placeable, Nameable, Listable, Going, defHead}
 use Rattle.validate.specs.declared.Wrote.{Wrote}
 use Rattle.validate.specs.declared.Wrote.the-variants.{Done, Refused}
-use Rattle.validate.proofs.PlacesLaws.{scalar-stands, counted-is}
+use Rattle.validate.proofs.PlacesLaws.{scalar-stands}
 
 -- ---- a scalar
 
@@ -59,7 +61,7 @@ module _ {s : List ℕ} {at : ℕ} (label : Option (List ℕ)) (stands : Stands 
 
   module _ {m : ℕ} (e : m ≡ listCount (getD s at 0)) where
     pub name-long : m ≡ length (listOf label)
-    name-long = e ∙ ap listCount (stands-byte s at (countOf label) (listOf label) stands) ∙ counted-is label short
+    name-long = e ∙ ap listCount (stands-byte s at (countOf label) (listOf label) stands) ∙ listCount-ok maxName (lit< tt) label short
 
     pub name-ends : at + 1 + m ≤ length s
     name-ends = omega (arith, name-long, stands-within s at (countOf label ∷ listOf label) (omega arith) stands)

@@ -13,6 +13,7 @@ use Rattle.model.specs.Types.{Dim, static, unknown}
 use Rattle.format.specs.Records.{dimOf}
 use Rattle.record.specs.Answers.{dimsOf}
 use Rattle.record.specs.declared.Dims.{Dims}
+use Rattle.record.proofs.ByValue.{size-at}
 use Rattle.rules.specs.Sizes.{compatible}
 use Rattle.rules.specs.Lists.{getD-reverse}
 use Rattle.validation.specs.CheckShape.{agree, equalDim, equalDims}
@@ -20,15 +21,6 @@ use Rattle.validation.specs.CheckShapeLaws.{equalDims-true}
 use Rattle.validation.specs.CheckShapeSteps.{agree-step, equal-step}
 
 -- ---- what stands at an index
-
-at-index : (count : ℕ) (sizes : List ℕ) (i : ℕ) → i < length (map dimOf (take count sizes)) → dimOf (getD sizes i 0) ≡ getD (map dimOf (take count sizes)) i unknown
-at-index zero sizes i h = absurd (omega arith)
-at-index (suc count) [] i h = absurd (omega arith)
-at-index (suc count) (n ∷ sizes) zero h = refl
-at-index (suc count) (n ∷ sizes) (suc i) h = at-index count sizes i (omega arith)
-
-pub size-at : (d : Dims) (i : ℕ) → i < length (dimsOf d) → dimOf (getD (d .sizes) i 0) ≡ getD (dimsOf d) i unknown
-size-at d i h = at-index (d .count) (d .sizes) i h
 
 pub size-from-end : (d : Dims) (i : ℕ) {n : ℕ} → n ≡ length (dimsOf d) → i < n → dimOf (getD (d .sizes) (n - 1 - i) 0) ≡ getD (reverse (dimsOf d)) i unknown
 size-from-end d i {n} e h = size-at d (n - 1 - i) (omega arith) ∙ sym (getD-reverse (dimsOf d) i (n - 1 - i) unknown (omega arith))

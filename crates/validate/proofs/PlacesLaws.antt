@@ -6,7 +6,7 @@ use mathlib.Core.List.{List, [], _∷_, _++_}
 use mathlib.Core.Option.{Option, none, some}
 use mathlib.Core.Path.{_≡_, refl, sym, _∙_, ap}
 use lib.ListN.{length, getD, drop, length-append}
-use lib.Dec.{eqb}
+use lib.Dec.{eqb, lit<}
 use borrow.Author.Tests.{ne-eqb}
 use Rattle.model.specs.Limits.{maxName, maxTypes, maxDepth}
 use Rattle.model.specs.Types.{Dim, Shape, shape, Scalar, boxAny, boxAll, boxDef, Fields, noFields, field, fieldCount, Ty, ty, types, depth, inside, among, below, deepest}
@@ -14,8 +14,9 @@ use Rattle.model.specs.Within.{Each, NameWithin, ScalarWithin, FieldsWithin, Wi
 use Rattle.format.specs.Reader.{Read, got, stopped, mapRead}
 use Rattle.format.specs.ReaderLaws.{Bytes, reads-here}
 use Rattle.format.specs.Records.{boxCode, absent, countOf, listOf, listCount, shapeFrom, readShape, readTy, readType, writeShape, writeScalar, writeFields, writeTy}
-use Rattle.format.specs.WriteRead.{reads-shape, reads-ty, reads-scalar, write-read}
+use Rattle.format.specs.WriteRead.{listCount-ok, reads-shape, reads-ty, reads-scalar, write-read}
 use Rattle.format.specs.ReadWrite.{Took-ty, took-ty}
+use Rattle.format.specs.Suffices.{name-most}
 use Rattle.format.specs.Views.{Stands, stands-first, stands-second, stands-byte, stands-nth, stands-within}
 use Rattle.record.specs.Answers.{answerOf}
 use Rattle.record.specs.Places.{HasShape}
@@ -96,13 +97,12 @@ listed-copies s at placed (suc n) = (placed, listed-copies s at placed n)
 
 -- ---- names
 
-name-most : (n : Option (List ℕ)) → Each NameWithin n → length (listOf n) ≤ maxName
-name-most none h = omega arith
-name-most (some n) h = h .0
-
-pub counted-is : (n : Option (List ℕ)) → length (listOf n) ≤ maxName → listCount (countOf n) ≡ length (listOf n)
-counted-is none h = refl
-counted-is (some n) h = rw (ne-eqb (length n) absent (λ x. omega arith))
+pub count-most : (n : ℕ) → listCount n ≤ n
+count-most n = go (eqb n absent)
+  where
+    go : (b : Bool) → cond b 0 n ≤ n
+    go true = omega arith
+    go false = omega arith
 
 -- ---- what its scalar is
 
@@ -160,7 +160,7 @@ module _ {s : List ℕ} {at : ℕ} {p : Shape} {k : Scalar} (placed : Placed s a
 
           module _ {m : ℕ} (named : m ≡ listCount (getD s (i + 6) 0)) where
             long : (n : Option (List ℕ)) (g : Fields) → Stands s (i + 6) ((countOf n ∷ listOf n) ++ (fieldCount g ∷ writeFields g)) → length (listOf n) ≤ maxName → m ≡ length (listOf n)
-            long n g st l = named ∙ ap listCount (stands-byte s (i + 6) (countOf n) (listOf n ++ (fieldCount g ∷ writeFields g)) st) ∙ counted-is n l
+            long n g st l = named ∙ ap listCount (stands-byte s (i + 6) (countOf n) (listOf n ++ (fieldCount g ∷ writeFields g)) st) ∙ listCount-ok maxName (lit< tt) n l
 
             count-stands : (n : Option (List ℕ)) (g : Fields) → Stands s (i + 6) ((countOf n ∷ listOf n) ++ (fieldCount g ∷ writeFields g)) → length (listOf n) ≤ maxName → Stands s (i + 7 + m) (fieldCount g ∷ writeFields g)
             count-stands n g st l =

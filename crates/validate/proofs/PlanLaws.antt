@@ -32,7 +32,8 @@ use Rattle.validate.specs.declared.View.the-variants.{Plain, BoxAny, Box
 use Rattle.record.specs.Answers.{dimsOf, closingFor, shapeFor}
 use Rattle.record.specs.declared.DynShape.{DynShape}
 use Rattle.format.specs.Views.{Stands, stands-all, stands-byte}
-use Rattle.validate.proofs.DimsLaws.{size-at}
+use Rattle.record.proofs.ByValue.{size-at}
+use Rattle.rules.specs.FieldsLaws.{copies-count}
 use Rattle.validate.proofs.PlacesLaws.{listed-copies}
 
 -- ---- codes
@@ -161,11 +162,6 @@ any-placed = record { stands = stands-all anyBytes (writeShape anyShape ++ write
 
 -- ---- an All spec against each field is a list of copies of its content
 
-pub count-copies : (n : ℕ) (t : Ty) → fieldCount (copies n t) ≡ n
-unfolding copies
-count-copies zero t = refl
-count-copies (suc n) (ty p k) = ap suc (count-copies n (ty p k))
-
 pub each-copies : (p : Shape) (k : Scalar) (g : Fields) (n : ℕ) (keeps : Fields → Bool) → fieldCount g ≡ n → eachField (checkScalar k) p keeps g ≡ checkFields (copies n (ty p k)) keeps g
 unfolding eachField checkFields copies
 each-copies p k noFields zero keeps e = refl
@@ -230,7 +226,7 @@ module _ {s : List ℕ} {i : ℕ} {t : List ℕ} {j o a : ℕ} (w : Pair s i t j
           spec-fields = copies m (ty (x .shape) (x .scalar));
           type-fields = y .held;
           spec-listed = listed-copies s c (x .placed) m;
-          spec-count = count-copies m (ty (x .shape) (x .scalar));
+          spec-count = copies-count m (ty (x .shape) (x .scalar));
           type-listed = y .listed;
           type-count = sym (y .counted);
           limits = rw (add-one o, add-one a) (def-begun o a (y .name) (y .held) (rw (y .is) at (w .limits)));
@@ -338,7 +334,7 @@ module _ {s : List ℕ} {i : ℕ} {t : List ℕ} {j o a : ℕ} (w : Pair s i t j
               spec-listed = x .listed;
               spec-count = sym (x .counted);
               type-listed = listed-copies (cond fresh anyBytes t) other placed n;
-              type-count = count-copies n (ty p q);
+              type-count = copies-count n (ty p q);
               limits = rw (add-one o, add-one a) (def-begun o a (some title) (copies n (ty p q)) h);
             };
             is = copies-are ∙ rw (h, e, add-one o, add-one a) (on-def-def o a (some title) (some title) (x .held) (copies n (ty p q)));

@@ -23,7 +23,7 @@ use Rattle.validate.specs.Plans.{Pair, scalarOf, sidedOf}
 use Rattle.validate.specs.Walk.{Piece, piece, wroteOf, scalarPiece, typePiece, Roomy}
 use Rattle.validate.specs.declared.Wrote.{Wrote}
 use Rattle.validate.specs.declared.Wrote.the-variants.{Done, Refused}
-use Rattle.walk.specs.WholeLaws.{both-accepted}
+use Rattle.record.proofs.LoneLaws.{both-accepted}
 
 -- ---- two lone types
 

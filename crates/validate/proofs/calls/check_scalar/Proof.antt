@@ -14,7 +14,7 @@ use Rattle.record.specs.Answers.{loneOf, shapeFor}
 use Rattle.validation.specs.CheckScalar.{inTurn}
 use Rattle.validate.specs.Answers.{sideOf}
 use Rattle.validate.specs.Plans.{scalarOf, sidedOf}
-use Rattle.walk.specs.WholeLaws.{both-refused}
+use Rattle.record.proofs.LoneLaws.{both-refused}
 use Rattle.validate.proofs.PlanLaws.{type-at, has-type}
 use Rattle.validate.proofs.WalkLaws.{roomy-done, laid-behind, scalar-few}
 use Rattle.validate.proofs.WholeLaws.{lones, validated, scalar-checked, type-written, type-not, scalar-written, scalar-not, type-few}

@@ -8,7 +8,7 @@ use Rattle.lent.specs.Delivers.{deliver-refused}
 use Rattle.record.specs.Answers.{loneOf}
 use Rattle.validation.specs.Validate.{validate}
 use Rattle.validate.specs.Answers.{sideOf}
-use Rattle.walk.specs.WholeLaws.{both-refused}
+use Rattle.record.proofs.LoneLaws.{both-refused}
 use borrow.Author.Needs.{needs}
 use Rattle.validate.proofs.calls.validate.Statement.{statement}
 use Rattle.validate.proofs.calls.validate.Tie as tie

@@ -1,3 +1,4 @@
+use Rattle.record.proofs.ByValue.{size-at}
 use borrow.Author.Needs.{needs}
 use mathlib.Core.Path.{_≡_, refl, sym, ap, _∙_}
 use native.Mathlib.Omega.{arith}
@@ -6,7 +7,7 @@ use lib.ListN.{drop}
 use Rattle.record.specs.Answers.{dimsOf}
 use Rattle.validation.specs.CheckShape.{agree}
 use Rattle.validation.specs.CheckShapeSteps.{agree-end, agree-end′}
-use Rattle.validate.proofs.DimsLaws.{size-at, agree-more, agree-stop}
+use Rattle.validate.proofs.DimsLaws.{agree-more, agree-stop}
 use Rattle.validate.proofs.dims.agree.Statement.{statement}
 use Rattle.validate.proofs.dims.agree.Tie as tie
 use Rattle.validate.proofs.dims.agree.Reads as reads

@@ -1,3 +1,4 @@
+use Rattle.record.proofs.ByValue.{size-at}
 use borrow.Author.Needs.{needs}
 use mathlib.Core.Path.{_≡_, refl, sym, ap, _∙_}
 use native.Mathlib.Omega.{arith}
@@ -7,7 +8,7 @@ use lib.ListN.{drop, length-append}
 use Rattle.record.specs.Answers.{dimsOf}
 use Rattle.validation.specs.CheckShape.{equalDims}
 use Rattle.validation.specs.CheckShapeSteps.{equal-end}
-use Rattle.validate.proofs.DimsLaws.{size-at, equal-more, equal-stop, equal-uneven}
+use Rattle.validate.proofs.DimsLaws.{equal-more, equal-stop, equal-uneven}
 use Rattle.validate.proofs.dims.equal_dims.Statement.{statement}
 use Rattle.validate.proofs.dims.equal_dims.Tie as tie
 use Rattle.validate.proofs.dims.equal_dims.Reads as reads

@@ -1,6 +1,8 @@
 // NAME VALUE: requests on a value handed in, which is `num BITS`, `list BITS..` or `type HEX`.
 use crate::answers::Answer;
+use crate::answers::counted;
 use crate::answers::delivered;
+use crate::answers::sized;
 use crate::arguments::hex;
 use crate::fault;
 use crate::numbers::Listed;
@@ -19,7 +21,6 @@ use crate::words::start;
 use text::Decoded;
 use text::Number;
 use text::parse_bits;
-use val::Counted;
 use val::DimsAnswer;
 use val::MaybeDim;
 use val::MaybeDims;
@@ -141,20 +142,6 @@ fn call(k: usize, v: Value, list: &[f64], bytes: &[u8], result: &mut [u8]) -> An
         8 => in_dim(as_dim(v, list, bytes)),
         9 => in_dims(as_dims(v, list, bytes), result),
         _ => Answer::Bad(fault::REQUEST),
-    }
-}
-
-fn sized(answer: Counted) -> Answer {
-    match answer {
-        Counted::Count(n) => Answer::Size(n),
-        Counted::Refused { number, place } => Answer::Refused { number, place },
-    }
-}
-
-fn counted(answer: Counted) -> Answer {
-    match answer {
-        Counted::Count(n) => Answer::Number(n),
-        Counted::Refused { number, place } => Answer::Refused { number, place },
     }
 }
 

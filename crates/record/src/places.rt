@@ -8,6 +8,7 @@ use limits::MAX_SIZES;
 ghost use mathlib.Core.Path.{_≡_};
 ghost use Prim.Native.Nat.{ℕ, _+_, _*_, _≤_};
 ghost use lib.ListN.{length};
+ghost use Rattle.model.specs.Limits.{maxSizes};
 ghost use Rattle.model.specs.Types.{Shape};
 ghost use Rattle.format.specs.Reader.{got};
 ghost use Rattle.format.specs.Records.{readShape};
@@ -25,7 +26,7 @@ pub fn no_dims() -> Dims
 
 // As many sizes from a place on.
 fn dims_known(s: &[u8], start: usize, count: usize) -> Dims
-    requires { ⌜ (count ≤ 8) × (start + 8 * count ≤ length (now s)) ⌝ }
+    requires { ⌜ (count ≤ maxSizes) × (start + 8 * count ≤ length (now s)) ⌝ }
     ensures { λ r. ⌜ dimsOf r ≡ sizesFrom (now (s .entry)) count start ⌝ }
 {
     let mut sizes = [0u64; MAX_SIZES];

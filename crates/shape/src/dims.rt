@@ -10,6 +10,7 @@ use writer::size_count;
 ghost use mathlib.Core.Path.{_≡_};
 ghost use Prim.Native.Nat.{_≤_, max, min};
 ghost use lib.ListN.{length, drop, getD, getElem?};
+ghost use Rattle.model.specs.Limits.{maxSizes};
 ghost use Rattle.model.specs.Types.{unknown};
 ghost use Rattle.format.specs.Records.{dimOf};
 ghost use Rattle.record.specs.Answers.{dimsOf};
@@ -139,7 +140,7 @@ fn size_at(d: Dims, i: usize) -> u64
 }
 
 pub fn longer(a: Dims, b: Dims) -> usize
-    ensures { λ r. ⌜ (r ≡ max (length (dimsOf a)) (length (dimsOf b))) × (r ≤ 8) ⌝ }
+    ensures { λ r. ⌜ (r ≡ max (length (dimsOf a)) (length (dimsOf b))) × (r ≤ maxSizes) ⌝ }
 {
     let m = size_count(a);
     let n = size_count(b);
@@ -147,7 +148,7 @@ pub fn longer(a: Dims, b: Dims) -> usize
 }
 
 fn shorter(a: Dims, b: Dims) -> usize
-    ensures { λ r. ⌜ (r ≡ min (length (dimsOf a)) (length (dimsOf b))) × (r ≤ 8) ⌝ }
+    ensures { λ r. ⌜ (r ≡ min (length (dimsOf a)) (length (dimsOf b))) × (r ≤ maxSizes) ⌝ }
 {
     let m = size_count(a);
     let n = size_count(b);

@@ -13,7 +13,8 @@ use writer::size_count;
 ghost use mathlib.Core.Path.{_≡_};
 ghost use mathlib.Core.Bool.{cond};
 ghost use mathlib.Core.Option.{none, some};
-ghost use Prim.Native.Nat.{_≤_};
+ghost use Prim.Native.Nat.{_≤_, _+_};
+ghost use Rattle.model.specs.Limits.{maxSizes};
 ghost use Rattle.model.specs.Types.{shape};
 ghost use Rattle.format.specs.Records.{dimOf};
 ghost use Rattle.record.specs.Answers.{dimsOf, closingFor, shapeFor};
@@ -35,7 +36,7 @@ pub fn row_count(shape: DynShape) -> u64
 
 // Both counts added.
 pub fn rank(shape: DynShape) -> usize
-    ensures { λ r. ⌜ (r ≡ rank (shapeFor shape)) × (r ≤ 16) ⌝ }
+    ensures { λ r. ⌜ (r ≡ rank (shapeFor shape)) × (r ≤ maxSizes + maxSizes) ⌝ }
 {
     let dims = shape.dims;
     let opening = size_count(dims);

@@ -377,13 +377,13 @@ module _ (o a : ℕ) (title : List ℕ) (n : ℕ) (p : Shape) (q : Scalar) {m : 
 
 -- ---- how deep the copied type is
 
-pub shallow-any : (a : ℕ) → ltb a 7 ≡ leb (a + suc (suc (below (plain any)))) maxDepth
+pub shallow-any : (a : ℕ) → ltb (a + 1) maxDepth ≡ leb (a + suc (suc (below (plain any)))) maxDepth
 unfolding below
-shallow-any a = go (ltb a 7) refl
+shallow-any a = go (ltb (a + 1) maxDepth) refl
   where
-    go : (b : Bool) → ltb a 7 ≡ b → b ≡ leb (a + 2) maxDepth
-    go true e = sym (le-leb (a + 2) maxDepth (omega (arith, ltb-true a 7 e)))
-    go false e = sym (lt-leb (a + 2) maxDepth (omega (arith, ltb-false a 7 e)))
+    go : (b : Bool) → ltb (a + 1) maxDepth ≡ b → b ≡ leb (a + 2) maxDepth
+    go true e = sym (le-leb (a + 2) maxDepth (omega (arith, ltb-true (a + 1) maxDepth e)))
+    go false e = sym (lt-leb (a + 2) maxDepth (omega (arith, ltb-false (a + 1) maxDepth e)))
 
 pub shallow-content : (a : ℕ) (q : Scalar) → inside q < maxTypes → fits 0 (a + 1) q ≡ leb (a + suc (suc (below q))) maxDepth
 unfolding fits

@@ -12,6 +12,8 @@ ghost use mathlib.Core.Option.{Option};
 ghost use mathlib.Core.List.{_∷_};
 ghost use Prim.Native.Nat.{ℕ, _+_, _*_, _≤_, _<_};
 ghost use lib.ListN.{length, take};
+ghost use Rattle.format.specs.Suffices.{shapeBytes, boxBytes};
+ghost use Rattle.model.specs.Limits.{maxName};
 ghost use Rattle.model.specs.Types.{Shape, Scalar, Fields, fieldCount, among};
 ghost use Rattle.model.specs.Types as types;
 ghost use Rattle.format.specs.Records.{boxStart, countOf, listOf};
@@ -24,7 +26,7 @@ ghost use Rattle.validate.specs.Walk.{wroteOf, scalarPiece, typePiece, f
 // The scalar of the type at `at`, as it stands.
 pub fn copy_scalar(s: &[u8], at: usize, out: &mut [u8], to: usize) -> Wrote
     requires { ⌜ Copyable (now s) at to (length (now out)) ⌝ }
-    ensures { λ r. ⌜ ((p : Shape) (k : Scalar) → Placed (now (s .entry)) at p k → (wroteOf r (now (out .exit)) ≡ accepted (scalarPiece (take to (now (out .entry))) k)) × Roomy r (to + 24)) ⌝ }
+    ensures { λ r. ⌜ ((p : Shape) (k : Scalar) → Placed (now (s .entry)) at p k → (wroteOf r (now (out .exit)) ≡ accepted (scalarPiece (take to (now (out .entry))) k)) × Roomy r (to + boxBytes)) ⌝ }
 {
     let start = scalar_at(s, at);
     let span = span_at(s, at);
@@ -62,7 +64,7 @@ pub fn copy_fields(
     to: usize,
 ) -> Wrote
     requires { ⌜ Listable (now s) start count moves to (length (now out)) ⌝ }
-    ensures { λ r. ⌜ ((f : Fields) → Listed moves (now (s .entry)) start f → fieldCount f ≡ count → to + 156 * among f ≤ length (now (out .entry)) → (wroteOf r (now (out .exit)) ≡ accepted (fieldsPiece (take to (now (out .entry))) 0 f)) × Roomy r to) ⌝ }
+    ensures { λ r. ⌜ ((f : Fields) → Listed moves (now (s .entry)) start f → fieldCount f ≡ count → to + (shapeBytes + boxBytes) * among f ≤ length (now (out .entry)) → (wroteOf r (now (out .exit)) ≡ accepted (fieldsPiece (take to (now (out .entry))) 0 f)) × Roomy r to) ⌝ }
 {
     let mut at = start;
     let mut end = to;
@@ -97,7 +99,7 @@ pub fn put_box(out: &mut [u8], to: usize, form: u8)
 // A Def's head: its box, the name that stands at `name`, and the count of its fields. Answers the place after it.
 pub fn put_def(s: &[u8], name: usize, count: u8, out: &mut [u8], to: usize) -> usize
     requires { ⌜ Nameable (now s) name to (length (now out)) ⌝ }
-    ensures { λ r. ⌜ ((label : Option (List ℕ)) → Stands (now (s .entry)) name (countOf label ∷ listOf label) → length (listOf label) ≤ 16 → (r ≡ to + length (defHead label count)) × (r ≤ to + 24) × (now (out .exit) ≡ over (now (out .entry)) to (defHead label count))) ⌝ }
+    ensures { λ r. ⌜ ((label : Option (List ℕ)) → Stands (now (s .entry)) name (countOf label ∷ listOf label) → length (listOf label) ≤ maxName → (r ≡ to + length (defHead label count)) × (r ≤ to + boxBytes) × (now (out .exit) ≡ over (now (out .entry)) to (defHead label count))) ⌝ }
 {
     let end = name + 1 + name_length(s[name]);
     put_box(&mut *out, to, 2);
@@ -118,7 +120,7 @@ pub fn put_name(
     to: usize,
 ) -> usize
     requires { ⌜ Nameable (cond borrowed (now spec) (now ty)) name to (length (now out)) ⌝ }
-    ensures { λ r. ⌜ ((label : Option (List ℕ)) → Stands (cond borrowed (now (spec .entry)) (now (ty .entry))) name (countOf label ∷ listOf label) → length (listOf label) ≤ 16 → (r ≡ to + length (defHead label count)) × (r ≤ to + 24) × (now (out .exit) ≡ over (now (out .entry)) to (defHead label count))) ⌝ }
+    ensures { λ r. ⌜ ((label : Option (List ℕ)) → Stands (cond borrowed (now (spec .entry)) (now (ty .entry))) name (countOf label ∷ listOf label) → length (listOf label) ≤ maxName → (r ≡ to + length (defHead label count)) × (r ≤ to + boxBytes) × (now (out .exit) ≡ over (now (out .entry)) to (defHead label count))) ⌝ }
 {
     if borrowed {
         return put_def(spec, name, count, &mut *out, to);

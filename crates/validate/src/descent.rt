@@ -22,6 +22,8 @@ ghost use mathlib.Core.Path.{_≡_};
 ghost use mathlib.Core.Bool.{Bool, cond};
 ghost use Prim.Native.Nat.{ℕ, _+_, _-_, _*_, _≤_};
 ghost use lib.ListN.{length, take};
+ghost use Rattle.format.specs.Suffices.{shapeBytes, boxBytes};
+ghost use Rattle.model.specs.Limits.{maxTypes};
 ghost use Rattle.format.specs.Outcome.{mapped};
 ghost use Rattle.validation.specs.CheckScalar.{inTurn};
 ghost use Rattle.validate.specs.Answers.{sideOf};
@@ -39,7 +41,7 @@ pub fn check_type(
     out: &mut [u8],
     to: usize,
 ) -> Wrote
-    requires { ⌜ Pair (now spec) i (now ty) j others above × (to + 156 * (32 - others) ≤ length (now out)) ⌝ }
+    requires { ⌜ Pair (now spec) i (now ty) j others above × (to + (shapeBytes + boxBytes) * (maxTypes - others) ≤ length (now out)) ⌝ }
     ensures { λ r. ⌜ ((w : Pair (now (spec .entry)) i (now (ty .entry)) j others above) → (wroteOf r (now (out .exit)) ≡ mapped (typePiece (take to (now (out .entry)))) (inTurn (scalarOf others above w) (sidedOf (sideOf side) w))) × Roomy r to) ⌝ }
 {
     let checked = check_shapes(side, shape_at(spec, i), shape_at(ty, j));
@@ -71,8 +73,8 @@ pub fn check_scalar_at(
     out: &mut [u8],
     to: usize,
 ) -> Wrote
-    requires { ⌜ Pair (now spec) i (now ty) j others above × (to + 24 + 156 * (31 - others) ≤ length (now out)) ⌝ }
-    ensures { λ r. ⌜ ((w : Pair (now (spec .entry)) i (now (ty .entry)) j others above) → (wroteOf r (now (out .exit)) ≡ mapped (scalarPiece (take to (now (out .entry)))) (scalarOf others above w)) × Roomy r (to + 24)) ⌝ }
+    requires { ⌜ Pair (now spec) i (now ty) j others above × (to + boxBytes + (shapeBytes + boxBytes) * (maxTypes - 1 - others) ≤ length (now out)) ⌝ }
+    ensures { λ r. ⌜ ((w : Pair (now (spec .entry)) i (now (ty .entry)) j others above) → (wroteOf r (now (out .exit)) ≡ mapped (scalarPiece (take to (now (out .entry)))) (scalarOf others above w)) × Roomy r (to + boxBytes)) ⌝ }
 {
     let plan = plan_scalar(spec, i, ty, j, others, above);
     match plan {
@@ -155,7 +157,7 @@ fn check_fields(
     out: &mut [u8],
     to: usize,
 ) -> Wrote
-    requires { ⌜ Lists (now spec) first limit moves (now source) second count steps others above × (to + 156 * (32 - others) ≤ length (now out)) ⌝ }
+    requires { ⌜ Lists (now spec) first limit moves (now source) second count steps others above × (to + (shapeBytes + boxBytes) * (maxTypes - others) ≤ length (now out)) ⌝ }
     ensures { λ r. ⌜ ((w : Lists (now (spec .entry)) first limit moves (now (source .entry)) second count steps others above) → (wroteOf r (now (out .exit)) ≡ mapped (fieldsPiece (take to (now (out .entry))) 0) (fieldsOf others above w)) × Roomy r to) ⌝ }
 {
     let mut i = first;

@@ -18,6 +18,7 @@ ghost use mathlib.Core.Bool.{Bool, true, false, cond};
 ghost use Prim.Native.Nat.{suc, _+_, _≤_, _<_};
 ghost use lib.ListN.{length};
 ghost use lib.Dec.{eqb};
+ghost use Rattle.model.specs.Limits.{maxTypes, maxDepth};
 ghost use Rattle.model.specs.Types.{Shape, Scalar, Fields, fieldCount, inside, among};
 ghost use Rattle.format.specs.Records.{absent, listCount, writeShape};
 ghost use Rattle.rules.specs.Shapes.{isAny};
@@ -34,7 +35,7 @@ pub fn scalar_at(s: &[u8], at: usize) -> usize
 
 // How many types it is, itself counted, and the place after it.
 pub fn span_at(s: &[u8], at: usize) -> Span
-    ensures { λ r. ⌜ (r .types ≤ 32) × ((p : Shape) (k : Scalar) → Placed (now (s .entry)) at p k → (r .types ≡ suc (inside k)) × (r .end ≡ onward true at p k)) ⌝ }
+    ensures { λ r. ⌜ (r .types ≤ maxTypes) × ((p : Shape) (k : Scalar) → Placed (now (s .entry)) at p k → (r .types ≡ suc (inside k)) × (r .end ≡ onward true at p k)) ⌝ }
 {
     let answer = read_type(s, at, MAX_DEPTH, MAX_TYPES);
     match answer {
@@ -86,7 +87,7 @@ pub fn any_at(s: &[u8], at: usize) -> bool
 // Whether its scalar keeps to the limits where `others` types stand elsewhere and `above` types around it: read again with
 // what is left of them, it is refused if not.
 pub fn fits_at(s: &[u8], at: usize, others: u64, above: u64) -> bool
-    requires { ⌜ (others ≤ 32) × (above ≤ 8) ⌝ }
+    requires { ⌜ (others ≤ maxTypes) × (above ≤ maxDepth) ⌝ }
     ensures { λ r. ⌜ ((p : Shape) (k : Scalar) → Placed (now (s .entry)) at p k → r ≡ fits others above k) ⌝ }
 {
     let answer = read_type(s, at, MAX_DEPTH - above, MAX_TYPES - others);

@@ -8,6 +8,7 @@ use crate::places::span_at;
 use limits::ABSENT;
 use limits::ANY;
 use limits::BOX;
+use limits::MAX_DEPTH;
 use limits::MAX_FIELDS;
 use limits::MAX_TYPES;
 use limits::UNKNOWN;
@@ -22,6 +23,7 @@ ghost use mathlib.Core.Bool.{true, false, cond};
 ghost use mathlib.Core.List.{List};
 ghost use Prim.Native.Nat.{ℕ, suc, _+_, _≤_, _<_};
 ghost use lib.ListN.{length};
+ghost use Rattle.model.specs.Limits.{maxTypes, maxDepth};
 ghost use Rattle.model.specs.Refusals.{wrongScalar};
 ghost use Rattle.model.specs.Types.{Shape, Scalar, Ty, ty, boxDef};
 ghost use mathlib.Core.Option.{none, some};
@@ -77,7 +79,7 @@ fn keep_if(over: bool) -> Plan
 
 // The spec's scalar is taken if the whole keeps to the limits with it.
 fn take_if(spec: &[u8], i: usize, others: u64, above: u64) -> Plan
-    requires { ⌜ (others ≤ 32) × (above ≤ 8) ⌝ }
+    requires { ⌜ (others ≤ maxTypes) × (above ≤ maxDepth) ⌝ }
     ensures { λ r. ⌜ ((t : List ℕ) (x : Outcome Scalar) (p : Shape) (k l : Scalar) → Placed (now (spec .entry)) i p k → x ≡ measured (fits others above) k → Plans (now (spec .entry)) t others above x k l r) ⌝ }
 {
     if fits_at(spec, i, others, above) {
@@ -114,7 +116,7 @@ fn plan_all(
     others: u64,
     above: u64,
 ) -> Plan
-    requires { ⌜ (others ≤ 32) × (above ≤ 8) ⌝ }
+    requires { ⌜ (others ≤ maxTypes) × (above ≤ maxDepth) ⌝ }
     ensures { λ r. ⌜ ((j : ℕ) (w : Pair (now (spec .entry)) i (now (ty .entry)) j others above) → whollyAny (types.ty (w .type-shape) (w .type-scalar)) ≡ false → SeenAll (now (spec .entry)) (w .spec-scalar) content → Seen (now (ty .entry)) (w .type-scalar) v → Planned others above w r) ⌝ }
 {
     match v {
@@ -152,7 +154,7 @@ fn plan_unnamed(
     others: u64,
     above: u64,
 ) -> Plan
-    requires { ⌜ (others ≤ 32) × (above ≤ 8) ⌝ }
+    requires { ⌜ (others ≤ maxTypes) × (above ≤ maxDepth) ⌝ }
     ensures { λ r. ⌜ ((j : ℕ) (w : Pair (now (spec .entry)) i (now (ty .entry)) j others above) → whollyAny (types.ty (w .type-shape) (w .type-scalar)) ≡ false → SeenDef (now (spec .entry)) (w .spec-scalar) name false fields count → Seen (now (ty .entry)) (w .type-scalar) v → Planned others above w r) ⌝ }
 {
     match v {
@@ -190,7 +192,7 @@ fn plan_copies(
     count: u64,
     others: u64,
 ) -> Plan
-    requires { ⌜ (others ≤ 32) × (types ≤ 32) ⌝ }
+    requires { ⌜ (others ≤ maxTypes) × (types ≤ maxTypes) ⌝ }
     ensures { λ r. ⌜ Copies n types shallow other fresh name fields count others r ⌝ }
 {
     if MAX_FIELDS < n {
@@ -241,18 +243,38 @@ fn plan_named(
     others: u64,
     above: u64,
 ) -> Plan
-    requires { ⌜ (others ≤ 32) × (above < 8) ⌝ }
+    requires { ⌜ (others ≤ maxTypes) × (above < maxDepth) ⌝ }
     ensures { λ r. ⌜ ((j : ℕ) (w : Pair (now (spec .entry)) i (now (ty .entry)) j others above) → whollyAny (types.ty (w .type-shape) (w .type-scalar)) ≡ false → shapeFor t ≡ w .type-shape → SeenDef (now (spec .entry)) (w .spec-scalar) name true fields count → Seen (now (ty .entry)) (w .type-scalar) v → Planned others above w r) ⌝ }
 {
     let n = fields_for(t, count);
     match v {
         View::Plain { code } => {
             if code == ANY {
-                return plan_copies(n, 1, above < 7, 0, true, name, fields, count, others);
+                return plan_copies(
+                    n,
+                    1,
+                    above + 1 < MAX_DEPTH,
+                    0,
+                    true,
+                    name,
+                    fields,
+                    count,
+                    others,
+                );
             }
             keep_if(superset_codes(BOX, code))
         }
-        View::BoxAny => plan_copies(n, 1, above < 7, 0, true, name, fields, count, others),
+        View::BoxAny => plan_copies(
+            n,
+            1,
+            above + 1 < MAX_DEPTH,
+            0,
+            true,
+            name,
+            fields,
+            count,
+            others,
+        ),
         View::BoxAll { content } => plan_copies(
             n,
             span_at(ty, content).types,

@@ -2,6 +2,7 @@
 use lent::Written;
 use lent::hand_over;
 use limits::ABSENT;
+use limits::MAX_SIZES;
 use limits::refusal::TOO_SHORT;
 use record::Dims;
 use record::DynShape;
@@ -13,6 +14,8 @@ ghost use mathlib.Core.Path.{_≡_};
 ghost use mathlib.Core.List.{[], _∷_, _++_};
 ghost use Prim.Native.Nat.{_+_, _*_, _≤_};
 ghost use lib.ListN.{length};
+ghost use Rattle.format.specs.Suffices.{shapeBytes};
+ghost use Rattle.model.specs.Limits.{maxSizes};
 ghost use Rattle.format.specs.Reader.{bytesOf};
 ghost use Rattle.format.specs.Records.{shapeMark, markBytes, countOf, writeDims, writeShape};
 ghost use Rattle.format.specs.Outcome.{accepted, deliver, mapped, lone, shapeRecord, scalarRecord};
@@ -42,12 +45,12 @@ fn put_number(out: &mut [u8], at: usize, n: u64)
     out[at + 7] = (g % 256) as u8;
 }
 
-// How many sizes a list has: the array holds no more than eight.
+// How many sizes a list has: no more than the array holds.
 pub fn size_count(d: Dims) -> usize
-    ensures { λ r. ⌜ (r ≡ length (dimsOf d)) × (r ≤ 8) ⌝ }
+    ensures { λ r. ⌜ (r ≡ length (dimsOf d)) × (r ≤ maxSizes) ⌝ }
 {
     let n = d.count;
-    if n < 8 { n } else { 8 }
+    if n < MAX_SIZES { n } else { MAX_SIZES }
 }
 
 fn put_dims(out: &mut [u8], start: usize, d: Dims) -> usize
@@ -78,7 +81,7 @@ fn closing_count(shape: DynShape) -> u8
 
 // The length of a shape's record.
 pub fn shape_length(shape: DynShape) -> usize
-    ensures { λ r. ⌜ (r ≡ length (writeShape (shapeFor shape))) × (r ≤ 132) ⌝ }
+    ensures { λ r. ⌜ (r ≡ length (writeShape (shapeFor shape))) × (r ≤ shapeBytes) ⌝ }
 {
     let dims = shape.dims;
     let start = 4 + 8 * size_count(dims);

@@ -21,7 +21,7 @@ ghost use Rattle.stack.specs.Stack.{slotOf, Holds, HasTypes};
 pub const MAX_STACK: usize = 8;
 
 // Bytes of scratch: a slot of MAX_BYTES for each type on the stack.
-pub const SCRATCH_BYTES: usize = 39936;
+pub const SCRATCH_BYTES: usize = MAX_STACK * MAX_BYTES;
 
 // A stretch of the scratch.
 pub struct Stretch {

@@ -1,24 +1,24 @@
 -- Demand 2: read and written, the bytes. What is read keeps every limit, and what is written for it are the bytes read.
-use Prim.Native.Nat.{ℕ, zero, suc, _+_, _-_, _*_, _^_, _≤_, _<_, max}
-use native.Mathlib.Nat.{zero-add, add-zero}
+use Prim.Native.Nat.{ℕ, zero, suc, _+_, _-_, _≤_}
+use native.Mathlib.Nat.{zero-add}
 use native.Mathlib.Omega.{arith}
 use mathlib.Core.Bool.{Bool, true, false, _&&_, _||_, cond, or-false}
 use mathlib.Core.List.{List, [], _∷_, _++_, append-nil}
 use mathlib.Core.Option.{Option, none, some}
 use mathlib.Core.Path.{_≡_, refl, sym, _∙_, ap}
-use lib.ListN.{length, getD, drop, drop-of-length-le}
+use lib.ListN.{length, drop, drop-of-length-le}
 use lib.Seq.{drop-append-seam}
-use lib.Dec.{eqb, leb, ltb, lit<, lit≤}
-use borrow.Author.Tests.{leb-true, eqb-true, eqb-false, ltb-true, ltb-false}
+use lib.Dec.{eqb, leb, ltb}
+use borrow.Author.Tests.{leb-true, eqb-true, ltb-false}
 use Rattle.model.specs.Limits.{ones, maxSize, maxSizes, maxName, maxFields, maxTypes, maxDepth}
-use Rattle.model.specs.Refusals.{unmarked, outOfRange, oversized, tooMany, trailing}
-use Rattle.model.specs.Types.{Dim, static, unknown, Shape, shape, Kind, bool, nat, int, num, complex, ascii, char, stream, any, Scalar, plain, boxAny, boxAll, boxDef, Fields, noFields, field, Ty, ty, boxOf, fieldOf, fieldCount, inside, among, types, below, deepest, depth}
-use Rattle.model.specs.Within.{All, Each, DimWithin, DimsWithin, ShapeWithin, Printing, NameWithin, ScalarWithin, FieldsWithin, RecordsWithin, Within}
-use Rattle.format.specs.Reader.{Read, got, stopped, Reader, andThen, _>>=_, _>>_, give, stop, need, here, byte, judged, number, bytesOf}
+use Rattle.model.specs.Refusals.{unmarked, outOfRange, trailing}
+use Rattle.model.specs.Types.{Dim, static, unknown, Shape, shape, Kind, bool, nat, int, num, complex, ascii, char, stream, any, Scalar, plain, boxAny, Fields, Ty, ty, boxOf, fieldOf, fieldCount, inside, among, types, below, deepest, depth}
+use Rattle.model.specs.Within.{All, Each, DimWithin, ShapeWithin, Printing, ScalarWithin, FieldsWithin, RecordsWithin, Within}
+use Rattle.format.specs.Reader.{Read, got, stopped, Reader, andThen, give, stop, need, here, byte, judged, number, bytesOf}
 use Rattle.format.specs.WriteRead.{reads-shape}
 use Rattle.format.specs.ReaderLaws.{Bytes, reads-here, Took, took-none, took-join, split, gave, needed, took-byte, took-judged, took-number}
 use Rattle.format.specs.Records.{Mark, mark, shapeMark, scalarMark, boxMark, markBytes, absent, code, boxCode, kindOf, dimNumber, writeDims, countOf, listOf, writeShape, boxStart, writeScalar, writeFields, writeTy, dimOf, isCount, isOptional, listCount, optional, isPrinting, form, orStop, readMark, readDim, readDims, shapeFrom, readShape, readName, readFields, defFrom, allFrom, boxFrom, plainFrom, scalarFrom, readTy, readType}
-use Rattle.format.specs.Outcome.{Outcome, accepted, refused, alone, lone}
+use Rattle.format.specs.Outcome.{accepted, refused, alone, lone}
 
 -- ---- codes and counts
 

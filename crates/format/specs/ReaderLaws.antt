@@ -13,7 +13,7 @@ use lib.Dec.{ltb, lit<}
 use lib.Arith.{digits-div, digits-mod, digits-lt}
 use borrow.Author.Tests.{lt-ltb, le-ltb, ltb-true}
 use Rattle.model.specs.Refusals.{ended, outOfRange}
-use Rattle.format.specs.Reader.{Read, got, stopped, Reader, andThen, _>>=_, _>>_, give, stop, need, here, byte, judged, number, bytesOf}
+use Rattle.format.specs.Reader.{Read, got, stopped, Reader, andThen, _>>=_, _>>_, give, need, here, byte, judged, number, bytesOf}
 
 -- m reads a off the bytes w, wherever they stand in s. A record, so that m, w and a can be read off a goal.
 pub record Reads {A : Type 0} (s : List ℕ) (m : Reader A) (w : List ℕ) (a : A) : Type 0 where

@@ -3,15 +3,15 @@
 -- A refusal names the first byte of the record begun or due (the innermost one with a mark of its own), and for more types or
 -- depth than allowed that of the type.
 use Prim.Native.Nat.{ℕ, zero, suc, _-_}
-use mathlib.Core.Bool.{Bool, true, false, _&&_, _||_, cond}
+use mathlib.Core.Bool.{Bool, _&&_, _||_, cond}
 use mathlib.Core.List.{List, [], _∷_, _++_}
 use mathlib.Core.Option.{Option, none, some}
 use lib.ListN.{length, getD}
 use lib.Dec.{eqb, leb}
 use Rattle.model.specs.Limits.{maxSize, ones, maxSizes, maxName, maxFields, maxTypes, maxDepth}
-use Rattle.model.specs.Refusals.{unmarked, outOfRange, oversized, tooMany, trailing}
+use Rattle.model.specs.Refusals.{unmarked, outOfRange, oversized, tooMany}
 use Rattle.model.specs.Types.{Dim, static, unknown, Shape, shape, Kind, bool, nat, int, num, complex, ascii, char, stream, any, Scalar, plain, boxAny, boxAll, boxDef, Fields, noFields, field, Ty, ty, boxOf, fieldOf, fieldCount, types}
-use Rattle.format.specs.Reader.{Read, got, stopped, Reader, andThen, _>>=_, _>>_, give, stop, need, here, byte, judged, number, bytesOf}
+use Rattle.format.specs.Reader.{Reader, _>>=_, _>>_, give, stop, need, here, byte, judged, number, bytesOf}
 
 -- ---- marks and codes
 

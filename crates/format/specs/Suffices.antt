@@ -1,17 +1,16 @@
 -- 4,992 bytes suffice for any type: a type writes at most 156 bytes for each of its at most 32 types, 132 for a shape with
 -- eight opening and eight closing sizes and 24 for a Def with a name of 16 bytes.
 use Prim.Native.Nat.{ℕ, zero, suc, _+_, _*_, _/_, _≤_}
-use native.Mathlib.Nat.{add-zero}
 use native.Mathlib.Omega.{arith}
-use mathlib.Core.List.{List, [], _∷_, _++_}
+use mathlib.Core.List.{List, [], _∷_}
 use mathlib.Core.Option.{Option, none, some}
 use mathlib.Core.Path.{_≡_, refl}
 use lib.ListN.{length, length-append}
-use Rattle.model.specs.Limits.{maxSizes, maxName, maxTypes, maxBytes}
-use Rattle.model.specs.Types.{Dim, Shape, shape, Scalar, plain, boxAny, boxAll, boxDef, Fields, noFields, field, Ty, ty, fieldCount, inside, among, types}
-use Rattle.model.specs.Within.{All, Each, DimsWithin, ShapeWithin, NameWithin, ScalarWithin, FieldsWithin, Within}
+use Rattle.model.specs.Limits.{maxSizes, maxName, maxBytes}
+use Rattle.model.specs.Types.{Dim, Shape, shape, Scalar, plain, boxAny, boxAll, boxDef, Fields, noFields, field, Ty, ty, inside, among, types}
+use Rattle.model.specs.Within.{Each, DimsWithin, ShapeWithin, NameWithin, ScalarWithin, FieldsWithin, Within}
 use Rattle.format.specs.Reader.{bytesOf}
-use Rattle.format.specs.Records.{dimNumber, writeDims, countOf, listOf, writeShape, boxStart, writeScalar, writeFields, writeTy}
+use Rattle.format.specs.Records.{dimNumber, writeDims, listOf, writeShape, writeScalar, writeFields, writeTy}
 
 -- the bytes of a shape's record, and of a box's with its name
 abbrev pub shapeBytes : ℕ

@@ -1,23 +1,23 @@
 -- Demand 2: written and read, the type. What `writeTy` writes for a type within the limits is read back as that type,
 -- wherever it stands.
-use Prim.Native.Nat.{ℕ, zero, suc, _+_, _-_, _*_, _/_, _%_, _^_, _≤_, _<_, max}
+use Prim.Native.Nat.{ℕ, zero, suc, _+_, _-_, _^_, _≤_, _<_}
 use native.Mathlib.Nat.{add-zero}
 use native.Mathlib.Omega.{arith}
-use mathlib.Core.Bool.{Bool, true, false, _&&_, _||_, cond}
+use mathlib.Core.Bool.{Bool, true, false, _||_}
 use mathlib.Core.List.{List, [], _∷_, _++_, append-nil}
 use mathlib.Core.Option.{Option, none, some}
-use mathlib.Core.Path.{_≡_, refl, sym, _∙_, ap}
-use lib.ListN.{length, getD, drop}
+use mathlib.Core.Path.{_≡_, refl, sym, ap}
+use lib.ListN.{length}
 use lib.Dec.{eqb, leb, lit<, lit≤}
-use borrow.Author.Tests.{le-leb, lt-ltb, eq-eqb, ne-eqb, le-ltb}
+use borrow.Author.Tests.{le-leb, eq-eqb, ne-eqb, le-ltb}
 use Rattle.model.specs.Limits.{ones, maxSize, maxSizes, maxName, maxFields, maxTypes, maxDepth}
-use Rattle.model.specs.Refusals.{ended, unmarked, outOfRange, oversized, tooMany, trailing}
-use Rattle.model.specs.Types.{Dim, static, unknown, Shape, shape, Kind, bool, nat, int, num, complex, ascii, char, stream, any, Scalar, plain, boxAny, boxAll, boxDef, Fields, noFields, field, Ty, ty, boxOf, fieldOf, fieldCount, inside, among, types, below, deepest, depth}
-use Rattle.model.specs.Within.{All, Each, DimWithin, DimsWithin, ShapeWithin, Printing, NameWithin, ScalarWithin, FieldsWithin, RecordsWithin, Within}
-use Rattle.format.specs.Reader.{Read, got, stopped, Reader, andThen, _>>=_, _>>_, give, stop, need, here, byte, judged, number, bytesOf}
+use Rattle.model.specs.Refusals.{outOfRange}
+use Rattle.model.specs.Types.{Dim, static, unknown, Shape, shape, Kind, bool, nat, int, num, complex, ascii, char, stream, any, Scalar, plain, boxAny, boxAll, boxDef, Fields, noFields, field, Ty, ty, fieldCount, inside, among, types, below, deepest}
+use Rattle.model.specs.Within.{All, Each, DimWithin, DimsWithin, ShapeWithin, Printing, NameWithin, ScalarWithin, FieldsWithin, Within}
+use Rattle.format.specs.Reader.{Read, got, Reader, give, stop, byte, bytesOf}
 use Rattle.format.specs.ReaderLaws.{Reads, reads-give, reads-bind, reads-byte, reads-judged, reads-here, reads-last, reads-number}
-use Rattle.format.specs.Records.{Mark, mark, shapeMark, scalarMark, boxMark, markBytes, absent, code, boxCode, kindOf, dimNumber, writeDims, countOf, listOf, writeShape, boxStart, writeScalar, writeFields, writeTy, dimOf, isCount, isOptional, listCount, optional, isPrinting, form, orStop, readMark, readDim, readDims, shapeFrom, readShape, readName, readFields, defFrom, allFrom, boxFrom, plainFrom, scalarFrom, readTy, readType}
-use Rattle.format.specs.Outcome.{Outcome, accepted, refused, alone, lone}
+use Rattle.format.specs.Records.{Mark, mark, shapeMark, scalarMark, boxMark, markBytes, absent, code, boxCode, kindOf, dimNumber, writeDims, countOf, listOf, writeShape, boxStart, writeScalar, writeFields, writeTy, isCount, isOptional, listCount, optional, isPrinting, form, readMark, readDim, readDims, shapeFrom, readName, readFields, defFrom, allFrom, boxFrom, scalarFrom, readTy, readType}
+use Rattle.format.specs.Outcome.{accepted, alone, lone}
 
 -- ---- codes and counts
 

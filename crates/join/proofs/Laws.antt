@@ -1,7 +1,7 @@
 -- Which of four records the union of two types' scalars is, behind a shape's.
 use Prim.Native.Nat.{ℕ, _-_, _≤_}
 use mathlib.Core.List.{List, [], _++_}
-use mathlib.Core.Path.{_≡_, refl, sym, _∙_, ap}
+use mathlib.Core.Path.{_≡_, sym, _∙_, ap}
 use lib.ListN.{length, drop}
 use Rattle.model.specs.Limits.{maxDepth}
 use Rattle.model.specs.Types.{any, Shape, Scalar, plain, boxAny, ty}

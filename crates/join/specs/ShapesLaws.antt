@@ -1,11 +1,9 @@
 -- Two whole types whose shapes are known: what is said of both is said of their scalars.
 use Prim.Native.Nat.{ℕ}
-use native.Mathlib.Omega.{arith}
 use mathlib.Core.List.{List}
-use mathlib.Core.Path.{_≡_, refl, sym, _∙_, ap}
+use mathlib.Core.Path.{_≡_, refl}
 use Rattle.model.specs.Types.{Shape, Scalar, Ty, ty, shapeOf, scalarOf}
 use Rattle.format.specs.Outcome.{Outcome, accepted, refused, mapped, both}
-use Rattle.record.specs.Answers.{nothings}
 
 module _ (x y : Outcome Ty) {s r : Shape} (first : mapped shapeOf x ≡ accepted s) (second : mapped shapeOf y ≡ accepted r) where
   pub by-scalars : (f : Ty → Ty → Outcome (List ℕ)) (g : Scalar → Scalar → Outcome (List ℕ)) → ((k l : Scalar) → f (ty s k) (ty r l) ≡ g k l) → both f x y ≡ both (λ t u. g (scalarOf t) (scalarOf u)) x y

@@ -1,11 +1,11 @@
 -- What `deliver` comes to, for each way out of a call.
 use Prim.Native.Nat.{ℕ, _≤_, _<_}
 use mathlib.Core.List.{List}
-use mathlib.Core.Path.{_≡_, refl, sym, _∙_, ap}
+use mathlib.Core.Path.{_≡_, sym, _∙_, ap}
 use lib.ListN.{length}
 use borrow.Author.Tests.{le-leb, lt-leb}
 use Rattle.model.specs.Refusals.{tooShort}
-use Rattle.format.specs.Outcome.{Outcome, accepted, refused, Delivery, delivery, deliver}
+use Rattle.format.specs.Outcome.{Outcome, accepted, refused, delivery, deliver}
 use Rattle.lent.specs.Over.{over, over-front}
 
 module _ (buffer : List ℕ) where

@@ -1,5 +1,5 @@
 -- Every limit of document 01, named once. Definitions and theorems cite the names and never the numbers.
-use Prim.Native.Nat.{ℕ, _+_, _*_}
+use Prim.Native.Nat.{ℕ}
 
 -- the largest static size, 2^53
 abbrev pub maxSize : ℕ

@@ -3,7 +3,6 @@
 use Prim.Native.Nat.{ℕ, suc, _+_, max}
 use mathlib.Core.List.{List}
 use mathlib.Core.Option.{Option, none, some}
-use lib.ListN.{length}
 
 -- A size: static, or unknown, which the paper writes ?.
 pub data Dim : Type 0 where

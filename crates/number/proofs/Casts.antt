@@ -5,13 +5,13 @@ use Prim.Native.Nat.{ℕ, _+_, _*_, _/_, _%_, _^_, _≤_}
 use native.Mathlib.Nat.{div-add-mod', zero-mul, mul-one, zero-div}
 use native.Mathlib.Omega.{arith}
 use borrow.Author.Tests.{eqb-true, leb-true, eq-eqb, lt-ltb}
-use lib.Dec.{T, eqb, leb, ltb}
+use lib.Dec.{T, eqb, leb}
 use lib.Ieee.{Float, nan, inf, fin, up, down, binary64, ofBits, eq, ne, isNan, inUnsigned, toUnsigned}
 use lib.Ieee as ieee
 use lib.Ieee.Compare.{nan-differs}
 use lib.Ieee.Casts.{toUnsigned-cut}
 use Rattle.model.specs.Limits.{maxSize}
-use Rattle.number.specs.Class.{Class, fraction, whole, larger, classOf, magnitude}
+use Rattle.number.specs.Class.{fraction, whole, larger, classOf, magnitude}
 
 pub yes : {b : Bool} → b ≡ true → T b
 yes h = subst T (sym h) tt

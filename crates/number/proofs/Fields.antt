@@ -2,7 +2,7 @@
 use mathlib.Core.Path.{_≡_, refl, ap, sym, _∙_}
 use mathlib.Core.Bool.{Bool}
 use Prim.Native.Nat.{ℕ, zero, suc, _+_, _*_, _/_, _%_, _^_, _<_}
-use native.Mathlib.Nat.{zero-mod, mod-eq-of-lt, mul-one, mul-right-comm, lt-of-lt-of-le}
+use native.Mathlib.Nat.{zero-mod, mod-eq-of-lt, mul-one, lt-of-lt-of-le}
 use native.Mathlib.Omega.{arith}
 use borrow.Author.Tests.{eq-eqb, ne-eqb}
 use lib.Dec.{leb, lit≤}
@@ -10,7 +10,7 @@ use lib.Pow.{pow-pos, pow-mono}
 use lib.Ieee.{Float, nan, inf, fin, up, down, odd, binary64, ofFields, ofBits}
 use lib.Ieee.Fits.{down-pos}
 use lib.Ieee.Exact.{HasValue, odd-sign}
-use Rattle.number.specs.Class.{Class, notANumber, infinite, fraction, whole, classOfRatio, classOf}
+use Rattle.number.specs.Class.{notANumber, infinite, fraction, whole, classOfRatio, classOf}
 use Rattle.number.proofs.Ratio.{ratio-same, ratio-shift, ratio-whole, ratio-fraction}
 
 class-value : (x : Float) (s : Bool) (a c : ℕ) → 0 < c → HasValue x s a c → classOf x ≡ classOfRatio s a c

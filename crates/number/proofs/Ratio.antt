@@ -10,7 +10,7 @@ use lib.Dec.{eqb}
 use lib.Pow.{pow-add, pow-pos, pow-mono, shl-lt, shl-exact}
 use lib.Ieee.Nearest.{div-same}
 use Rattle.model.specs.Limits.{maxSize}
-use Rattle.number.specs.Class.{Class, fraction, whole, larger, classOfRatio}
+use Rattle.number.specs.Class.{fraction, whole, larger, classOfRatio}
 
 -- ---- equal fractions
 

@@ -12,9 +12,8 @@ use lib.Seq.{take-suc-set, drop-cons}
 use lib.Ieee.{Float, nan}
 use Rattle.model.specs.Limits.{maxSizes, ones}
 use Rattle.model.specs.Refusals.{outOfRange}
-use Rattle.number.specs.declared.Sized.{Sized}
 use Rattle.number.specs.declared.Sized.the-variants.{Size, Refused}
-use Rattle.number.specs.Size.{SizeOutcome, size, unknown, listedDim}
+use Rattle.number.specs.Size.{size, unknown, listedDim}
 use Rattle.number.specs.Sizes.{SizesOutcome, sizes, refusedAt, before, atIndex, sizesFrom, listedDims}
 use Rattle.number.specs.Answers.{sizeOutcome}
 

@@ -2,14 +2,14 @@
 use Prim.Native.Nat.{ℕ, suc, _+_, _-_, _≤_, _<_}
 use native.Mathlib.Omega.{arith}
 use native.Mathlib.Numerals.{add-one}
-use mathlib.Core.Bool.{Bool, true, false, cond}
+use mathlib.Core.Bool.{true, false}
 use mathlib.Core.List.{List}
 use mathlib.Core.Option.{Option, none, some}
 use mathlib.Core.Path.{_≡_, sym, _∙_, ap}
 use lib.ListN.{length, take, drop, getD, length-drop}
 use lib.Seq.{length-take-le, getD-take, getD-drop}
-use Rattle.model.specs.Types.{Dim, unknown, Shape, shape}
-use Rattle.format.specs.Records.{absent, countOf, listOf, dimOf}
+use Rattle.model.specs.Types.{unknown}
+use Rattle.format.specs.Records.{absent, listOf, dimOf}
 use Rattle.record.specs.Answers.{dimsOf, closingFor, shapeFor}
 use Rattle.record.specs.declared.Dims.{Dims}
 use Rattle.record.specs.declared.DynShape.{DynShape}

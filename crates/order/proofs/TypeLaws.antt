@@ -1,13 +1,13 @@
 -- The order of types in their bytes: one law for each way out of a function.
-use Prim.Native.Nat.{ℕ, zero, suc, _+_, _-_, _≤_, _<_}
+use Prim.Native.Nat.{ℕ, suc, _+_, _-_, _≤_, _<_}
 use native.Mathlib.Omega.{arith}
-use mathlib.Core.List.{List, [], _∷_, _++_}
-use mathlib.Core.Option.{Option, none, some}
+use mathlib.Core.List.{List, _++_}
+use mathlib.Core.Option.{Option}
 use mathlib.Core.Path.{_≡_, refl, sym, _∙_, ap, subst}
 use lib.ListN.{length, getD, length-append}
 use Rattle.model.specs.Limits.{maxDepth}
-use Rattle.model.specs.Types.{Shape, Kind, Scalar, plain, boxAny, boxAll, boxDef, Fields, noFields, field, Ty, ty, shapeOf, scalarOf, fieldCount}
-use Rattle.format.specs.Records.{code, boxCode, countOf, listOf, writeShape, writeScalar, writeFields, writeTy}
+use Rattle.model.specs.Types.{Shape, Scalar, plain, boxAny, boxAll, boxDef, Fields, noFields, field, Ty, ty, shapeOf, scalarOf, fieldCount}
+use Rattle.format.specs.Records.{code, boxCode, listOf, writeShape, writeScalar, writeFields, writeTy}
 use Rattle.format.specs.ReaderLaws.{Bytes}
 use Rattle.format.specs.Outcome.{accepted, both, lone}
 use Rattle.record.specs.Answers.{nothings}

@@ -22,7 +22,7 @@ ghost use mathlib.Core.List.{List};
 ghost use mathlib.Core.Option.{Option};
 ghost use Prim.Native.Nat.{ℕ, _+_};
 ghost use lib.ListN.{length};
-ghost use Rattle.model.specs.Types.{Scalar, Fields, Ty, boxDef};
+ghost use Rattle.model.specs.Types.{Scalar, Fields, Ty};
 ghost use Rattle.format.specs.Records.{listOf, writeScalar, writeFields, writeTy};
 ghost use Rattle.rules.specs.Order.{thenBy, cmpName, cmpScalar, cmpFields, compare};
 ghost use Rattle.walk.specs.At.{ScalarAt, TypeAt, DefAt, CountedAt, HasScalar, HasType, HasDef, HasFields};

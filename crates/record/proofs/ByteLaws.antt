@@ -2,20 +2,18 @@
 use Prim.Native.Nat.{ℕ, zero, suc, _+_, _*_, _-_, _≤_, _<_}
 use native.Mathlib.Omega.{arith}
 use native.Mathlib.Nat.{add-zero, add-suc}
-use native.Mathlib.Numerals.{add-one}
-use mathlib.Core.Bool.{Bool, true, false, _&&_, _||_, cond}
+use mathlib.Core.Bool.{Bool, true, false}
 use mathlib.Core.List.{List, _∷_}
 use mathlib.Core.Path.{_≡_, refl, sym, _∙_, ap}
 use lib.ListN.{length, getD}
-use lib.Dec.{eqb, leb, ltb}
+use lib.Dec.{ltb}
 use borrow.Author.Tests.{le-leb, lt-leb, eq-eqb, ne-eqb, ltb-true, ltb-false}
 use Rattle.model.specs.Limits.{ones, maxSize}
 use Rattle.model.specs.Refusals.{ended, unmarked, outOfRange, oversized}
-use Rattle.format.specs.Reader.{Read, got, stopped, Reader, andThen, mapRead, give, need, byte, judged, number}
+use Rattle.format.specs.Reader.{Read, got, stopped, andThen, mapRead, give, byte, judged, number}
 use Rattle.format.specs.ReaderLaws.{byte-there, byte-ended}
-use Rattle.format.specs.Records.{mark, absent, dimNumber, dimOf, isCount, isOptional, isPrinting, readMark, readDim, readName}
+use Rattle.format.specs.Records.{mark, dimNumber, isPrinting, readMark, readDim, readName}
 use Rattle.record.specs.Answers.{nothing, eightBytes}
-use Rattle.record.proofs.Known.{stopped-map, got-map}
 
 module _ (s : List ℕ) where
   -- ---- a byte that is judged

@@ -1,8 +1,8 @@
 -- What a call's answer says of the reader that the call is held to.
 use Prim.Native.Nat.{ℕ}
 use native.Mathlib.Omega.{arith}
-use mathlib.Core.Path.{_≡_, refl, sym, _∙_, ap}
-use Rattle.format.specs.Reader.{Read, got, stopped, Reader, andThen, mapRead}
+use mathlib.Core.Path.{_≡_, sym, _∙_, ap}
+use Rattle.format.specs.Reader.{Read, got, stopped, mapRead}
 use Rattle.record.specs.Answers.{answerOf}
 use Rattle.record.specs.declared.Answer.{Answer}
 use Rattle.record.specs.declared.Answer.the-variants.{Got, Refused}

@@ -1,13 +1,13 @@
 -- Lone types: one law for each way out of a function, and what their parts are.
 use Prim.Native.Nat.{ℕ, _≤_, _<_}
 use native.Mathlib.Omega.{arith}
-use mathlib.Core.Path.{_≡_, refl, sym, _∙_, ap}
+use mathlib.Core.Path.{_≡_, refl, sym, ap}
 use mathlib.Core.List.{List}
 use lib.ListN.{length, drop, length-append}
 use borrow.Author.Tests.{lt-ltb, le-ltb}
 use Rattle.model.specs.Refusals.{trailing}
-use Rattle.model.specs.Types.{Shape, Scalar, Ty, ty, shapeOf}
-use Rattle.format.specs.Reader.{Read, got, stopped, mapRead}
+use Rattle.model.specs.Types.{Shape, Ty, ty, shapeOf}
+use Rattle.format.specs.Reader.{got, stopped, mapRead}
 use Rattle.format.specs.ReaderLaws.{Bytes}
 use Rattle.format.specs.Records.{writeShape, writeScalar, writeTy, readShape, readType}
 use Rattle.format.specs.Outcome.{Outcome, accepted, refused, mapped, bound, both, lone, scalarRecord}

@@ -10,9 +10,9 @@ use lib.ListN.{length, getD, take, set}
 use lib.Dec.{eqb, leb, ltb}
 use borrow.Author.Tests.{leb-true, leb-false, ltb-true, eq-eqb, ne-eqb}
 use Rattle.model.specs.Limits.{ones, maxSize, maxSizes}
-use Rattle.model.specs.Refusals.{ended, unmarked, outOfRange, oversized}
+use Rattle.model.specs.Refusals.{ended, unmarked}
 use Rattle.model.specs.Types.{Dim, Shape, shape}
-use Rattle.format.specs.Reader.{Read, got, stopped, andThen, need, byte, judged, number}
+use Rattle.format.specs.Reader.{got, stopped, need, byte, judged, number}
 use Rattle.format.specs.ReaderLaws.{split, needed, gave}
 use Rattle.format.specs.Records.{Mark, mark, shapeMark, absent, dimOf, isCount, isOptional, listCount, optional, readMark, readDim, readDims, shapeFrom, readShape}
 use Rattle.record.specs.Answers.{eightBytes}

@@ -10,7 +10,7 @@ use borrow.Author.Tests.{ne-eqb, leb-true}
 use Rattle.model.specs.Limits.{maxSizes}
 use Rattle.model.specs.Refusals.{outOfRange}
 use Rattle.model.specs.Types.{Dim, Shape, shape}
-use Rattle.format.specs.Reader.{Read, got, stopped, Reader, andThen, mapRead, give, need, byte, judged}
+use Rattle.format.specs.Reader.{Read, got, stopped, andThen, mapRead, give, need, byte, judged}
 use Rattle.format.specs.Records.{shapeMark, absent, dimNumber, isCount, isOptional, listCount, optional, readMark, readDim, readDims, shapeFrom, readShape}
 use Rattle.record.specs.Answers.{nothing}
 use Rattle.record.proofs.Known.{stopped-map, got-map}

@@ -1,19 +1,17 @@
 -- Types, scalars, boxes and fields: one law for each way out of a function.
-use Prim.Native.Nat.{ℕ, zero, suc, _+_, _-_, _≤_, _<_}
+use Prim.Native.Nat.{ℕ, zero, suc, _-_, _≤_, _<_}
 use native.Mathlib.Omega.{arith}
 use native.Mathlib.Nat.{sub-zero}
-use mathlib.Core.Bool.{Bool, true, false, cond}
-use mathlib.Core.List.{List, [], _∷_}
+use mathlib.Core.List.{List}
 use mathlib.Core.Option.{Option, none, some}
-use mathlib.Core.Path.{_≡_, refl, sym, _∙_, ap}
-use lib.ListN.{length, getD}
-use lib.Dec.{eqb}
+use mathlib.Core.Path.{_≡_, refl, _∙_, ap}
+use lib.ListN.{length}
 use borrow.Author.Tests.{eq-eqb, ne-eqb}
 use Rattle.model.specs.Limits.{maxName, maxFields}
 use Rattle.model.specs.Refusals.{outOfRange, tooMany}
-use Rattle.model.specs.Types.{Shape, Kind, bool, nat, int, num, complex, ascii, char, stream, any, Scalar, plain, boxAny, boxAll, boxDef, Fields, noFields, field, Ty, ty, boxOf, fieldOf, types, inside, among}
+use Rattle.model.specs.Types.{Shape, Kind, bool, nat, int, num, complex, ascii, char, stream, any, Scalar, plain, boxAny, boxDef, Fields, Ty, ty, boxOf, fieldOf, types, inside, among}
 use Rattle.format.specs.Reader.{Read, got, stopped, Reader, andThen, mapRead, give, stop, byte, judged}
-use Rattle.format.specs.Records.{scalarMark, boxMark, boxCode, kindOf, optional, listCount, isCount, isOptional, form, orStop, readMark, readShape, readName, readFields, defFrom, allFrom, boxFrom, plainFrom, scalarFrom, readTy}
+use Rattle.format.specs.Records.{scalarMark, boxMark, boxCode, kindOf, optional, listCount, isCount, isOptional, form, orStop, readMark, readShape, readName, readFields, defFrom, allFrom, boxFrom, scalarFrom, readTy}
 use Rattle.record.specs.Answers.{nothing}
 use Rattle.record.proofs.Known.{stopped-map, got-map}
 use Rattle.record.proofs.ShapeLaws.{passed-over}

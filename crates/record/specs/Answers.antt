@@ -5,7 +5,7 @@ use mathlib.Core.List.{List, map}
 use mathlib.Core.Option.{Option, none, some}
 use lib.ListN.{take, getD}
 use Rattle.model.specs.Types.{Dim, Shape, shape}
-use Rattle.format.specs.Reader.{Read, got, stopped, mapRead}
+use Rattle.format.specs.Reader.{Read, got, stopped}
 use Rattle.format.specs.Records.{dimOf}
 use Rattle.format.specs.Outcome.{Outcome, accepted, refused}
 use Rattle.record.specs.declared.Answer.{Answer}

@@ -9,7 +9,7 @@ use lib.ListN.{length, length-take, length-reverse}
 use Rattle.model.specs.Types.{Dim, unknown, Shape, shape}
 use Rattle.model.specs.Within.{All, Each, DimWithin, DimsWithin, ShapeWithin}
 use Rattle.rules.specs.Sizes.{rowCompatible}
-use Rattle.rules.specs.Shapes.{rowShape, isScalar, scalarShape, compatibleDims, compatibleShapes, mergeDims, mergeClosing, mergeFrom, joinDims, joinLonger, joinEnds, joinClosing, joinShapes}
+use Rattle.rules.specs.Shapes.{rowShape, compatibleDims, compatibleShapes, mergeDims, mergeClosing, mergeFrom, joinDims, joinLonger, joinEnds, joinClosing, joinShapes}
 use Rattle.rules.specs.SizesLaws.{larger-within, rowCompatible-refl, joinDim-within}
 use Rattle.rules.specs.Lists.{all-take, all-reverse}
 
@@ -21,12 +21,6 @@ rowShape-within (shape (d ∷ o) c) h = ((omega (arith, h .0 .0), h .0 .1 .1), h
 rowShape-within (shape [] (some (d ∷ c))) h = (h .0, (omega (arith, h .1 .0), h .1 .1 .1))
 rowShape-within (shape [] (some [])) h = h
 rowShape-within (shape [] none) h = h
-
-pub isScalar-true : (s : Shape) → isScalar s ≡ true → s ≡ scalarShape
-unfolding isScalar
-isScalar-true (shape [] none) h = refl
-isScalar-true (shape [] (some c)) h = cc
-isScalar-true (shape (d ∷ o) c) h = cc
 
 -- ---- `compatible_with`
 

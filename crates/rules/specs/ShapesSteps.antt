@@ -5,16 +5,15 @@ use native.Mathlib.Omega.{arith}
 use mathlib.Core.Bool.{Bool, true, false, _&&_, cond}
 use mathlib.Core.List.{List, [], _∷_, reverse}
 use mathlib.Core.Option.{Option, none, some}
-use mathlib.Core.Path.{_≡_, refl, sym, _∙_}
+use mathlib.Core.Path.{_≡_, refl, sym}
 use lib.ListN.{length, drop, getD, getElem?, length-reverse, drop-of-length-le, List·getD-eq-default}
 use lib.Dec.{leb}
-use lib.Seq.{drop-nil, drop-cons, getD-take}
+use lib.Seq.{drop-nil, getD-take}
 use borrow.Author.Tests.{leb-true, leb-false, le-leb}
 use Rattle.model.specs.Types.{Dim, unknown}
 use Rattle.rules.specs.Sizes.{larger, rowCompatible, joinDim}
 use Rattle.rules.specs.Shapes.{compatibleDims, mergeDims, joinDims, joinLonger, joinEnds}
 use Rattle.rules.specs.SizesLaws.{joinDim-unknown}
-use Rattle.rules.specs.ShapesLaws.{joinEnds-length}
 use Rattle.rules.specs.Lists.{getD-reverse}
 
 -- ---- `compatible_with`
@@ -49,10 +48,6 @@ merge-step zero (d ∷ o) (e ∷ p) h = refl
 merge-step (suc i) [] (e ∷ p) h = rw (drop-nil {A = Dim} i) at (merge-step i [] p (omega arith))
 merge-step (suc i) (d ∷ o) [] h = rw (drop-nil {A = Dim} i) at (merge-step i o [] (omega arith))
 merge-step (suc i) (d ∷ o) (e ∷ p) h = merge-step i o p (omega arith)
-
-pub merge-end : (i : ℕ) (o p : List Dim) → max (length o) (length p) ≤ i → mergeDims (drop i o) (drop i p) ≡ []
-unfolding mergeDims
-merge-end i o p h = rw (drop-of-length-le o {i = i} (omega arith), drop-of-length-le p {i = i} (omega arith))
 
 merge-nil : (o : List Dim) → mergeDims o [] ≡ o
 unfolding mergeDims
@@ -135,6 +130,3 @@ pub joinEnds-at : (i : ℕ) (c d : List Dim) → i < max (length c) (length d) �
 unfolding joinEnds
 joinEnds-at zero c d h = rw (getD-take (max (length c) (length d)) (unknown ∷ joinLonger (reverse c) (reverse d)) 0 unknown h, fromEnd-zero c, fromEnd-zero d) (sym (joinDim-unknown unknown))
 joinEnds-at (suc i) c d h = rw (getD-take (max (length c) (length d)) (unknown ∷ joinLonger (reverse c) (reverse d)) (suc i) unknown h, joinLonger-at i (reverse c) (reverse d), reversed-at i c, reversed-at i d)
-
-pub joinEnds-step : (i : ℕ) (c d : List Dim) → i < max (length c) (length d) → drop i (joinEnds c d) ≡ joinDim (fromEnd i c) (fromEnd i d) ∷ drop (suc i) (joinEnds c d)
-joinEnds-step i c d h = drop-cons (joinEnds c d) i unknown (omega (arith, joinEnds-length c d)) ∙ rw (joinEnds-at i c d h)

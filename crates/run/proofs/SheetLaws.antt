@@ -2,15 +2,14 @@
 use Prim.Native.Nat.{ℕ, zero, suc, _-_, _≤_, _<_}
 use native.Mathlib.Omega.{arith}
 use mathlib.Core.Bool.{Bool, true, false, cond}
-use mathlib.Core.List.{List, [], _∷_, _++_, reverse}
+use mathlib.Core.List.{List, [], _++_, reverse}
 use mathlib.Core.Path.{_≡_, refl, sym, _∙_, ap}
-use lib.ListN.{length, take, drop, replicate}
-use lib.Seq.{drop-append-seam, drop-at}
+use lib.ListN.{length, drop, replicate}
 use lib.Dec.{leb}
 use borrow.Author.Tests.{lt-ltb, le-ltb}
 use Rattle.model.specs.Refusals.{tooShort, overflow}
 use Rattle.model.specs.Types.{Ty}
-use Rattle.format.specs.Reader.{Read, got, stopped}
+use Rattle.format.specs.Reader.{Read, stopped}
 use Rattle.format.specs.Outcome.{Outcome, accepted, refused, delivery, deliver}
 use Rattle.machine.specs.SheetLimits.{maxSteps, scratchBytes}
 use Rattle.machine.specs.Run.{Stack}
@@ -18,7 +17,7 @@ use Rattle.machine.specs.Sheet.{workFrom, sheetFrom, sheetRun}
 use Rattle.machine.specs.SheetSteps.{sheetFrom-end, sheetFrom-over, sheetFrom-step, sheetFrom-stop}
 use Rattle.machine.specs.Call as sheet
 use Rattle.machine.specs.Call.{called, tally, writeTypes, zeroed, handOver, sheetCall}
-use Rattle.stack.specs.Stack.{Holds, HasTypes}
+use Rattle.stack.specs.Stack.{Holds}
 use Rattle.run.specs.Answers.{Works, calledOf}
 use Rattle.run.specs.declared.Reached.{Reached}
 use Rattle.run.specs.declared.Reached.the-variants.{At, Refused}

@@ -1,19 +1,18 @@
 -- One step, for each way out of it.
 use Prim.Native.Nat.{ℕ, suc, _+_, _-_, _≤_, _<_}
 use native.Mathlib.Omega.{arith}
-use mathlib.Core.Bool.{Bool, true, false, cond}
+use mathlib.Core.Bool.{Bool}
 use mathlib.Core.List.{List, [], _∷_}
 use mathlib.Core.Path.{_≡_, refl, sym, _∙_, ap}
 use lib.ListN.{length, getD, drop}
-use lib.Dec.{ltb, leb}
 use borrow.Author.Tests.{lt-ltb, le-ltb, le-leb, lt-leb}
-use Rattle.model.specs.Limits.{maxBytes, maxDepth, maxTypes}
+use Rattle.model.specs.Limits.{maxBytes}
 use Rattle.model.specs.Refusals.{ended, outOfRange, underflow, overflow}
 use Rattle.model.specs.Types.{Ty, types}
 use Rattle.model.specs.Within.{Within}
-use Rattle.format.specs.Reader.{Read, got, stopped, mapRead, byte, judged}
-use Rattle.format.specs.Records.{writeTy, isCount, readType}
-use Rattle.format.specs.Outcome.{Outcome, accepted, refused, mapped, deliver}
+use Rattle.format.specs.Reader.{got, stopped, byte, judged}
+use Rattle.format.specs.Records.{writeTy, readType}
+use Rattle.format.specs.Outcome.{accepted, mapped, deliver}
 use Rattle.rules.specs.RowsLaws.{intoRow-within}
 use Rattle.rules.specs.Types.{intoRow, joinTypes}
 use Rattle.rules.specs.TypesLaws.{joinTypes-within}
@@ -23,7 +22,7 @@ use Rattle.validation.specs.ValidateLaws.{validate-within}
 use Rattle.lent.specs.Written.{delivered, Puts}
 use Rattle.lent.specs.declared.Written.{Written}
 use Rattle.machine.specs.SheetLimits.{maxStack}
-use Rattle.machine.specs.Steps.{Step, put, row, pervading, join, validating, Opcode, aPut, aRow, aPervading, aJoin, aValidating, takes, leaves, maxFlag, fillsTop, fillsBelow}
+use Rattle.machine.specs.Steps.{put, row, pervading, join, validating, Opcode, aPut, aRow, aPervading, aJoin, aValidating, takes, maxFlag, fillsTop, fillsBelow}
 use Rattle.machine.specs.Run.{Answer, gives, refuses, Stack, aside, onto, pervadeTypes, step}
 use Rattle.machine.specs.Sheet.{placed, opcodeFrom, argumentFrom, workFrom}
 use Rattle.machine.specs.SheetSteps.{work-lacks, work-overfull, work-unread, work-rule}

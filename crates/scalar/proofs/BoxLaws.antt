@@ -1,13 +1,11 @@
 -- Whether boxes are compatible, and their union: one law for each way out of a function.
-use Prim.Native.Nat.{ℕ, _+_, _≤_}
+use Prim.Native.Nat.{ℕ, _+_}
 use native.Mathlib.Omega.{arith}
 use mathlib.Core.Bool.{Bool, true, false, _&&_, cond}
 use mathlib.Core.List.{List}
-use mathlib.Core.Path.{_≡_, refl, sym, _∙_, ap, subst}
-use lib.ListN.{length, getD}
+use mathlib.Core.Path.{_≡_, refl, sym, _∙_, subst}
+use lib.ListN.{getD}
 use Rattle.model.specs.Types.{Shape, any, Scalar, plain, boxAny, boxAll, boxDef, Ty, ty, boxOf, shapeOf, scalarOf}
-use Rattle.format.specs.Records.{writeTy}
-use Rattle.rules.specs.Sizes.{Order, less, same, more, laterBy}
 use Rattle.rules.specs.Order.{codeOf, compare}
 use Rattle.rules.specs.Shapes.{compatibleShapes}
 use Rattle.rules.specs.Scalars.{supersetCodes, compatibleCodes, supersetOf, compatibleScalars, compatibleWithBoxes, wider, laterTy, union}

@@ -1,5 +1,5 @@
 -- Unrefining where a record stands: bytes laid over a part of what stands there, and one law for each way out of a function.
-use Prim.Native.Nat.{ℕ, zero, suc, _+_, _-_, _≤_, _<_}
+use Prim.Native.Nat.{ℕ, suc, _+_, _-_, _≤_, _<_}
 use native.Mathlib.Omega.{arith}
 use native.Mathlib.Nat.{zero-add, add-zero}
 use native.Mathlib.Numerals.{add-one}
@@ -10,11 +10,11 @@ use lib.ListN.{length, getD, set, take, drop, length-append, length-drop, take-a
 use lib.Seq.{take-add, set-split, paste-zero, append-snoc, drop-append-seam}
 use Rattle.model.specs.Limits.{maxDepth}
 use Rattle.model.specs.Refusals.{tooShort}
-use Rattle.model.specs.Types.{Shape, Kind, bool, nat, int, num, complex, ascii, char, stream, any, Scalar, plain, boxAny, boxAll, boxDef, Fields, noFields, field, Ty, ty, shapeOf, scalarOf, fieldCount}
+use Rattle.model.specs.Types.{Kind, bool, nat, int, num, complex, ascii, char, stream, any, Scalar, plain, boxAny, boxAll, boxDef, Fields, noFields, field, Ty, ty, shapeOf, scalarOf, fieldCount}
 use Rattle.format.specs.ReaderLaws.{Bytes}
 use Rattle.format.specs.Records.{scalarMark, markBytes, code, boxCode, boxStart, countOf, listOf, writeShape, writeScalar, writeFields, writeTy}
 use Rattle.format.specs.Outcome.{Outcome, accepted, refused, mapped, lone, scalarRecord, delivery, deliver}
-use Rattle.format.specs.Views.{rest-is, Stands, stands-first, stands-second, stands-part, stands-within}
+use Rattle.format.specs.Views.{rest-is, Stands, stands-first, stands-part, stands-within}
 use Rattle.lent.specs.Over.{over, over-front, drop-over, over-over}
 use Rattle.lent.specs.Delivers.{deliver-short, deliver-wrote}
 use Rattle.record.specs.Answers.{nothing}
@@ -23,7 +23,7 @@ use Rattle.rules.specs.Order.{codeOf}
 use Rattle.rules.specs.Scalars.{unrefineKind, unrefine, unrefineFields}
 use Rattle.rules.specs.ScalarsLaws.{unrefine-fieldCount}
 use Rattle.rules.specs.Views.{is-plain, is-box-any, is-box-all, is-box-def, is-box-def-else, formOf}
-use Rattle.walk.specs.At.{ScalarAt, TypeAt, NameAt, DefAt, CountedAt, FieldsAt, HasScalar, HasType, HasFields}
+use Rattle.walk.specs.At.{ScalarAt, TypeAt, NameAt, CountedAt, FieldsAt, HasScalar, HasType}
 use Rattle.walk.specs.AtLaws.{all-content, def-content, def-name, def-fields, fields-count, fields-there, first-field, rest-fields, type-within, coded, formed}
 use Rattle.walk.specs.Whole.{ofScalar}
 use Rattle.walk.specs.WholeLaws.{record-there, scalar-there}

@@ -17,7 +17,6 @@ use walk::is_all;
 use walk::kind_at;
 ghost use mathlib.Core.Path.{_≡_};
 ghost use mathlib.Core.Bool.{_&&_, cond};
-ghost use Prim.Native.Nat.{ℕ};
 ghost use Rattle.model.specs.Types.{any, Scalar, Ty, plain, boxAny, boxOf, shapeOf, scalarOf};
 ghost use Rattle.format.specs.Records.{writeScalar};
 ghost use Rattle.format.specs.Outcome.{accepted, deliver};

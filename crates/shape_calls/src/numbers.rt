@@ -14,7 +14,7 @@ use shape::join_sizes;
 use shape::larger;
 use shape::row_compatible;
 ghost use mathlib.Core.Path.{_≡_};
-ghost use Rattle.format.specs.Outcome.{accepted, both};
+ghost use Rattle.format.specs.Outcome.{both};
 ghost use Rattle.record.specs.Answers.{nothings};
 ghost use Rattle.lent.specs.Answers.{testedOf, countedDim};
 ghost use Rattle.shape_calls.specs.Answers.{judgedOf, orderedOf};

@@ -7,8 +7,8 @@ use native.Mathlib.Nat.{eq-or-lt-of-le}
 use mathlib.Core.List.{List, [], _∷_, _++_, map, append-assoc}
 use mathlib.Core.Logic.{⊎-elim}
 use mathlib.Core.Path.{_≡_, refl, sym, _∙_, ap}
-use lib.ListN.{length, getD, take, drop, set, length-map, length-append, length-set}
-use lib.Seq.{length-take-le, take-append-le, take-take, take-add, drop-at, take-at, getD-set-same, getD-set-other}
+use lib.ListN.{length, getD, take, drop, set, length-map, length-set}
+use lib.Seq.{length-take-le, take-take, take-add, drop-at, take-at, getD-set-same, getD-set-other}
 use Rattle.model.specs.Limits.{maxBytes}
 use Rattle.model.specs.Types.{Ty}
 use Rattle.model.specs.Within.{All, Within}

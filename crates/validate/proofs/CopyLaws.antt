@@ -1,25 +1,25 @@
 -- Stretches of records laid behind what stood before.
 use Prim.Native.Nat.{ℕ, suc, _+_, _-_, _*_, _≤_, _<_}
 use native.Mathlib.Omega.{arith}
-use native.Mathlib.Numerals.{unary-clauses, add-one}
-use mathlib.Core.Bool.{Bool, true, false, cond}
+use native.Mathlib.Numerals.{unary-clauses}
+use mathlib.Core.Bool.{Bool}
 use mathlib.Core.List.{List, [], _∷_, _++_, append-assoc, append-nil}
-use mathlib.Core.Option.{Option, none, some}
+use mathlib.Core.Option.{Option}
 use mathlib.Core.Path.{_≡_, refl, sym, _∙_, ap}
 use lib.ListN.{length, getD, set, take, drop, length-append, length-drop}
 use lib.Dec.{lit<}
 use lib.Seq.{sets, sets-eq, length-take-le}
-use Rattle.model.specs.Limits.{maxName, maxTypes}
-use Rattle.model.specs.Types.{Shape, Scalar, Fields, noFields, field, fieldCount, Ty, ty, inside, among}
-use Rattle.format.specs.Records.{absent, boxStart, countOf, listOf, listCount, writeShape, writeScalar, writeFields}
+use Rattle.model.specs.Limits.{maxName}
+use Rattle.model.specs.Types.{Shape, Scalar, Fields, noFields, field, fieldCount, ty, inside, among}
+use Rattle.format.specs.Records.{boxStart, countOf, listOf, listCount, writeShape, writeScalar, writeFields}
 use Rattle.format.specs.WriteRead.{listCount-ok}
 use Rattle.format.specs.Suffices.{shapeBytes, boxBytes, shape-suffices, scalar-suffices}
 use Rattle.format.specs.Views.{Stands, stands-byte, stands-within, stands-part}
-use Rattle.format.specs.Outcome.{Outcome, accepted, refused}
+use Rattle.format.specs.Outcome.{accepted, refused}
 use Rattle.lent.specs.Over.{over, over-over, take-over, length-over}
 use Rattle.rules.specs.Views.{scalar-least}
 use Rattle.validate.specs.Places.{Placed, onward, Listed}
-use Rattle.validate.specs.Walk.{Piece, piece, wroteOf, scalarPiece, typePiece, fieldsPiece, Roomy, Copyable, Placeable, Nameable, Listable, Going, defHead}
+use Rattle.validate.specs.Walk.{Piece, piece, wroteOf, scalarPiece, typePiece, fieldsPiece, Roomy, Placeable, Going, defHead}
 use Rattle.validate.specs.declared.Wrote.{Wrote}
 use Rattle.validate.specs.declared.Wrote.the-variants.{Done, Refused}
 use Rattle.validate.proofs.PlacesLaws.{scalar-stands}

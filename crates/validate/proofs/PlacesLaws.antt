@@ -1,17 +1,17 @@
 -- Types that stand at a place: what reading them again gives, and what stands within them.
-use Prim.Native.Nat.{ℕ, zero, suc, _+_, _-_, _≤_, _<_, max}
+use Prim.Native.Nat.{ℕ, zero, suc, _+_, _-_, _≤_, _<_}
 use native.Mathlib.Omega.{arith}
-use mathlib.Core.Bool.{Bool, true, false, cond, not}
+use mathlib.Core.Bool.{Bool, true, false, cond}
 use mathlib.Core.List.{List, [], _∷_, _++_}
 use mathlib.Core.Option.{Option, none, some}
 use mathlib.Core.Path.{_≡_, refl, sym, _∙_, ap}
-use lib.ListN.{length, getD, drop, length-append}
+use lib.ListN.{length, getD, drop}
 use lib.Dec.{eqb, lit<}
 use borrow.Author.Tests.{ne-eqb}
 use Rattle.model.specs.Limits.{maxName, maxTypes, maxDepth}
-use Rattle.model.specs.Types.{Dim, Shape, shape, Scalar, boxAny, boxAll, boxDef, Fields, noFields, field, fieldCount, Ty, ty, types, depth, inside, among, below, deepest}
-use Rattle.model.specs.Within.{Each, NameWithin, ScalarWithin, FieldsWithin, Within}
-use Rattle.format.specs.Reader.{Read, got, stopped, mapRead}
+use Rattle.model.specs.Types.{Dim, Shape, shape, Scalar, boxAny, boxAll, boxDef, Fields, noFields, field, fieldCount, Ty, ty, types, inside, among, below, deepest}
+use Rattle.model.specs.Within.{ScalarWithin, FieldsWithin, Within}
+use Rattle.format.specs.Reader.{got, stopped, mapRead}
 use Rattle.format.specs.ReaderLaws.{Bytes, reads-here}
 use Rattle.format.specs.Records.{boxCode, absent, countOf, listOf, listCount, shapeFrom, readShape, readTy, readType, writeShape, writeScalar, writeFields, writeTy}
 use Rattle.format.specs.WriteRead.{listCount-ok, reads-shape, reads-ty, reads-scalar, write-read}

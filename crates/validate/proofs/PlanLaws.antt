@@ -1,5 +1,5 @@
 -- What a spec's scalar asks of a type's: one law for each way out of a function that plans it.
-use Prim.Native.Nat.{ℕ, zero, suc, _+_, _*_, _≤_, _<_, max}
+use Prim.Native.Nat.{ℕ, zero, suc, _+_, _*_, _≤_, _<_}
 use native.Mathlib.Nat.{mul-le-mul}
 use native.Mathlib.Numerals.{add-one}
 use native.Mathlib.Omega.{arith}
@@ -12,7 +12,7 @@ use lib.Dec.{eqb, leb, ltb}
 use borrow.Author.Tests.{eq-eqb, ne-eqb, le-leb, lt-leb, ltb-true, ltb-false, not-true, not-false}
 use Rattle.model.specs.Limits.{ones, maxName, maxFields, maxTypes, maxDepth}
 use Rattle.model.specs.Refusals.{wrongScalar, tooMany}
-use Rattle.model.specs.Types.{Dim, static, unknown, Shape, shape, Kind, any, Scalar, plain, boxAny, boxAll, boxDef, Fields, noFields, field, Ty, ty, boxOf, fieldOf, fieldCount, inside, among, below, deepest, types, depth}
+use Rattle.model.specs.Types.{Dim, static, unknown, Shape, shape, any, Scalar, plain, boxAny, boxDef, Fields, noFields, field, Ty, ty, fieldOf, fieldCount, inside, among, below, deepest}
 use Rattle.format.specs.Records.{code, boxCode, absent, dimOf, countOf, listOf, writeShape, writeScalar, writeTy}
 use Rattle.format.specs.Outcome.{Outcome, accepted, refused, mapped}
 use Rattle.walk.specs.At.{TypeAt, HasType}
@@ -21,17 +21,17 @@ use Rattle.rules.specs.Scalars.{supersetCodes, supersetOf}
 use Rattle.rules.specs.Shapes.{anyShape, isAny}
 use Rattle.rules.specs.Types.{anyTy, whollyAny, copies}
 use Rattle.validation.specs.CheckShape.{unsided, checkShape}
-use Rattle.validation.specs.AsFields.{measured, fieldsFor, asBox, named, orName, asFields, copied}
-use Rattle.validation.specs.CheckScalar.{_>>=_, inTurn, superset, eachField, onAll, onDef, checkScalar, checkFields}
+use Rattle.validation.specs.AsFields.{measured, fieldsFor, asBox, named, asFields, copied}
+use Rattle.validation.specs.CheckScalar.{_>>=_, inTurn, eachField, onAll, onDef, checkScalar, checkFields}
 use Rattle.validation.specs.FitsLaws.{fits, fieldsFit, fits-true}
 use Rattle.validation.specs.CheckScalarSteps.{check-any, check-plain, check-boxAny, check-all, check-def, on-all-all, on-all-def, on-def-def, all-begun, def-begun, copies-among, copies-deepest, copied-fits}
-use Rattle.validate.specs.Places.{Placed, Listed, Seen, SeenPlain, SeenAll, SeenDef}
-use Rattle.validate.specs.Plans.{Pair, scalarOf, Lists, fieldsOf, anyBytes, InsideIs, PairsAre, Plans, Planned}
+use Rattle.validate.specs.Places.{Placed, Seen, SeenPlain, SeenAll, SeenDef}
+use Rattle.validate.specs.Plans.{Pair, scalarOf, anyBytes, InsideIs, PairsAre}
 use Rattle.validate.specs.declared.View.{View}
 use Rattle.validate.specs.declared.View.the-variants.{Plain, BoxAny, BoxAll, BoxDef}
 use Rattle.record.specs.Answers.{dimsOf, closingFor, shapeFor}
 use Rattle.record.specs.declared.DynShape.{DynShape}
-use Rattle.format.specs.Views.{Stands, stands-all, stands-byte}
+use Rattle.format.specs.Views.{Stands, stands-all}
 use Rattle.record.proofs.ByValue.{size-at}
 use Rattle.rules.specs.FieldsLaws.{copies-count}
 use Rattle.validate.proofs.PlacesLaws.{listed-copies}

@@ -1,15 +1,15 @@
 -- The walk over a spec and a type: what its answer says for each way out of a function.
-use Prim.Native.Nat.{ℕ, zero, suc, _+_, _-_, _*_, _≤_, _<_}
+use Prim.Native.Nat.{ℕ, suc, _+_, _-_, _*_, _≤_, _<_}
 use native.Mathlib.Omega.{arith}
 use native.Mathlib.Numerals.{add-one}
 use mathlib.Core.Bool.{Bool, true, false, cond}
 use mathlib.Core.List.{List, [], _∷_, _++_, append-assoc, append-nil}
 use mathlib.Core.Option.{Option}
 use mathlib.Core.Path.{_≡_, refl, sym, _∙_, ap}
-use lib.ListN.{length, take, length-append}
-use Rattle.model.specs.Limits.{maxTypes, maxDepth}
+use lib.ListN.{length, take}
+use Rattle.model.specs.Limits.{maxTypes}
 use Rattle.model.specs.Refusals.{wrongShape}
-use Rattle.model.specs.Types.{Shape, Scalar, boxAll, boxDef, Fields, noFields, field, Ty, ty, boxOf, fieldOf, fieldCount, inside, among, below, deepest, types}
+use Rattle.model.specs.Types.{Shape, Scalar, boxDef, Fields, noFields, field, Ty, ty, boxOf, fieldOf, fieldCount, inside, among, types}
 use Rattle.format.specs.Records.{boxStart, countOf, listOf, writeShape, writeScalar, writeFields}
 use Rattle.format.specs.Suffices.{shapeBytes, boxBytes}
 use Rattle.format.specs.Outcome.{Outcome, accepted, refused, mapped}

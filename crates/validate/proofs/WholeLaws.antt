@@ -1,9 +1,9 @@
 -- The public calls that validate: two lone types as a pair at place 0, and what was written as the record of a type.
-use Prim.Native.Nat.{ℕ, suc, _+_, _*_, _≤_, _<_}
+use Prim.Native.Nat.{ℕ, suc, _+_, _≤_}
 use native.Mathlib.Omega.{arith}
-use mathlib.Core.List.{List, [], _∷_, _++_}
+use mathlib.Core.List.{List, [], _++_}
 use mathlib.Core.Path.{_≡_, refl, sym, _∙_, ap}
-use lib.ListN.{length, take}
+use lib.ListN.{take}
 use Rattle.model.specs.Limits.{maxTypes}
 use Rattle.model.specs.Types.{Shape, Scalar, Ty, ty, inside}
 use Rattle.format.specs.ReaderLaws.{Bytes}
@@ -12,15 +12,15 @@ use Rattle.format.specs.Outcome.{Outcome, accepted, refused, mapped, both, lone
 use Rattle.format.specs.ReadWrite.{lone-write}
 use Rattle.format.specs.Views.{stands-all}
 use Rattle.record.specs.Answers.{nothings}
-use Rattle.validation.specs.CheckShape.{Side, checkShape}
-use Rattle.validation.specs.CheckScalar.{inTurn, checkScalar}
+use Rattle.validation.specs.CheckShape.{Side}
+use Rattle.validation.specs.CheckScalar.{inTurn}
 use Rattle.validation.specs.Validate.{validate, checkScalarOnly}
 use Rattle.validation.specs.KeepsLaws.{checkScalar-keeps}
 use Rattle.validation.specs.FitsLaws.{fits, fits-of, fits-counts, fits-true}
 use Rattle.validation.specs.CheckScalarSteps.{validate-fits, checkScalarOnly-fits}
 use Rattle.validate.specs.Places.{Placed}
 use Rattle.validate.specs.Plans.{Pair, scalarOf, sidedOf}
-use Rattle.validate.specs.Walk.{Piece, piece, wroteOf, scalarPiece, typePiece, Roomy}
+use Rattle.validate.specs.Walk.{piece, wroteOf, scalarPiece, typePiece}
 use Rattle.validate.specs.declared.Wrote.{Wrote}
 use Rattle.validate.specs.declared.Wrote.the-variants.{Done, Refused}
 use Rattle.record.proofs.LoneLaws.{both-accepted}

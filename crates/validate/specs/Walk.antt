@@ -5,7 +5,7 @@ use mathlib.Core.Option.{Option}
 use mathlib.Core.Path.{_≡_}
 use mathlib.Core.Bool.{Bool}
 use lib.ListN.{length, take}
-use Rattle.model.specs.Limits.{maxName, maxFields, maxTypes}
+use Rattle.model.specs.Limits.{maxName, maxTypes}
 use Rattle.model.specs.Types.{Shape, Scalar, Fields, Ty, ty, fieldCount, inside, among}
 use Rattle.format.specs.Records.{boxStart, countOf, listOf, writeShape, writeScalar, writeFields}
 use Rattle.format.specs.Suffices.{shapeBytes, boxBytes}

@@ -21,12 +21,10 @@ use writer::size_count;
 ghost use mathlib.Core.Path.{_≡_};
 ghost use mathlib.Core.Bool.{true, false, cond};
 ghost use mathlib.Core.List.{List};
-ghost use Prim.Native.Nat.{ℕ, suc, _+_, _≤_, _<_};
-ghost use lib.ListN.{length};
+ghost use Prim.Native.Nat.{ℕ, _+_, _≤_, _<_};
 ghost use Rattle.model.specs.Limits.{maxTypes, maxDepth};
 ghost use Rattle.model.specs.Refusals.{wrongScalar};
-ghost use Rattle.model.specs.Types.{Shape, Scalar, Ty, ty, boxDef};
-ghost use mathlib.Core.Option.{none, some};
+ghost use Rattle.model.specs.Types.{Shape, Scalar, ty};
 ghost use Rattle.model.specs.Types as types;
 ghost use Rattle.format.specs.Outcome.{Outcome, accepted, refused};
 ghost use Rattle.record.specs.Answers.{shapeFor};
@@ -36,7 +34,7 @@ ghost use Rattle.rules.specs.Types.{whollyAny};
 ghost use Rattle.validation.specs.AsFields.{measured, fieldsFor};
 ghost use Rattle.validation.specs.FitsLaws.{fits};
 ghost use Rattle.validate.specs.Places.{Placed, Seen, SeenAll, SeenDef};
-ghost use Rattle.validate.specs.Plans.{Pair, scalarOf, Plans, Planned, Copies};
+ghost use Rattle.validate.specs.Plans.{Pair, Plans, Planned, Copies};
 
 // The code of a scalar.
 fn code_of(v: View) -> u64

@@ -125,10 +125,6 @@ module _ (content : Content) (keeping : Keeping content) (q : Outcome Shape) (re
           onward-counted o a v x (fits-true (o + among g) a x (rw i at (keeping (fits (o + among g) a) (fits-counts (o + among g) a) t l y (field-begun o a t l g h) e₁)) .1)
       go (refused n p) e = refl
 
-pub each-step : (o a : ℕ) (s : Shape) (k : Scalar) (t : Shape) (l : Scalar) (g : Fields) → fieldsFit o a (field t l g) ≡ true → eachField (checkScalar k) s (fieldsFit o a) (field t l g) ≡ (inTurn (checkScalar k (fits (o + among g) a) t l) (checkShape unsided s t) >>= λ r. eachField (checkScalar k) s (fieldsFit (o + types r) a) g >>= λ h. accepted (fieldOf r h))
-unfolding eachField
-each-step o a s k t l g h = field-step (checkScalar k) (checkScalar-keeps k) (checkShape unsided s t) (λ c. eachField (checkScalar k) s c g) o a t l g h
-
 pub fields-step : (o a : ℕ) (s : Shape) (k : Scalar) (f : Fields) (t : Shape) (l : Scalar) (g : Fields) → fieldsFit o a (field t l g) ≡ true → checkFields (field s k f) (fieldsFit o a) (field t l g) ≡ (inTurn (checkScalar k (fits (o + among g) a) t l) (checkShape unsided s t) >>= λ r. checkFields f (fieldsFit (o + types r) a) g >>= λ h. accepted (fieldOf r h))
 unfolding checkFields
 fields-step o a s k f t l g h = field-step (checkScalar k) (checkScalar-keeps k) (checkShape unsided s t) (λ c. checkFields f c g) o a t l g h

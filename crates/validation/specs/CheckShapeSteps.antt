@@ -11,7 +11,6 @@ use lib.Dec.{ltb}
 use borrow.Author.Tests.{ltb-true}
 use Rattle.model.specs.Types.{Dim, shape}
 use Rattle.rules.specs.Sizes.{compatible}
-use Rattle.rules.specs.Lists.{getD-reverse}
 use Rattle.validation.specs.CheckShape.{unsided, agree, equalDim, equalDims, mismatch}
 use Rattle.validation.specs.CheckShapeLaws.{equalDims-true}
 
@@ -38,11 +37,6 @@ pub agree-end′ : (i : ℕ) (o p : List Dim) → length p ≤ i → agree (drop
 agree-end′ i o p h = rw (drop-of-length-le p {i = i} h) (agree-nil (drop i o))
 
 -- ---- from the end
-
-pub agreeEnds-step : (i : ℕ) (o p : List Dim) (z : Dim) → i < length o → i < length p → agree (drop i (reverse o)) (drop i (reverse p)) ≡ (compatible (getD o (length o - suc i) z) (getD p (length p - suc i) z) && agree (drop (suc i) (reverse o)) (drop (suc i) (reverse p)))
-agreeEnds-step i o p z h k =
-    let s = agree-step i (reverse o) (reverse p) z (omega (arith, length-reverse o)) (omega (arith, length-reverse p)) in
-    rw (getD-reverse o i (length o - suc i) z (omega arith), getD-reverse p i (length p - suc i) z (omega arith)) at s
 
 pub agreeEnds-end : (i : ℕ) (o p : List Dim) → length o ≤ i → agree (drop i (reverse o)) (drop i (reverse p)) ≡ true
 agreeEnds-end i o p h = agree-end i (reverse o) (reverse p) (omega (arith, length-reverse o))

@@ -1,6 +1,5 @@
 -- Numbers by which a host says what it means: a law for each way out of a call that asks for one.
 use Prim.Native.Nat.{ℕ, zero, suc, _<_}
-use native.Mathlib.Omega.{arith}
 use mathlib.Core.List.{List, [], _∷_}
 use mathlib.Core.Option.{Option}
 use mathlib.Core.Path.{_≡_, refl, sym, _∙_, ap}
@@ -9,7 +8,7 @@ use lib.ListN.{getD}
 use borrow.Author.Tests.{lt-leb}
 use Rattle.model.specs.Refusals.{outOfRange}
 use Rattle.model.specs.Types.{Dim}
-use Rattle.format.specs.Outcome.{Outcome, accepted, refused, deliver}
+use Rattle.format.specs.Outcome.{Outcome, accepted, deliver}
 use Rattle.lent.specs.Delivers.{deliver-refused}
 use Rattle.machine.specs.Steps.{maxFlag}
 use Rattle.validation.specs.CheckShape as rules

@@ -1,17 +1,16 @@
 -- Sizes laid to the front of numbers that are lent: a law for each way out.
 use Prim.Native.Nat.{ℕ, zero, suc, _+_, _≤_, _<_}
-use native.Mathlib.Omega.{arith}
 use native.Mathlib.Nat.{zero-add}
 use native.Mathlib.Numerals.{add-one}
 use mathlib.Core.List.{List, [], _∷_, _++_, map}
-use mathlib.Core.Option.{Option, none, some}
+use mathlib.Core.Option.{none}
 use mathlib.Core.Path.{_≡_, refl, sym, _∙_, ap}
 use lib.ListN.{length, take, drop, getD, set}
 use lib.Seq.{paste, paste-suc}
 use Rattle.model.specs.Refusals.{tooShort}
 use Rattle.model.specs.Types.{Dim}
 use Rattle.format.specs.Records.{dimNumber, dimOf}
-use Rattle.format.specs.Outcome.{Outcome, accepted, refused, Delivery, delivery, deliver}
+use Rattle.format.specs.Outcome.{accepted, refused, Delivery, delivery, deliver}
 use Rattle.lent.specs.Over.{over}
 use Rattle.lent.specs.Delivers.{deliver-short, deliver-wrote}
 use Rattle.record.specs.Answers.{dimsOf}

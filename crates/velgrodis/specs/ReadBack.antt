@@ -4,7 +4,6 @@ use mathlib.Core.Bool.{Bool, true, false, cond}
 use mathlib.Core.Option.{Option, none, some}
 use mathlib.Core.Path.{_≡_, refl}
 use lib.Dec.{eqb}
-use Rattle.model.specs.Types.{Dim}
 use Rattle.format.specs.Records.{dimOf}
 use Rattle.format.specs.Outcome.{Outcome, accepted, refused, mapped}
 use Rattle.rules.specs.Sizes.{Order, less, same, more}

@@ -1,14 +1,10 @@
-use mathlib.Core.Path.{_≡_, refl, sym, _∙_, ap}
+use mathlib.Core.Path.{sym, _∙_, ap}
 use Rattle.format.specs.Records.{writeTy}
-use Rattle.format.specs.Outcome.{accepted, lone, deliver}
-use Rattle.model.specs.Types.{ty}
+use Rattle.format.specs.Outcome.{accepted, lone}
 use Rattle.lent.specs.Delivers.{deliver-refused}
-use Rattle.record.specs.Answers.{loneOf, shapeFor}
-use Rattle.rules.specs.Scalars.{union}
+use Rattle.record.specs.Answers.{loneOf}
 use Rattle.rules.specs.Types.{joinTypes}
 use Rattle.record.proofs.LoneLaws.{both-refused}
-use Rattle.walk.specs.WholeLaws.{first-good, second-good}
-use Rattle.join.specs.ShapesLaws.{by-scalars}
 use borrow.Author.Needs.{needs}
 use Rattle.join.proofs.join.Statement.{statement}
 use Rattle.join.proofs.join.Tie as tie

@@ -1,9 +1,8 @@
-use mathlib.Core.Path.{_≡_, refl, sym, _∙_, ap}
+use mathlib.Core.Path.{sym, _∙_, ap}
 use Rattle.format.specs.Records.{writeTy}
 use Rattle.format.specs.Outcome.{accepted, lone, deliver}
 use Rattle.model.specs.Types.{ty}
-use Rattle.lent.specs.Delivers.{deliver-refused}
-use Rattle.record.specs.Answers.{loneOf, shapeFor}
+use Rattle.record.specs.Answers.{shapeFor}
 use Rattle.rules.specs.Scalars.{union}
 use Rattle.rules.specs.Types.{joinTypes}
 use Rattle.walk.specs.WholeLaws.{first-good, second-good}

@@ -1,5 +1,5 @@
 use native.Mathlib.Omega.{arith}
-use mathlib.Core.Path.{_≡_, refl, sym, _∙_, ap}
+use mathlib.Core.Path.{_∙_, ap}
 use mathlib.Core.List.{[], _++_}
 use Rattle.format.specs.Records.{writeShape, writeScalar}
 use Rattle.format.specs.Outcome.{accepted, deliver}

@@ -1,7 +1,5 @@
-use mathlib.Core.Path.{_≡_, refl, sym, ap, _∙_}
 use native.Mathlib.Omega.{arith}
 use Rattle.walk.specs.AtLaws.{end-unnamed, end-named, name-within}
-use Prim.Native.Nat.{_+_}
 use Rattle.walk.proofs.name_end.Statement.{statement}
 use Rattle.walk.proofs.name_end.Tie as tie
 use Rattle.walk.proofs.name_end.Reads as reads

@@ -1,4 +1,4 @@
-use mathlib.Core.Path.{_≡_, refl, sym, ap, _∙_}
+use mathlib.Core.Path.{sym, ap, _∙_}
 use Rattle.format.specs.Records.{countOf}
 use Rattle.record.proofs.ByValue.{open-is}
 use borrow.Author.Needs.{needs}

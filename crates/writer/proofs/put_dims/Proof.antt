@@ -1,10 +1,8 @@
-use mathlib.Core.Path.{_≡_, refl, sym, _∙_}
+use mathlib.Core.Path.{_≡_, _∙_}
 use Prim.Native.Nat.{_+_, _*_, _-_, _≤_, _<_}
 use native.Mathlib.Omega.{arith}
 use borrow.Author.Needs.{needs}
 use lib.ListN.{length}
-use Rattle.format.specs.Suffices.{length-bytesOf}
-use Rattle.lent.specs.Over.{length-over}
 use Rattle.record.specs.Answers.{dimsOf}
 use Rattle.writer.proofs.Laws.{Laid, lay-none, lay-more, lay-all}
 use Rattle.writer.proofs.put_dims.Statement.{statement}

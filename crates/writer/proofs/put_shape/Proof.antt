@@ -1,9 +1,8 @@
-use mathlib.Core.Path.{_≡_, refl, sym, ap, _∙_}
+use mathlib.Core.Path.{ap}
 use native.Mathlib.Omega.{arith}
 use lib.ListN.{length}
-use Rattle.format.specs.Records.{listOf, writeShape}
-use Rattle.format.specs.Suffices.{length-writeDims}
-use Rattle.record.specs.Answers.{dimsOf, closingFor, shapeFor}
+use Rattle.format.specs.Records.{listOf}
+use Rattle.record.specs.Answers.{dimsOf, closingFor}
 use Rattle.record.proofs.ByValue.{closed-is, open-is}
 use Rattle.writer.proofs.Records.{length-record, lay-closed, lay-open}
 use borrow.Author.Needs.{needs}

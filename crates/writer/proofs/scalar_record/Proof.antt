@@ -1,5 +1,4 @@
-use mathlib.Core.Path.{_≡_, refl, sym, ap, _∙_}
-use native.Mathlib.Omega.{arith}
+use mathlib.Core.Path.{sym, ap, _∙_}
 use Rattle.format.specs.Outcome.{accepted, lone, deliver, scalarRecord}
 use Rattle.lent.specs.Delivers.{deliver-refused}
 use Rattle.record.specs.Answers.{loneOf}

@@ -1,6 +1,5 @@
-use mathlib.Core.Path.{_≡_, refl, sym, ap, _∙_}
+use mathlib.Core.Path.{_≡_, ap}
 use native.Mathlib.Omega.{arith}
-use Prim.Native.Nat.{_+_, _*_}
 use lib.ListN.{length}
 use Rattle.format.specs.Records.{listOf}
 use Rattle.record.specs.Answers.{dimsOf, closingFor}

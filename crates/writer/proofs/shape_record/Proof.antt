@@ -1,4 +1,4 @@
-use mathlib.Core.Path.{_≡_, refl, sym, ap, _∙_}
+use mathlib.Core.Path.{sym, ap, _∙_}
 use Rattle.format.specs.Outcome.{lone, deliver, shapeRecord}
 use Rattle.lent.specs.Delivers.{deliver-refused}
 use Rattle.record.specs.Answers.{loneOf}

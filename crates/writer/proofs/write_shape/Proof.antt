@@ -1,7 +1,5 @@
-use mathlib.Core.Path.{_≡_, refl, sym, ap, _∙_}
+use mathlib.Core.Path.{refl, sym}
 use native.Mathlib.Omega.{arith}
-use lib.ListN.{length}
-use Rattle.format.specs.Outcome.{accepted, delivery}
 use Rattle.lent.specs.Delivers.{deliver-short, deliver-wrote}
 use borrow.Author.Needs.{needs}
 use Rattle.writer.proofs.write_shape.Statement.{statement}

@@ -1,8 +1,8 @@
-use mathlib.Core.Path.{_≡_, refl, sym, ap, _∙_}
+use mathlib.Core.Path.{refl, sym}
 use borrow.Author.Needs.{needs}
 use native.Mathlib.Omega.{arith}
-use Prim.Native.Nat.{_+_, _-_, _≤_}
-use lib.ListN.{length, take, drop}
+use Prim.Native.Nat.{_-_, _≤_}
+use lib.ListN.{take, drop}
 use Rattle.rules.specs.Sizes.{cmpNumber}
 use Rattle.order.proofs.ListLaws.{Walked, bytes-less, bytes-more, bytes-end, byte-less, byte-more, byte-same}
 use Rattle.order.proofs.names.cmp_bytes.Statement.{statement}

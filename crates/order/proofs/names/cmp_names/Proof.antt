@@ -1,6 +1,5 @@
-use mathlib.Core.Path.{_≡_, refl, sym, ap, _∙_}
+use mathlib.Core.Path.{sym, _∙_}
 use native.Mathlib.Omega.{arith}
-use Prim.Native.Nat.{_+_, _≤_}
 use Rattle.order.proofs.ListLaws.{names-none, names-less, names-more, names-both}
 use Rattle.walk.specs.AtLaws.{end-named, name-within}
 use Rattle.order.proofs.names.cmp_names.Statement.{statement}

@@ -1,4 +1,4 @@
-use mathlib.Core.Path.{_≡_, refl, sym, ap, _∙_}
+use mathlib.Core.Path.{sym, _∙_}
 use Rattle.order.proofs.ListLaws.{closing-none, closing-less, closing-more, closing-both}
 use borrow.Author.Needs.{needs}
 use Rattle.order.proofs.shapes.cmp_closing.Statement.{statement}

@@ -1,9 +1,7 @@
-use mathlib.Core.Path.{_≡_, refl, sym, ap, _∙_}
+use mathlib.Core.Path.{refl, sym, ap}
 use borrow.Author.Needs.{needs}
 use native.Mathlib.Omega.{arith}
-use Prim.Native.Nat.{_+_, _-_, _≤_}
-use lib.ListN.{length}
-use Rattle.record.specs.Answers.{dimsOf}
+use Prim.Native.Nat.{_-_, _≤_}
 use Rattle.shape.specs.Answers.{orderOf}
 use Rattle.order.proofs.ListLaws.{Sized, sizes-less, sizes-more, sizes-end, size-less, size-more, size-same}
 use Rattle.order.proofs.shapes.cmp_dims.Statement.{statement}

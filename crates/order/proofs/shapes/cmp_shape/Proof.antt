@@ -1,4 +1,4 @@
-use mathlib.Core.Path.{_≡_, refl, sym, ap, _∙_}
+use mathlib.Core.Path.{sym, ap, _∙_}
 use Rattle.shape.specs.Answers.{orderOf}
 use Rattle.order.proofs.ListLaws.{shape-less, shape-same, shape-more}
 use borrow.Author.Needs.{needs}

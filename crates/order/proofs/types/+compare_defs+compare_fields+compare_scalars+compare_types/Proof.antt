@@ -1,8 +1,8 @@
-use mathlib.Core.Path.{_≡_, refl, sym, ap, _∙_}
+use mathlib.Core.Path.{sym, ap}
 use native.Mathlib.Omega.{arith}
 use borrow.Author.Needs.{needs}
 use lib.ListN.{length}
-use Rattle.model.specs.Types.{Fields, shapeOf, scalarOf}
+use Rattle.model.specs.Types.{Fields, scalarOf}
 use Rattle.format.specs.Records.{writeFields}
 use Rattle.shape.specs.Answers.{orderOf}
 use Rattle.rules.specs.Order.{cmpFields}

@@ -1,5 +1,4 @@
 use borrow.Author.Tests.{eq-eqb, ne-eqb}
-use Rattle.format.specs.Records.{listCount}
 use Rattle.record.proofs.bytes.list_count.Statement.{statement}
 use Rattle.record.proofs.bytes.list_count.Tie as tie
 use Rattle.record.proofs.bytes.list_count.Reads as reads

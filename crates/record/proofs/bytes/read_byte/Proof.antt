@@ -1,6 +1,5 @@
-use mathlib.Core.Path.{_∙_, sym, ap}
+use mathlib.Core.Path.{sym}
 use native.Mathlib.Numerals.{add-one}
-use Rattle.format.specs.Reader.{got}
 use Rattle.format.specs.ReaderLaws.{byte-there, byte-ended}
 use borrow.Author.Needs.{needs}
 use Rattle.record.proofs.bytes.read_byte.Statement.{statement}

@@ -1,4 +1,4 @@
-use mathlib.Core.Path.{_∙_, sym, ap}
+use mathlib.Core.Path.{_∙_, sym}
 use Rattle.record.proofs.Known.{known, told}
 use Rattle.record.proofs.ByteLaws.{mark-first, mark-second, mark-is, mark-not-first, mark-not-second}
 use borrow.Author.Needs.{needs}

@@ -1,4 +1,4 @@
-use mathlib.Core.Path.{_∙_, sym, ap}
+use mathlib.Core.Path.{_∙_, sym}
 use borrow.Author.Tests.{le-leb, lt-leb, eq-eqb, ne-eqb}
 use Rattle.record.proofs.Known.{known, told}
 use Rattle.record.proofs.ByteLaws.{judged-stops, judged-fits, judged-not}

@@ -1,5 +1,5 @@
-use mathlib.Core.Path.{_∙_, sym, ap}
-use borrow.Author.Tests.{le-leb, lt-leb, eq-eqb, ne-eqb}
+use mathlib.Core.Path.{_∙_, sym}
+use borrow.Author.Tests.{le-leb, lt-leb}
 use Rattle.record.proofs.Known.{known, told}
 use Rattle.record.proofs.ByteLaws.{judged-stops, judged-fits, judged-not}
 use borrow.Author.Needs.{needs}

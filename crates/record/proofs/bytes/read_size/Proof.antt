@@ -1,4 +1,4 @@
-use mathlib.Core.Path.{_∙_, sym, ap}
+use mathlib.Core.Path.{sym}
 use native.Mathlib.Omega.{arith}
 use Rattle.record.proofs.ByteLaws.{size-ended, size-static, size-unknown, size-over}
 use borrow.Author.Needs.{needs}

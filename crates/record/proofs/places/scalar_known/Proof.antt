@@ -1,6 +1,5 @@
 use native.Mathlib.Omega.{arith}
 use Prim.Native.Nat.{_+_}
-use mathlib.Core.Path.{sym, _∙_}
 use Rattle.record.proofs.PlaceLaws.{shape-is}
 use borrow.Author.Needs.{needs}
 use Rattle.record.proofs.places.scalar_known.Statement.{statement}

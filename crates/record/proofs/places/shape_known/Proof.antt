@@ -1,6 +1,6 @@
 use native.Mathlib.Omega.{arith}
 use Prim.Native.Nat.{_+_}
-use mathlib.Core.Path.{sym, _∙_}
+use mathlib.Core.Path.{sym}
 use Rattle.record.proofs.PlaceLaws.{shape-is, is-closed, is-open, few-closing, open-end}
 use borrow.Author.Needs.{needs}
 use Rattle.record.proofs.places.shape_known.Statement.{statement}

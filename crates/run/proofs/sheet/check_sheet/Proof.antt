@@ -1,6 +1,6 @@
-use mathlib.Core.Path.{_≡_, refl, sym, _∙_, ap}
+use mathlib.Core.Path.{sym, _∙_}
 use native.Mathlib.Omega.{arith}
-use lib.ListN.{length, take, drop}
+use lib.ListN.{drop}
 use lib.Seq.{length-take-le, drop-at}
 use Rattle.run.proofs.SheetLaws.{call-short, call-runs, zeroed-same}
 use borrow.Author.Needs.{needs}

@@ -1,10 +1,7 @@
-use mathlib.Core.Path.{_≡_, refl, sym, _∙_, ap}
-use native.Mathlib.Omega.{arith}
+use mathlib.Core.Path.{_≡_, sym, _∙_, ap}
 use mathlib.Core.List.{[], reverse}
 use lib.ListN.{length, length-reverse}
-use Rattle.format.specs.Outcome.{accepted}
 use Rattle.lent.specs.Written.{delivered}
-use Rattle.machine.specs.Call.{called, tally}
 use Rattle.stack.specs.StackLaws.{holds-count}
 use Rattle.run.proofs.SheetLaws.{handed-over, not-handed}
 use borrow.Author.Needs.{needs}

@@ -1,7 +1,3 @@
-use mathlib.Core.Path.{_≡_, refl, sym, _∙_, ap}
-use native.Mathlib.Omega.{arith}
-use mathlib.Core.List.{[]}
-use Rattle.machine.specs.Call.{handOver}
 use Rattle.run.proofs.SheetLaws.{run-left, run-refused}
 use borrow.Author.Needs.{needs}
 use Rattle.run.proofs.sheet.run_sheet.Statement.{statement}

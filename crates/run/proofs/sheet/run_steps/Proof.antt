@@ -1,11 +1,9 @@
-use mathlib.Core.Path.{_≡_, refl, sym, _∙_, ap}
+use mathlib.Core.Path.{_≡_, refl, _∙_}
 use native.Mathlib.Omega.{arith}
-use Prim.Native.Nat.{_+_, _-_, _≤_, _<_}
+use Prim.Native.Nat.{_-_}
 use mathlib.Core.List.{[]}
 use lib.ListN.{length}
-use Rattle.stack.specs.Stack.{HasTypes}
 use Rattle.stack.specs.StackLaws.{holds-none}
-use Rattle.run.specs.Answers.{Works}
 use Rattle.run.proofs.SheetLaws.{Going, going-over, going-end, going-step, going-stop}
 use borrow.Author.Needs.{needs}
 use Rattle.run.proofs.sheet.run_steps.Statement.{statement}

@@ -1,8 +1,7 @@
-use mathlib.Core.Path.{_≡_, refl, sym}
-use native.Mathlib.Omega.{arith}
+use mathlib.Core.Path.{sym}
 use mathlib.Core.List.{_∷_}
 use Prim.Native.Nat.{_-_}
-use lib.ListN.{length, drop}
+use lib.ListN.{drop}
 use lib.Seq.{length-take-le}
 use Rattle.format.specs.Suffices.{suffices}
 use Rattle.run.proofs.RuleLaws.{rule-wrote, rule-refused}

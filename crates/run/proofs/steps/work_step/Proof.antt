@@ -1,5 +1,4 @@
-use mathlib.Core.Path.{_≡_, refl, sym, _∙_, ap}
-use native.Mathlib.Omega.{arith}
+use mathlib.Core.Path.{sym, _∙_, ap}
 use Rattle.cursor.specs.Marks.{markedOf}
 use Rattle.machine.specs.SheetSteps.{work-unmarked}
 use borrow.Author.Needs.{needs}

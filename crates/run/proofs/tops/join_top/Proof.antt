@@ -1,6 +1,6 @@
-use mathlib.Core.Path.{_≡_, refl, sym, _∙_, ap}
+use mathlib.Core.Path.{_∙_}
 use native.Mathlib.Omega.{arith}
-use Rattle.stack.specs.StackLaws.{holds-top, holds-below, holds-count}
+use Rattle.stack.specs.StackLaws.{holds-top, holds-below}
 use Rattle.run.proofs.RuleLaws.{held-lone}
 use mathlib.Core.List.{_∷_}
 use Rattle.stack.specs.Stack.{Holds}

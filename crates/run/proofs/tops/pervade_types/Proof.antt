@@ -1,11 +1,10 @@
-use mathlib.Core.Path.{_≡_, refl, sym, _∙_, ap}
-use native.Mathlib.Omega.{arith}
-use Rattle.model.specs.Types.{Scalar, ty}
+use mathlib.Core.Path.{sym, _∙_, ap}
+use Rattle.model.specs.Types.{ty}
 use Rattle.model.specs.Refusals.{unpervaded}
 use Rattle.format.specs.Records.{writeTy}
-use Rattle.format.specs.Outcome.{accepted, refused, mapped, both, lone, deliver}
+use Rattle.format.specs.Outcome.{accepted, refused, mapped, lone, deliver}
 use Rattle.lent.specs.Delivers.{deliver-refused}
-use Rattle.record.specs.Answers.{loneOf, shapeFor}
+use Rattle.record.specs.Answers.{shapeFor}
 use Rattle.rules.specs.Scalars.{union}
 use Rattle.machine.specs.Run.{pervadeTypes}
 use Rattle.walk.specs.WholeLaws.{first-good, second-good}

@@ -1,9 +1,6 @@
-use mathlib.Core.Path.{_≡_, refl, sym, _∙_, ap}
+use mathlib.Core.Path.{_∙_}
 use native.Mathlib.Omega.{arith}
-use Rattle.format.specs.Records.{writeTy}
-use Rattle.format.specs.Outcome.{accepted, mapped, deliver}
-use Rattle.rules.specs.Types.{intoRow}
-use Rattle.stack.specs.StackLaws.{holds-top, holds-below, holds-count}
+use Rattle.stack.specs.StackLaws.{holds-top}
 use Rattle.run.proofs.RuleLaws.{held-lone}
 use mathlib.Core.List.{_∷_}
 use Rattle.stack.specs.Stack.{Holds}

@@ -1,11 +1,7 @@
-use mathlib.Core.Path.{_≡_, refl, sym, _∙_, ap, subst}
+use mathlib.Core.Path.{_∙_, subst}
 use native.Mathlib.Omega.{arith}
 use mathlib.Core.List.{_∷_}
-use Rattle.format.specs.Records.{writeTy}
-use Rattle.format.specs.Outcome.{accepted, mapped, both, lone}
 use Rattle.lent.specs.Written.{Puts}
-use Rattle.validation.specs.CheckShape.{unsided}
-use Rattle.validation.specs.Validate.{validate}
 use Rattle.stack.specs.Stack.{Holds}
 use Rattle.stack.specs.StackLaws.{holds-top}
 use Rattle.run.proofs.RuleLaws.{held-lone}

@@ -1,10 +1,10 @@
-use mathlib.Core.Path.{_≡_, refl, sym, ap, _∙_}
+use mathlib.Core.Path.{sym, _∙_}
 use native.Mathlib.Omega.{arith}
 use borrow.Author.Needs.{needs}
 use mathlib.Core.Logic.{⊎-elim}
-use Rattle.model.specs.Types.{shapeOf, scalarOf}
+use Rattle.model.specs.Types.{scalarOf}
 use Rattle.rules.specs.Views.{kind-within}
-use Rattle.walk.specs.AtLaws.{has-content, all-within, behind, scalar-behind, has-scalar, behind-within, deep}
+use Rattle.walk.specs.AtLaws.{has-content, all-within, scalar-behind, has-scalar, behind-within, deep}
 use Rattle.scalar.proofs.BoxLaws.{clash, all-compatible, by-kind, contents-no, contents-shapes}
 use Prim.Native.Nat.{ℕ, _<_, _+_, _-_, _*_}
 use borrow.Fn.Kinds.{In}

@@ -1,4 +1,3 @@
-use mathlib.Core.Path.{_≡_, refl, sym, ap, _∙_}
 use Rattle.scalar.proofs.BoxLaws.{none-later, second-later, same-later, first-later}
 use borrow.Author.Needs.{needs}
 use Rattle.scalar.proofs.unions.unite_contents.Statement.{statement}

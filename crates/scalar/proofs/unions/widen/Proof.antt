@@ -1,4 +1,3 @@
-use mathlib.Core.Path.{_≡_, refl, sym, ap, _∙_}
 use Rattle.scalar.proofs.BoxLaws.{first-wider, second-wider, neither-wider}
 use borrow.Author.Needs.{needs}
 use Rattle.scalar.proofs.unions.widen.Statement.{statement}

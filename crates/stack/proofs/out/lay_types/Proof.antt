@@ -1,12 +1,10 @@
-use Prim.Native.Nat.{ℕ, _+_, _-_, _*_, _≤_}
+use Prim.Native.Nat.{_+_, _-_, _≤_}
 use native.Mathlib.Omega.{arith}
-use mathlib.Core.List.{List}
 use mathlib.Core.Path.{_≡_, sym, _∙_, ap}
-use lib.ListN.{length, getD, take, drop}
+use lib.ListN.{length}
 use Rattle.lent.specs.Over.{over}
-use Rattle.stack.specs.Stack.{slotOf, HasTypes}
 use Rattle.stack.specs.Laid.{laid}
-use Rattle.stack.proofs.LaidLaws.{laid-none, laid-more, laid-within, laid-start, laid-next, lay-fits, lay-adds}
+use Rattle.stack.proofs.LaidLaws.{laid-none, laid-within, laid-start, laid-next, lay-fits, lay-adds}
 use borrow.Author.Needs.{needs}
 use Rattle.stack.proofs.out.lay_types.Statement.{statement}
 use Rattle.stack.proofs.out.lay_types.Tie as tie

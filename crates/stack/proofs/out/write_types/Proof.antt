@@ -1,6 +1,5 @@
 use native.Mathlib.Omega.{arith}
-use mathlib.Core.Path.{_≡_, refl, sym, _∙_, ap}
-use lib.ListN.{length}
+use mathlib.Core.Path.{sym, ap}
 use Rattle.format.specs.Outcome.{accepted}
 use Rattle.lent.specs.Delivers.{deliver-short, deliver-wrote}
 use Rattle.stack.proofs.LaidLaws.{laid-left}

@@ -1,8 +1,8 @@
 use borrow.Author.Needs.{needs}
 use Prim.Native.Nat.{_+_, _*_, _/_, _≤_, _<_, _-_}
 use native.Mathlib.Omega.{arith}
-use mathlib.Core.Path.{_≡_, refl, sym, ap, _∙_}
-use lib.ListN.{length, getD, drop}
+use mathlib.Core.Path.{_≡_, _∙_}
+use lib.ListN.{length, getD}
 use lib.Seq.{paste, paste-zero}
 use Rattle.text.specs.Digits.{digit, unhex}
 use Rattle.text.proofs.ParseLaws.{digit-below, length-unhex, decoded-more}

@@ -1,9 +1,8 @@
 use borrow.Author.Needs.{needs}
 use native.Mathlib.Omega.{arith}
-use mathlib.Core.Path.{_≡_, refl, sym, ap, _∙_}
-use mathlib.Core.List.{[]}
-use Prim.Native.Nat.{_+_, _≤_}
-use lib.ListN.{length, take}
+use mathlib.Core.Path.{sym, ap, _∙_}
+use Prim.Native.Nat.{_+_}
+use lib.ListN.{take}
 use lib.Seq.{length-take-le}
 use Rattle.model.specs.Limits.{maxDepth}
 use Rattle.model.specs.Types.{ty}
@@ -11,13 +10,11 @@ use Rattle.format.specs.Records.{writeShape}
 use Rattle.format.specs.Outcome.{lone, deliver}
 use Rattle.lent.specs.Delivers.{deliver-refused}
 use Rattle.record.specs.Answers.{loneOf, shapeFor}
-use Rattle.validation.specs.CheckScalar.{inTurn}
-use Rattle.validate.specs.Answers.{sideOf}
-use Rattle.validate.specs.Plans.{scalarOf, sidedOf}
+use Rattle.validate.specs.Plans.{scalarOf}
 use Rattle.record.proofs.LoneLaws.{both-refused}
 use Rattle.validate.proofs.PlanLaws.{type-at, has-type}
 use Rattle.validate.proofs.WalkLaws.{roomy-done, laid-behind, scalar-few}
-use Rattle.validate.proofs.WholeLaws.{lones, validated, scalar-checked, type-written, type-not, scalar-written, scalar-not, type-few}
+use Rattle.validate.proofs.WholeLaws.{lones, scalar-checked, scalar-written, scalar-not}
 use borrow.Author.Needs.{needs}
 use Rattle.validate.proofs.calls.check_scalar.Statement.{statement}
 use Rattle.validate.proofs.calls.check_scalar.Tie as tie

@@ -1,4 +1,4 @@
-use mathlib.Core.Path.{_≡_, refl, sym, ap, _∙_}
+use mathlib.Core.Path.{sym, ap, _∙_}
 use mathlib.Core.List.{_++_}
 use Rattle.format.specs.Records.{writeShape}
 use Rattle.format.specs.Outcome.{accepted, lone, deliver}

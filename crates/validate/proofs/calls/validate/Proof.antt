@@ -1,5 +1,5 @@
 use native.Mathlib.Omega.{arith}
-use mathlib.Core.Path.{_≡_, refl, sym, ap, subst, _∙_}
+use mathlib.Core.Path.{sym, ap, subst, _∙_}
 use lib.Seq.{length-take-le}
 use Rattle.format.specs.Records.{writeTy}
 use Rattle.format.specs.Outcome.{mapped, both, lone, deliver}

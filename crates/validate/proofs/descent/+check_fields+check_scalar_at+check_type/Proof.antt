@@ -4,18 +4,18 @@ use native.Mathlib.Omega.{arith}
 use borrow.Author.Needs.{needs}
 use lib.ListN.{length, take}
 use Rattle.model.specs.Limits.{maxDepth}
-use Rattle.model.specs.Types.{ty, fieldCount, among}
-use Rattle.format.specs.Outcome.{accepted, mapped}
+use Rattle.model.specs.Types.{ty}
+use Rattle.format.specs.Outcome.{mapped}
 use Rattle.format.specs.Records.{boxStart, writeShape}
 use Rattle.record.specs.Answers.{shapeFor}
 use Rattle.validation.specs.CheckShape as rules
 use Rattle.validate.specs.Answers.{sideOf}
 use Rattle.validation.specs.CheckScalar.{inTurn}
-use Rattle.validate.specs.Plans.{Pair, scalarOf, shapeOf, sidedOf, Lists, fieldsOf}
-use Rattle.validate.specs.Walk.{wroteOf, scalarPiece, fieldsPiece, defHead}
+use Rattle.validate.specs.Plans.{scalarOf, shapeOf, sidedOf, Lists, fieldsOf}
+use Rattle.validate.specs.Walk.{scalarPiece, fieldsPiece, defHead}
 use Rattle.validate.proofs.PlanLaws.{type-at, has-type, some-left}
 use Rattle.validate.proofs.CopyLaws.{not-refused}
-use Rattle.validate.proofs.WalkLaws.{roomy-more, type-refused, type-clash, type-done, keep-copyable, take-copyable, Pacing, pacing-start, firsts, pacing-few, first-rest, first-types, pacing-pair, pacing-stop, pacing-next, pacing-ended, pacing-rest, pacing-fits, pacing-listable, lists-countable, done-number, checked-clash, checked-fits, roomy-done, laid-behind, scalar-few, plan-refuse, plan-keep, plan-take, plan-inside, plan-pairs, fresh-lists, own-lists, inside-done, pairs-done}
+use Rattle.validate.proofs.WalkLaws.{type-refused, type-clash, type-done, keep-copyable, take-copyable, Pacing, pacing-start, firsts, pacing-few, first-rest, first-types, pacing-pair, pacing-stop, pacing-next, pacing-ended, pacing-rest, pacing-fits, pacing-listable, lists-countable, done-number, checked-clash, checked-fits, roomy-done, laid-behind, scalar-few, plan-refuse, plan-keep, plan-take, plan-inside, plan-pairs, fresh-lists, own-lists, inside-done, pairs-done}
 use Prim.Native.Nat.{ℕ, _<_, _≤_, _+_, _-_, _*_}
 use borrow.Fn.Kinds.{In}
 use borrow.Fn.PlainCycle.{Measures, is, falls, and}

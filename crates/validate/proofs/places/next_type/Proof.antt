@@ -1,6 +1,4 @@
-use native.Mathlib.Omega.{arith}
 use borrow.Author.Tests.{not-true, not-false}
-use Rattle.validate.proofs.PlacesLaws.{type-known, type-there}
 use borrow.Author.Needs.{needs}
 use Rattle.validate.proofs.places.next_type.Statement.{statement}
 use Rattle.validate.proofs.places.next_type.Tie as tie

@@ -1,6 +1,6 @@
 use borrow.Author.Needs.{needs}
 use native.Mathlib.Omega.{arith}
-use mathlib.Core.Path.{_≡_, refl, sym, ap, _∙_}
+use mathlib.Core.Path.{refl, _∙_}
 use borrow.Author.Tests.{not-true, not-false}
 use Rattle.validate.proofs.PlanLaws.{name-some, copies-above, copies-over, copies-pairs, copies-many, copies-none, copies-fit, some-left, product-small}
 use borrow.Author.Needs.{needs}

@@ -1,4 +1,4 @@
-use mathlib.Core.Path.{_≡_, refl, sym, ap, _∙_}
+use mathlib.Core.Path.{refl, ap, _∙_}
 use Rattle.model.specs.Types.{plain, any}
 use Rattle.rules.specs.Shapes.{anyShape}
 use Rattle.validation.specs.AsFields.{fieldsFor}

@@ -1,4 +1,4 @@
-use mathlib.Core.Path.{_≡_, refl, sym, ap, _∙_}
+use mathlib.Core.Path.{sym, ap, _∙_}
 use Rattle.format.specs.Outcome.{accepted}
 use Rattle.record.specs.Answers.{shapeFor}
 use Rattle.rules.specs.Shapes.{mergeFrom}

@@ -1,4 +1,4 @@
-use mathlib.Core.Path.{_≡_, refl, sym, ap, _∙_}
+use mathlib.Core.Path.{sym, _∙_}
 use Rattle.record.specs.Answers.{dimsOf}
 use Rattle.validate.proofs.ShapesLaws.{unsided-uneven, unsided-even, unsided-open}
 use borrow.Author.Needs.{needs}

@@ -1,4 +1,4 @@
-use mathlib.Core.Path.{sym, ap, _∙_}
+use mathlib.Core.Path.{ap, _∙_}
 use Rattle.velgrodis.specs.Answers.{written}
 use Rattle.format.specs.Records.{writeTy}
 use Rattle.format.specs.Outcome.{mapped, bound, both, lone, deliver}

@@ -10,7 +10,7 @@ import sys
 
 sys.dont_write_bytecode = True
 
-from base1 import LARGEST, LENT, LINE, UNKNOWN, boxed, full, kind, largest, named, nested, of, word
+from records import LARGEST, LENT, LINE, UNKNOWN, boxed, full, kind, largest, named, nested, of, word
 
 BOOL, NAT, INT, NUM, COMPLEX, ASCII, CHAR, STREAM = KINDS = [kind(code) for code in range(8)]
 ANY = kind(9)

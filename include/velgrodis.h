@@ -1,9 +1,9 @@
 /* velgrodis.h: the checker of partial array types, for hosts written in C or another language that calls C.
  *
  * Link with libvelgrodis.a (rt staticlib velgrodis; x86-64 Linux). The library holds no state, allocates nothing, and calls
- * nothing of the host's but memcpy, memmove and memset. Every call ends, and is proved to answer what is said here for every
- * input that a host can hand in; the bytes of records and sheets are in docs/FORMAT.md. Not proved but measured: a call on types
- * eight deep took less than 40 kB of stack.
+ * nothing of the host's but memcpy, memmove and memset. Every call ends, for every input that a host can hand in, and is proved to
+ * answer what its contract says (crates/velgrodis/src), which is put in words here; the bytes of records and sheets are in
+ * docs/FORMAT.md. Not proved but measured: a call on types eight deep took less than 40 kB of stack.
  *
  * What the host guarantees, since no proof can:
  * - A length is true: the pointer before it points to as many elements, initialised, readable, and writable where it is not const.
@@ -116,8 +116,8 @@ vg_answer vg_shape_record(const uint8_t *ty, size_t ty_len, uint8_t *result, siz
 vg_answer vg_scalar_record(const uint8_t *ty, size_t ty_len, uint8_t *result, size_t result_len);
 
 /* The row of a type, its first row, its last, and its n-th from 0: the shape loses its first opening size, else its first closing
- * one. At rank 1 the row of a Def is a box All of its field: the first for vg_row, and again where there is no n-th; [..] Any where
- * it has no field.
+ * one. At rank 1 the row of a Def is a box All of a field: the first for vg_row and vg_first_row, the last for vg_last_row, the n-th
+ * for vg_nth_row, or the first where there is no n-th; of [..] Any where it has no field.
  * Value: bytes written, a type. Refused: reading ty; result. */
 vg_answer vg_row(const uint8_t *ty, size_t ty_len, uint8_t *result, size_t result_len);
 vg_answer vg_first_row(const uint8_t *ty, size_t ty_len, uint8_t *result, size_t result_len);
@@ -191,16 +191,30 @@ vg_answer vg_compare(const uint8_t *a, size_t a_len, const uint8_t *b, size_t b_
 
 /* ---- two sizes ------------------------------------------------------------------------------------------------------------- */
 
-/* Each is 0 to VG_MAX_SIZE, or VG_UNKNOWN for ?. Refused, all six: 4 at 0 if a is no size; 4 at 1 if b is none.
- * vg_dim_cmp, vg_dim_cmp_defined: 0 if a is less than b, 1 if they are the same, 2 if it is more, where 0 < 1 < ? < 0 and ? is less
- *   than every other static size; where ? is less than all statics.
- * vg_dim_max, vg_dim_join: the larger by vg_dim_cmp; the size itself where both are the same, else VG_UNKNOWN.
- * vg_dim_compatible, vg_dim_row_compatible: 1 if they are equal or either is ?, else 0; 1 if either is 1, too. */
+/* Each is 0 to VG_MAX_SIZE, or VG_UNKNOWN for ?. Refused, all six: 4 at 0 if a is no size; 4 at 1 if b is none. */
+
+/* The order of sizes, which is no chain: 0 < 1, 1 < ?, ? < 0, and ? is less than every static size above 1.
+ * Value: 0 if a is less than b, 1 if they are the same, 2 if it is more. */
 vg_answer vg_dim_cmp(uint64_t a, uint64_t b);
+
+/* The order in which ? is less than every static size.
+ * Value: as for vg_dim_cmp. */
 vg_answer vg_dim_cmp_defined(uint64_t a, uint64_t b);
+
+/* The larger by vg_dim_cmp.
+ * Value: a size. */
 vg_answer vg_dim_max(uint64_t a, uint64_t b);
+
+/* The size itself where both are the same, else VG_UNKNOWN.
+ * Value: a size. */
 vg_answer vg_dim_join(uint64_t a, uint64_t b);
+
+/* Whether they are equal or either is ?.
+ * Value: 1 or 0. */
 vg_answer vg_dim_compatible(uint64_t a, uint64_t b);
+
+/* Whether they are equal, or either is ? or 1.
+ * Value: 1 or 0. */
 vg_answer vg_dim_row_compatible(uint64_t a, uint64_t b);
 
 /* ---- values handed in ------------------------------------------------------------------------------------------------------ */

@@ -10,6 +10,7 @@ use crate::words::count;
 use crate::words::find;
 use crate::words::nth;
 use crate::words::part;
+use limits::MAX_FLAG;
 use shape_calls::pervade;
 use text::Number;
 
@@ -17,13 +18,11 @@ pub fn number(name: &[u8]) -> Found {
     find(b"pervade", name)
 }
 
-const MAX_FLAG: u64 = 3;
-
 pub fn answered(line: &[u8], input: &mut [u8], result: &mut [u8]) -> Answer {
     if count(line) != 4 {
         return Answer::Bad(fault::WORDS);
     }
-    let parsed = decimal(nth(line, 1), MAX_FLAG);
+    let parsed = decimal(nth(line, 1), MAX_FLAG as u64);
     let Number::Value(flag) = parsed else {
         return Answer::Bad(fault::NUMBER);
     };

@@ -6,7 +6,7 @@ use mathlib.Core.Option.{Option, none, some}
 use mathlib.Core.Path.{_≡_, refl}
 use lib.Ieee.{Float, lt}
 use lib.ListN.{length}
-use Rattle.model.specs.Refusals.{wrongScalar, wrongShape, notASize}
+use Rattle.model.specs.Refusals.{unpervaded, wrongScalar, wrongShape, notASize}
 use Rattle.model.specs.Types.{Dim, static, unknown, Shape, shape, Kind, bool, int, num, any, Scalar, plain, boxAny, boxAll, Ty, inside, below}
 use Rattle.model.specs.Within.{All}
 use Rattle.format.specs.Records.{code}
@@ -38,12 +38,19 @@ pub data Claim : Type 0 where
   theSize : Value → Outcome (Option Dim) → Claim
   theSizes : Value → Outcome (Option (List Dim)) → Claim
   theSpec : Value → Outcome Ty → Claim
-  -- with the first's fill and the second's; none is refusal 8
-  thePervading : Bool → Bool → Shape → Shape → Option Shape → Claim
+  -- with the first's fill and the second's
+  thePervading : Bool → Bool → Shape → Shape → Outcome Shape → Claim
+  -- the same whatever is filled
+  everyPervading : Shape → Shape → Outcome Shape → Claim
   -- a spec on a type
   theValidation : Side → Ty → Ty → Outcome Ty → Claim
   -- the shape of a spec on the shape of a type
   theShapeCheck : Side → Shape → Shape → Outcome Shape → Claim
+
+-- a pervading that gives nothing is refusal 8
+abbrev answered : Option Shape → Outcome Shape
+answered none = refused unpervaded 0
+answered (some s) = accepted s
 
 -- that the rule gives it
 abbrev pub Given : Claim → Type 0
@@ -55,12 +62,13 @@ Given (theKind xs k) = numsScalar xs ≡ plain k
 Given (theSize v x) = valueAsDim v ≡ x
 Given (theSizes v x) = valueAsDims v ≡ x
 Given (theSpec v x) = valueSpec v ≡ x
-Given (thePervading f g s t x) = pervade f g s t ≡ x
+Given (thePervading f g s t x) = answered (pervade f g s t) ≡ x
+Given (everyPervading s t x) = (f g : Bool) → answered (pervade f g s t) ≡ x
 Given (theValidation side s t x) = validate side s t ≡ x
 Given (theShapeCheck side s t x) = checkShape side s t ≡ x
 
-abbrev pub Holds : List Claim → Type 0
-Holds claims = All Given claims
+abbrev pub AllGiven : List Claim → Type 0
+AllGiven claims = All Given claims
 
 unfoldable pub cases : List (List Claim)
 cases =
@@ -99,18 +107,18 @@ cases =
     ∷ theSpec (numbers (minusInfinity ∷ [])) (refused notASize 0)
     ∷ [])
     -- (h) [1] with [] gives [?].
-    ∷ (thePervading false false (statics (1 ∷ [])) (closed []) (some (closed (unknown ∷ []))) ∷ [])
+    ∷ (everyPervading (statics (1 ∷ [])) (closed []) (accepted (closed (unknown ∷ []))) ∷ [])
     -- (i) [3 ?] with [? 4] gives [3 4].
-    ∷ (thePervading false false (closed (static 3 ∷ unknown ∷ [])) (closed (unknown ∷ static 4 ∷ [])) (some (statics (3 ∷ 4 ∷ []))) ∷ [])
+    ∷ (everyPervading (closed (static 3 ∷ unknown ∷ [])) (closed (unknown ∷ static 4 ∷ [])) (accepted (statics (3 ∷ 4 ∷ []))) ∷ [])
     -- (j) [3] with [4]: 8 unless the first is filled, then [4].
     ∷ (
-    thePervading false false (statics (3 ∷ [])) (statics (4 ∷ [])) none
-    ∷ thePervading false true (statics (3 ∷ [])) (statics (4 ∷ [])) none
-    ∷ thePervading true false (statics (3 ∷ [])) (statics (4 ∷ [])) (some (statics (4 ∷ [])))
-    ∷ thePervading true true (statics (3 ∷ [])) (statics (4 ∷ [])) (some (statics (4 ∷ [])))
+    thePervading false false (statics (3 ∷ [])) (statics (4 ∷ [])) (refused unpervaded 0)
+    ∷ thePervading false true (statics (3 ∷ [])) (statics (4 ∷ [])) (refused unpervaded 0)
+    ∷ thePervading true false (statics (3 ∷ [])) (statics (4 ∷ [])) (accepted (statics (4 ∷ [])))
+    ∷ thePervading true true (statics (3 ∷ [])) (statics (4 ∷ [])) (accepted (statics (4 ∷ [])))
     ∷ [])
     -- (k) [0] with [1] gives [0].
-    ∷ (thePervading false false (statics (0 ∷ [])) (statics (1 ∷ [])) (some (statics (0 ∷ []))) ∷ [])
+    ∷ (everyPervading (statics (0 ∷ [])) (statics (1 ∷ [])) (accepted (statics (0 ∷ []))) ∷ [])
     -- (l) Num [?] on Int [3] leaves Int [3]; Num [..] on Any [3] is 9.
     ∷ (
     theValidation unsided (of num (closed (unknown ∷ []))) (of int (statics (3 ∷ []))) (accepted (of int (statics (3 ∷ []))))
@@ -128,6 +136,6 @@ pub cases-thirteen : length cases ≡ 13
 unfolding cases
 cases-thirteen = refl
 
-pub cases-hold : All Holds cases
+pub cases-hold : All AllGiven cases
 unfolding cases inside below cmpDim larger compatible rowShape isAny rank mergeDims mergeClosing mergeFrom joinDim joinDims joinLonger joinEnds joinClosing joinShapes code codeOf supersetCodes supersetOf union whollyAny againstAbsent together pervadeDims pervadeClosing pervade numsScalar lt sizesFrom valueSpec valueAsDim valueAsDims agree equalDim equalDims mismatch shapeMismatch sidedShape checkShape keepsLimits checkScalar validate
-cases-hold = (((refl, refl), ((refl, refl), ((refl, refl), tt))), ((refl, tt), ((refl, tt), ((refl, (refl, (refl, tt))), ((λ s k. refl, (λ s k. refl, tt)), ((refl, (refl, (refl, tt))), ((refl, (refl, (refl, (refl, tt)))), ((refl, tt), ((refl, tt), ((refl, (refl, (refl, (refl, tt)))), ((refl, tt), ((refl, (refl, tt)), ((refl, (refl, tt)), tt)))))))))))))
+cases-hold = (((refl, refl), ((refl, refl), ((refl, refl), tt))), ((refl, tt), ((refl, tt), ((refl, (refl, (refl, tt))), ((λ s k. refl, (λ s k. refl, tt)), ((refl, (refl, (refl, tt))), ((refl, (refl, (refl, (refl, tt)))), ((λ f g. refl, tt), ((λ f g. refl, tt), ((refl, (refl, (refl, (refl, tt)))), ((λ f g. refl, tt), ((refl, (refl, tt)), ((refl, (refl, tt)), tt)))))))))))))

@@ -17,8 +17,8 @@ use Rattle.machine.specs.Conditions.{NamesNoClosing, FillsNothing, RowsNoOpenDe
 
 -- ---- what the call answers
 
--- "an accepted sheet", and the types left, bottom first: the answer is their number and the number of their bytes, and their bytes
--- stand at the front of the result.
+-- "an accepted sheet", and the types left, bottom first: the answer is their number and the number of their bytes, their bytes stand
+-- at the front of the result, and the scratch is zero.
 pub record Leaves (s result scratch : List ℕ) (ts : List Ty) : Type 0 where
   pub within : All Within ts
   pub outcome : sheetCall s result scratch ≡ called (accepted (tally (length ts) (length (writeTypes ts)))) (atFront (writeTypes ts) result) (zeroed scratch)
@@ -28,14 +28,14 @@ pub record Mismatched (s result scratch : List ℕ) : Type 0 where
   pub place : ℕ
   pub outcome : sheetCall s result scratch ≡ called (refused unpervaded place) result (zeroed scratch)
 
--- The term verdict: accepted, or the number of a refusal, the place aside.
+-- The term verdict: accepted, or the number of a refusal, the place aside. Under the conditions below that number is 8, mismatch.
 abbrev pub verdictOf : Called → Answer (Unit {0})
 verdictOf (called (accepted n) result scratch) = gives tt
 verdictOf (called (refused k p) result scratch) = refuses k
 
 -- ---- the first half
 
--- All conditions of the first half, of a list that is worked in order from an empty stack. The proof does without the third.
+-- All conditions of the first half on the steps, a list that is worked in order from an empty stack. The proof does without the third.
 pub record FirstConditions (xs : List Step) : Type 0 where
   pub names-no-closing : All NamesNoClosing xs
   pub fills-nothing : All FillsNothing xs

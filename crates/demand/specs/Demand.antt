@@ -1,6 +1,7 @@
--- Demand 3, both halves, of what the sheet call answers. These statements rest on the rules below and, in the crate `machine`, on
--- Steps, Run, Sheet, Call, WellFormed, Real and Conditions, and on Claims here: what has to be believed stands there, and in no
--- other file of the two crates. `Bytes s` says that s is a list of bytes, as every slice of u8 is.
+-- Demand 3, both halves, of what the sheet call answers. These statements rest on the rules and, in the crate `machine`, on
+-- SheetLimits, Steps, Run, Sheet, Call, WellFormed, Real and Conditions, and here on Claims and on `SecondHalf` below: what has to be
+-- believed stands there. `Bytes s` (`format`: ReaderLaws) says that s is a list of bytes, as every slice of u8 is, and `bottomFirst`
+-- (`machine`: Sheets) that a stack is told from the bottom.
 use Prim.Native.Nat.{ℕ, _≤_}
 use mathlib.Core.List.{List, [], _∷_, reverse, reverse-reverse}
 use mathlib.Core.Logic.{_↔_}

@@ -49,7 +49,7 @@ module _ (s : List ℕ) where
   unfoldable pub byte : ℕ → Reader ℕ
   byte p = λ at. cond (ltb at (length s)) (got (getD s at 0) (suc at)) (stopped ended p)
 
-  -- a byte that is judged as it is read: a count, a code or a byte of a name
+  -- a byte that is judged as it is read: a count, a flag or a byte of a name
   unfoldable pub judged : (ℕ → Bool) → ℕ → Reader ℕ
   judged fits p = do
     b ← byte p

@@ -1,4 +1,5 @@
-// Every limit, code and refusal number of the format, named once for all code.
+// Every limit of a type, every code and every refusal number, named once for all code. What a sheet may have is named in `stack`
+// (types held, scratch), `run` (steps) and `printer` (bytes of a sheet).
 pub mod refusal;
 
 // The largest static size, 2^53, and the number that stands for an unknown one.
@@ -34,6 +35,14 @@ pub const INT: u8 = 2;
 
 pub const NUM: u8 = 3;
 
+pub const COMPLEX: u64 = 4;
+
+pub const ASCII: u64 = 5;
+
+pub const CHAR: u64 = 6;
+
+pub const STREAM: u64 = 7;
+
 pub const BOX: u64 = 8;
 
 pub const ANY: u64 = 9;
@@ -44,3 +53,6 @@ pub const BOX_ANY: u64 = 0;
 pub const BOX_ALL: u64 = 1;
 
 pub const BOX_DEF: u64 = 2;
+
+// The greatest flag of a pervading, which has both bits.
+pub const MAX_FLAG: u8 = 3;

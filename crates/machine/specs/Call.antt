@@ -24,7 +24,7 @@ unfoldable pub writeTypes : List Ty → List ℕ
 writeTypes [] = []
 writeTypes (t ∷ ts) = writeTy t ++ writeTypes ts
 
--- The bytes that a call asks for are zero, later ones stay.
+-- The bytes that a call asks for are zero, later ones stay; it is said only of a scratch that has as many.
 unfoldable pub zeroed : List ℕ → List ℕ
 zeroed scratch = replicate scratchBytes 0 ++ drop scratchBytes scratch
 

@@ -106,7 +106,8 @@ isSame more = false
 abbrev pub sameType : Ty → Ty → Bool
 sameType t u = isSame (compare t u)
 
--- "the same puts", each type as often.
+-- "the same puts", each type as often. Two types are the same where their order says so, which is equality (`rules`: `compare-refl`,
+-- `compare-same`).
 abbrev pub SamePuts : List Step → List Step → Type 0
 SamePuts xs ys = (t : Ty) → count sameType t (puts xs) ≡ count sameType t (puts ys)
 

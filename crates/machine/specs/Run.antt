@@ -45,6 +45,8 @@ onto st a = following a λ t. gives (t ∷ st)
 unfoldable pub pervadeTypes : Bool → Bool → Ty → Ty → Answer Ty
 pervadeTypes f g (ty s k) (ty t l) = following (orRefuses (pervade f g s t) unpervaded) λ x. gives (ty x (union k l))
 
+-- One step. What the stack lacks or has no room for is refused here as in the reading of a sheet, where it comes before the step's
+-- bytes (`lacks`, `overfull` in StepsReads).
 unfoldable pub step : Step → Stack → Answer Stack
 step (put t) st = cond (ltb (length st) maxStack) (gives (t ∷ st)) (refuses overflow)
 step row [] = refuses underflow

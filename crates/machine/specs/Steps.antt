@@ -38,7 +38,7 @@ markOf aPervading = mark 0x50 0x56
 markOf aJoin = mark 0x4A 0x4E
 markOf aValidating = mark 0x56 0x41
 
--- What marks there are: those of these, and no others.
+-- The marks of these five are all the marks of steps.
 abbrev pub opcodes : List Opcode
 opcodes = aPut ∷ aRow ∷ aPervading ∷ aJoin ∷ aValidating ∷ []
 

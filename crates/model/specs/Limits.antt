@@ -1,4 +1,5 @@
--- Every limit of document 01, named once. Definitions and theorems cite the names and never the numbers.
+-- Every limit of a type in document 01, named once; those of a sheet stand in `machine` (SheetLimits). Definitions and theorems cite
+-- the names and never the numbers.
 use Prim.Native.Nat.{ℕ}
 
 -- the largest static size, 2^53

@@ -16,16 +16,16 @@ againstAbsent d = cond (isOne d) unknown d
 abbrev pub filled : Bool → Dim → Option Dim
 filled f d = cond f (some d) none
 
--- Two sizes, neither of them 1: what their order makes of them.
-abbrev pub unequal : Bool → Bool → Order → Dim → Dim → Option Dim
-unequal f g less d e = filled f e
-unequal f g same d e = some d
-unequal f g more d e = filled g d
+-- Two static sizes, neither of them 1: what their order makes of them.
+abbrev pub byOrder : Bool → Bool → Order → Dim → Dim → Option Dim
+byOrder f g less d e = filled f e
+byOrder f g same d e = some d
+byOrder f g more d e = filled g d
 
 abbrev pub neitherOne : Bool → Bool → Dim → Dim → Option Dim
 neitherOne f g unknown e = some e
 neitherOne f g (static m) unknown = some (static m)
-neitherOne f g (static m) (static n) = unequal f g (cmpDim (static m) (static n)) (static m) (static n)
+neitherOne f g (static m) (static n) = byOrder f g (cmpDim (static m) (static n)) (static m) (static n)
 
 -- Two sizes; none where the index refuses.
 unfoldable pub together : Bool → Bool → Dim → Dim → Option Dim

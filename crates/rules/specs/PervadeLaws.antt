@@ -13,7 +13,7 @@ use Rattle.model.specs.Types.{Dim, static, unknown, Shape, shape}
 use Rattle.model.specs.Within.{All, Each, DimWithin, DimsWithin, ShapeWithin}
 use Rattle.rules.specs.Sizes.{Order, less, same, more, cmpDim, isOne}
 use Rattle.rules.specs.SizesLaws.{flip, cmpDim-flip, cmpDim-same}
-use Rattle.rules.specs.Pervade.{againstAbsent, filled, unequal, neitherOne, together, Pervaded, sizes, clash, thenRest, pervadeDims, pervadeClosing, closedBy, pervade}
+use Rattle.rules.specs.Pervade.{againstAbsent, filled, byOrder, neitherOne, together, Pervaded, sizes, clash, thenRest, pervadeDims, pervadeClosing, closedBy, pervade}
 
 -- ---- one index
 
@@ -31,7 +31,7 @@ pub together-unfilled : (m n : ℕ) → together false false (static m) (static 
 unfolding together cmpDim
 together-unfilled m n = rw (go (ltb m n) (eqb m n) refl refl)
   where
-    go : (t u : Bool) → ltb m n ≡ t → eqb m n ≡ u → unequal false false (cond t less (cond u same more)) (static m) (static n) ≡ cond u (some (static m)) none
+    go : (t u : Bool) → ltb m n ≡ t → eqb m n ≡ u → byOrder false false (cond t less (cond u same more)) (static m) (static n) ≡ cond u (some (static m)) none
     go true true h k = let x = ltb-true m n h in let y = eqb-true m n k in absurd (omega arith)
     go true false h k = refl
     go false true h k = refl
@@ -92,15 +92,15 @@ filled-within : (f : Bool) (d : Dim) → DimWithin d → Each DimWithin (filled 
 filled-within true d h = h
 filled-within false d h = tt
 
-unequal-within : (f g : Bool) (x : Order) (d e : Dim) → DimWithin d → DimWithin e → Each DimWithin (unequal f g x d e)
-unequal-within f g less d e h k = filled-within f e k
-unequal-within f g same d e h k = h
-unequal-within f g more d e h k = filled-within g d h
+byOrder-within : (f g : Bool) (x : Order) (d e : Dim) → DimWithin d → DimWithin e → Each DimWithin (byOrder f g x d e)
+byOrder-within f g less d e h k = filled-within f e k
+byOrder-within f g same d e h k = h
+byOrder-within f g more d e h k = filled-within g d h
 
 neitherOne-within : (f g : Bool) (d e : Dim) → DimWithin d → DimWithin e → Each DimWithin (neitherOne f g d e)
 neitherOne-within f g unknown e h k = k
 neitherOne-within f g (static m) unknown h k = h
-neitherOne-within f g (static m) (static n) h k = unequal-within f g (cmpDim (static m) (static n)) (static m) (static n) h k
+neitherOne-within f g (static m) (static n) h k = byOrder-within f g (cmpDim (static m) (static n)) (static m) (static n) h k
 
 pub together-within : (f g : Bool) (d e : Dim) → DimWithin d → DimWithin e → Each DimWithin (together f g d e)
 unfolding together
@@ -151,17 +151,17 @@ isOne-true : (d : Dim) → isOne d ≡ true → d ≡ static 1
 isOne-true (static n) h = ap static (eqb-true n 1 h)
 isOne-true unknown h = cc
 
-unequal-comm : (f g : Bool) (x : Order) (d e : Dim) → (x ≡ same → d ≡ e) → unequal f g x d e ≡ unequal g f (flip x) e d
-unequal-comm f g less d e h = refl
-unequal-comm f g same d e h = ap some (h refl)
-unequal-comm f g more d e h = refl
+byOrder-comm : (f g : Bool) (x : Order) (d e : Dim) → (x ≡ same → d ≡ e) → byOrder f g x d e ≡ byOrder g f (flip x) e d
+byOrder-comm f g less d e h = refl
+byOrder-comm f g same d e h = ap some (h refl)
+byOrder-comm f g more d e h = refl
 
 neitherOne-comm : (f g : Bool) (d e : Dim) → neitherOne f g d e ≡ neitherOne g f e d
 neitherOne-comm f g unknown unknown = refl
 neitherOne-comm f g unknown (static n) = refl
 neitherOne-comm f g (static m) unknown = refl
 neitherOne-comm f g (static m) (static n) =
-    unequal-comm f g (cmpDim (static m) (static n)) (static m) (static n) (cmpDim-same (static m) (static n)) ∙ rw (cmpDim-flip (static m) (static n))
+    byOrder-comm f g (cmpDim (static m) (static n)) (static m) (static n) (cmpDim-same (static m) (static n)) ∙ rw (cmpDim-flip (static m) (static n))
 
 pub together-comm : (f g : Bool) (d e : Dim) → together f g d e ≡ together g f e d
 unfolding together

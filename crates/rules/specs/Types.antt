@@ -112,6 +112,7 @@ writeBoxes (boxes n f) = countOf n ∷ (listOf n ++ (fieldCount f ∷ writeField
 
 -- ---- field n of a Def
 
+-- the field itself, none of what is no Def; what a call answers is where it stands, below (`field-bytes`)
 unfoldable pub fieldAt : ℕ → Ty → Option Ty
 fieldAt n (ty s (plain k)) = none
 fieldAt n (ty s boxAny) = none

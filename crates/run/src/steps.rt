@@ -9,6 +9,7 @@ use cursor::Marked;
 use cursor::mark_at;
 use lent::Written;
 use limits::MAX_DEPTH;
+use limits::MAX_FLAG;
 use limits::MAX_TYPES;
 use limits::refusal::ENDED;
 use limits::refusal::OUT_OF_RANGE;
@@ -127,7 +128,7 @@ fn pervade(
         return refuse(count, ENDED, at);
     }
     let flag = s[at + 2];
-    if 3 < flag {
+    if MAX_FLAG < flag {
         return refuse(count, OUT_OF_RANGE, at);
     }
     let top_fill = flag % 2 == 1;

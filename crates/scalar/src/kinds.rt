@@ -1,16 +1,12 @@
 // Two kinds by their codes.
 use limits::ANY;
+use limits::ASCII;
 use limits::BOX;
+use limits::CHAR;
+use limits::COMPLEX;
+use limits::STREAM;
 ghost use mathlib.Core.Path.{_≡_};
 ghost use Rattle.rules.specs.Scalars.{supersetCodes, streamOrBox, compatibleCodes};
-
-const COMPLEX: u64 = 4;
-
-pub const ASCII: u64 = 5;
-
-pub const CHAR: u64 = 6;
-
-const STREAM: u64 = 7;
 
 // Any over all; Complex, Num, Int, Nat, Bool each over the later ones; Char over Ascii; each over its own kind.
 pub fn superset_codes(k: u64, l: u64) -> bool

@@ -1,12 +1,12 @@
 // `unrefine`: Int, Nat and Bool become Num, Ascii becomes Char, in boxes too. No length changes, so the record is copied and its
 // kinds are changed where they stand.
-use crate::kinds::ASCII;
-use crate::kinds::CHAR;
 use lent::Written;
 use lent::lay;
+use limits::ASCII;
 use limits::BOX;
 use limits::BOX_ALL;
 use limits::BOX_ANY;
+use limits::CHAR;
 use limits::INT;
 use limits::MAX_DEPTH;
 use limits::NUM;

@@ -89,7 +89,7 @@ fn unite_contents(a: &[u8], i: usize, b: &[u8], j: usize, depth: u64) -> United
     }
 }
 
-// The first kind that is over the other, the first of them first, else Any.
+// Whichever kind is over the other, tried for the first before the second; else Any.
 fn widen(x: u64, y: u64) -> United
     ensures { λ r. ⌜ ((k l : Scalar) → x ≡ codeOf k → y ≡ codeOf l → unitedOf r k l ≡ wider k l) ⌝ }
 {

@@ -14,7 +14,7 @@ use Rattle.model.specs.Types.{Dim, Shape, shape}
 use Rattle.format.specs.Records.{dimOf}
 use Rattle.record.specs.Answers.{dimsOf}
 use Rattle.record.specs.declared.Dims.{Dims}
-use Rattle.rules.specs.Pervade.{sizes, clash, thenRest, pervadeDims, unequal, together, againstAbsent, pervadeClosing, pervade}
+use Rattle.rules.specs.Pervade.{sizes, clash, thenRest, pervadeDims, byOrder, together, againstAbsent, pervadeClosing, pervade}
 use Rattle.rules.specs.PervadeSteps.{pervadeAt, pervade-step, pervade-end, after, after-start, after-more, after-stop, after-end}
 use Rattle.rules.specs.Sizes.{Order, cmpDim}
 use Rattle.record.proofs.ByValue.{one-more}
@@ -45,7 +45,7 @@ module _ (f g : Bool) (a b : ℕ) where
         unfolding together
         together-static e = rw (one-number a, ne-eqb a 1 h, one-number b, ne-eqb b 1 k, ne-eqb a ones s, e)
 
-        pub together-order : {x : Order} → (b ≡ ones → ⊥) → x ≡ cmpDim (dimOf a) (dimOf b) → together f g (dimOf a) (dimOf b) ≡ unequal f g x (dimOf a) (dimOf b)
+        pub together-order : {x : Order} → (b ≡ ones → ⊥) → x ≡ cmpDim (dimOf a) (dimOf b) → together f g (dimOf a) (dimOf b) ≡ byOrder f g x (dimOf a) (dimOf b)
         unfolding together
         together-order t e = rw (e, one-number a, ne-eqb a 1 h, one-number b, ne-eqb b 1 k, ne-eqb a ones s, ne-eqb b ones t)
 

@@ -1,5 +1,5 @@
 // The stack of a sheet's types in a lent scratch. How a type lies there is known to `load`, `store` and the relation `Holds`.
-// The lengths of the types stand in a slice, lent too: copied at each step they would hold it up.
+// The lengths of the types stand in a slice that is lent too, since a copy of them at each step costs more than the step.
 mod out;
 
 use lent::lay;

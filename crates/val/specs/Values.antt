@@ -55,7 +55,7 @@ abbrev pub dimsListed : SizesOutcome → Outcome (List Dim)
 dimsListed (sizes ns) = accepted (map dimOf ns)
 dimsListed (refusedAt k p) = refused k p
 
--- Any of these sizes
+-- the scalar Any under a closed shape of these sizes
 abbrev pub anySized : List Dim → Ty
 anySized ds = ty (shape ds none) (plain any)
 
@@ -69,7 +69,7 @@ valueSpec (typed t) = accepted t
 
 -- ---- `scalar`
 
--- the kind that has one of the codes that numbers have
+-- the kind of numbers by its code, 0 to 3
 abbrev pub kindFor : ℕ → Kind
 kindFor zero = bool
 kindFor (suc zero) = nat

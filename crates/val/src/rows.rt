@@ -1,5 +1,5 @@
-// The rows of a value, which are values again. A number is handed back as it came in. The contracts say so of its value, and by
-// these all NaNs are one; the code hands back the bits too.
+// The rows of a value, which are values again. A number is handed back as it came in; the contracts say so of its value, and by
+// these all NaNs are one.
 use crate::Row;
 use crate::Value;
 use crate::write::write_closed;

@@ -1,6 +1,7 @@
 // Validation of types that stand at their places: type validation calls scalar validation, which calls type validation on box
-// contents, unsided. What the type then is goes to a buffer; a refusal says nothing of the buffer. The merged shape is written before
-// the scalar is judged, but refused after it.
+// contents, unsided. The spec's type stands at i and the type's at j; of the outermost type, `others` types stand elsewhere and `above`
+// around this one. What the type then is goes to a buffer from `to` on; a refusal says nothing of the buffer. The merged shape is
+// written first, since its length is needed, though a clash of shapes is answered only after one of scalars.
 use crate::Plan;
 use crate::Side;
 use crate::Wrote;

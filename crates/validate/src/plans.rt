@@ -178,7 +178,8 @@ fn plan_unnamed(
     }
 }
 
-// A Def of n copies of a type, which stands at `other`, has so many types and keeps to the depth or not. Its name is the spec's.
+// A Def under the spec's name, of n copies of the type at `other`. A copy has `types` types; `shallow` says whether it keeps to the
+// depth.
 fn plan_copies(
     n: u64,
     types: u64,

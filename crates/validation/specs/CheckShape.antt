@@ -43,7 +43,7 @@ abbrev pub lastSizes : Shape → List Dim
 lastSizes (shape p none) = p
 lastSizes (shape p (some d)) = d
 
--- The opening sizes of a spec against a type's shape. Without a side, a closed type has as many sizes, and they agree; an open type's
+-- The opening sizes of a spec against a type's shape. There is no mismatch if: without a side, a closed type has as many sizes, and they agree; an open type's
 -- opening and closing sizes, one list after the other, equal the spec's. For the left side, a closed type has no fewer sizes, and the
 -- opening sizes agree from the front. For the right side, opening and closing sizes are no fewer, and the last ones agree from the end.
 unfoldable pub mismatch : Side → List Dim → Shape → Bool

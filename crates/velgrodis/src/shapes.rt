@@ -5,15 +5,13 @@ use crate::answers::of_size;
 use crate::answers::of_tested;
 use crate::answers::of_written;
 use crate::answers::refuse;
+use limits::MAX_FLAG;
 use limits::refusal::OUT_OF_RANGE;
 ghost use mathlib.Core.Path.{_≡_};
 ghost use Rattle.format.specs.Outcome.{deliver};
 ghost use Rattle.shape_calls.specs.Calls.{mergeCall, joinCall, rowCall, compatibleShapesCall, isAnyCall, isScalarCall, rowCountCall, rankCall};
 ghost use Rattle.velgrodis.specs.Answers.{handed, written, counted, sized, tested};
 ghost use Rattle.velgrodis.specs.Codes.{pervadeFlagged};
-
-// The greatest flag, which has both bits.
-const MAX_FLAG: u64 = 3;
 
 // The first merges from the second.
 #[no_mangle]
@@ -42,7 +40,7 @@ pub extern "C" fn vg_row_shape(ty: &[u8], result: &mut [u8]) -> Answer
 pub extern "C" fn vg_pervade(flag: u64, a: &[u8], b: &[u8], result: &mut [u8]) -> Answer
     ensures { λ r. ⌜ handed r (now (result .exit)) ≡ written (deliver (pervadeFlagged flag (now (a .entry)) (now (b .entry))) (now (result .entry))) ⌝ }
 {
-    if MAX_FLAG < flag {
+    if (MAX_FLAG as u64) < flag {
         return refuse(OUT_OF_RANGE, 0);
     }
     let first = flag % 2 == 1;

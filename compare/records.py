@@ -1,9 +1,5 @@
 #!/usr/bin/env python3
-"""Prints the fixed requests that the gate replays for reading and writing types in bytes.
-
-    compare/run build
-    compare/base1.py > crates/calls/stdin
-    compare/target/oracle < crates/calls/stdin > crates/calls/stdout
+"""Prints the last part of the fixed list (compare/fixed): requests for reading and writing types in bytes.
 
 Document 01's examples for refusals 1 to 6; each corner of its record bytes with its neighbours;
 and the corners of a line. The last line has no line feed, so in a longer list this one is last.

@@ -200,21 +200,10 @@ fn plan_copies(
     if MAX_TYPES < others + 1 + n * types {
         return Plan::Refuse { number: TOO_MANY };
     }
-    if n == 0 {
-        return Plan::Pairs {
-            content: fields,
-            limit: count,
-            moves: true,
-            other,
-            count: n,
-            steps: false,
-            fresh,
-            name,
-            borrowed: true,
-        };
-    }
-    if !shallow {
-        return Plan::Refuse { number: TOO_MANY };
+    if 0 < n {
+        if !shallow {
+            return Plan::Refuse { number: TOO_MANY };
+        }
     }
     Plan::Pairs {
         content: fields,

@@ -1,37 +1,45 @@
-use borrow.Author.Needs.{needs}
 use native.Mathlib.Omega.{arith}
 use mathlib.Core.Path.{refl, _∙_}
 use borrow.Author.Tests.{not-true, not-false}
 use Rattle.validate.proofs.PlanLaws.{name-some, copies-above, copies-over, copies-pairs, copies-many, copies-none, copies-fit, some-left, product-small}
+use native.Mathlib.Omega.{arith}
 use borrow.Author.Needs.{needs}
 use Rattle.validate.proofs.plans.plan_copies.Statement.{statement}
 use Rattle.validate.proofs.plans.plan_copies.Tie as tie
 use Rattle.validate.proofs.plans.plan_copies.Reads as reads
 use Rattle.validate.proofs.plans.plan_copies.Lts as lts
 
+-- src/plans.rt:198:9
 returns : tie.Need-returns
 returns c = λ s t i j a w p q z x holds number placed e d. name-some (x .name) (x .known) refl λ title h. copies-above w z x title h p q (holds title h) number (c .if1 .taken)
 
+-- src/plans.rt:200:20
 add-if2 : tie.Need-add-if2
 add-if2 c = search needs
 
+-- src/plans.rt:200:33
 mul-if2 : tie.Need-mul-if2
 mul-if2 c = let b = product-small (c .before .args .n) (c .before .args .types) (c .if1 .left) (c .before .pre .1) in search needs
 
+-- src/plans.rt:200:20
 add-if2-2 : tie.Need-add-if2-2
 add-if2-2 c = let b = product-small (c .before .args .n) (c .before .args .types) (c .if1 .left) (c .before .pre .1) in search needs
 
+-- src/plans.rt:201:9
 returns-2 : tie.Need-returns-2
 returns-2 c = λ s t i j a w p q z x holds number placed e d. name-some (x .name) (x .known) refl λ title h. copies-over w z x title h p q (holds title h) number (copies-many (c .before .before .args .others) a title (c .before .before .args .n) p q e (omega (arith, c .if2 .taken)))
 
+-- src/plans.rt:205:13
 returns-3 : tie.Need-returns-3
-returns-3 c = λ s t i j a w p q z x holds number placed e d. name-some (x .name) (x .known) refl λ title h. copies-pairs w z x title h p q (holds title h) number (c .before .before .before .args .fresh) (c .before .before .before .args .other) placed (c .before .before .if1 .left) (copies-none (c .before .before .before .args .others) a title (c .before .before .before .args .n) p q e (omega (arith, c .before .if2 .left)) (c .if3 .taken) (some-left (c .before .before .before .args .others) a (w .type-scalar) (w .limits) .1))
+returns-3 c = λ s t i j a w p q z x holds number placed e d. name-some (x .name) (x .known) refl λ title h. copies-over w z x title h p q (holds title h) number (copies-fit (c .before .before .before .before .args .others) a title (c .before .before .before .before .args .n) p q e (omega (arith, c .before .before .if2 .left)) (λ y. omega (arith, c .before .if3 .taken)) d ∙ not-true (c .before .before .before .before .args .shallow) (c .if4 .taken))
 
+-- src/plans.rt:183:1
 returns-4 : tie.Need-returns-4
-returns-4 c = λ s t i j a w p q z x holds number placed e d. name-some (x .name) (x .known) refl λ title h. copies-over w z x title h p q (holds title h) number (copies-fit (c .before .before .before .before .args .others) a title (c .before .before .before .before .args .n) p q e (omega (arith, c .before .before .if2 .left)) (c .before .if3 .left) d ∙ not-true (c .before .before .before .before .args .shallow) (c .if4 .taken))
+returns-4 c = λ s t i j a w p q z x holds number placed e d. name-some (x .name) (x .known) refl λ title h. copies-pairs w z x title h p q (holds title h) number (c .before .before .before .before .args .fresh) (c .before .before .before .before .args .other) placed (c .before .before .before .if1 .left) (copies-fit (c .before .before .before .before .args .others) a title (c .before .before .before .before .args .n) p q e (omega (arith, c .before .before .if2 .left)) (λ y. omega (arith, c .before .if3 .taken)) d ∙ not-false (c .before .before .before .before .args .shallow) (c .if4 .left))
 
+-- src/plans.rt:183:1
 returns-5 : tie.Need-returns-5
-returns-5 c = λ s t i j a w p q z x holds number placed e d. name-some (x .name) (x .known) refl λ title h. copies-pairs w z x title h p q (holds title h) number (c .before .before .before .before .args .fresh) (c .before .before .before .before .args .other) placed (c .before .before .before .if1 .left) (copies-fit (c .before .before .before .before .args .others) a title (c .before .before .before .before .args .n) p q e (omega (arith, c .before .before .if2 .left)) (c .before .if3 .left) d ∙ not-false (c .before .before .before .before .args .shallow) (c .if4 .left))
+returns-5 c = λ s t i j a w p q z x holds number placed e d. name-some (x .name) (x .known) refl λ title h. copies-pairs w z x title h p q (holds title h) number (c .before .before .before .args .fresh) (c .before .before .before .args .other) placed (c .before .before .if1 .left) (copies-none (c .before .before .before .args .others) a title (c .before .before .before .args .n) p q e (omega (arith, c .before .if2 .left)) (omega (arith, c .if3 .left)) (some-left (c .before .before .before .args .others) a (w .type-scalar) (w .limits) .1))
 
 pub plan-copies-spec : {M : Type 1} → statement M
 plan-copies-spec =

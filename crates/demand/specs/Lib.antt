@@ -2,3 +2,4 @@ pub mod Claims
 pub mod Calls
 pub mod SecondCalls
 pub mod Demand
+pub mod Numbered

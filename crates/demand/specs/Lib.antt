@@ -3,3 +3,4 @@ pub mod Calls
 pub mod SecondCalls
 pub mod Demand
 pub mod Numbered
+pub mod Worked

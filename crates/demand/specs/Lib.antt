@@ -4,3 +4,4 @@ pub mod SecondCalls
 pub mod Demand
 pub mod Numbered
 pub mod Worked
+pub mod RealRun

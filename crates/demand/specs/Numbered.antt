@@ -87,20 +87,20 @@ module _ {P : ℕ → Type 0} where
 
 -- ---- records and types: 1 to 5
 
-one-ended : OfRecords ended
-one-ended = (omega arith, omega arith)
+records-ended : OfRecords ended
+records-ended = (omega arith, omega arith)
 
-one-unmarked : OfRecords unmarked
-one-unmarked = (omega arith, omega arith)
+records-unmarked : OfRecords unmarked
+records-unmarked = (omega arith, omega arith)
 
-one-outOfRange : OfRecords outOfRange
-one-outOfRange = (omega arith, omega arith)
+records-outOfRange : OfRecords outOfRange
+records-outOfRange = (omega arith, omega arith)
 
-one-oversized : OfRecords oversized
-one-oversized = (omega arith, omega arith)
+records-oversized : OfRecords oversized
+records-oversized = (omega arith, omega arith)
 
-one-tooMany : OfRecords tooMany
-one-tooMany = (omega arith, omega arith)
+records-tooMany : OfRecords tooMany
+records-tooMany = (omega arith, omega arith)
 
 module _ (s : List ℕ) where
   stops-byte : (p : ℕ) → Stops OfRecords (byte s p)
@@ -109,11 +109,11 @@ module _ (s : List ℕ) where
     where
       go : (at : ℕ) (t : Bool) (k q : ℕ) → cond t (got (getD s at 0) (suc at)) (stopped ended p) ≡ stopped k q → OfRecords k
       go at true k q e = let z : _≡_ {A = ℕ} 0 1 = cc in absurd (omega arith)
-      go at false k q e = let w : ended ≡ k = cc in rw (← w) one-ended
+      go at false k q e = let w : ended ≡ k = cc in rw (← w) records-ended
 
   stops-judged : (fits : ℕ → Bool) (p : ℕ) → Stops OfRecords (judged s fits p)
   unfolding judged
-  stops-judged fits p = stops-bind _ (stops-byte p) λ b. stops-bind _ (stops-need (fits b) outOfRange p one-outOfRange) λ _. stops-give
+  stops-judged fits p = stops-bind _ (stops-byte p) λ b. stops-bind _ (stops-need (fits b) outOfRange p records-outOfRange) λ _. stops-give
 
   stops-number : (k p : ℕ) → Stops OfRecords (number s k p)
   unfolding number
@@ -122,11 +122,11 @@ module _ (s : List ℕ) where
 
   stops-mark : (m : Mark) (p : ℕ) → Stops OfRecords (readMark s m p)
   unfolding readMark
-  stops-mark (mark a b) p = stops-bind _ (stops-byte p) λ x. stops-bind _ (stops-byte p) λ y. stops-need (eqb x a && eqb y b) unmarked p one-unmarked
+  stops-mark (mark a b) p = stops-bind _ (stops-byte p) λ x. stops-bind _ (stops-byte p) λ y. stops-need (eqb x a && eqb y b) unmarked p records-unmarked
 
   stops-dim : (p : ℕ) → Stops OfRecords (readDim s p)
   unfolding readDim
-  stops-dim p = stops-bind _ (stops-number 8 p) λ n. stops-bind _ (stops-need (eqb n ones || leb n maxSize) oversized p one-oversized) λ _. stops-give
+  stops-dim p = stops-bind _ (stops-number 8 p) λ n. stops-bind _ (stops-need (eqb n ones || leb n maxSize) oversized p records-oversized) λ _. stops-give
 
   stops-dims : (k p : ℕ) → Stops OfRecords (readDims s k p)
   unfolding readDims
@@ -174,19 +174,19 @@ module _ (s : List ℕ) where
     stops-box n p =
         stops-bind _ (stops-mark boxMark p) λ _.
         stops-bind _ (stops-byte p) λ c.
-        stops-form c stops-give (stops-bind _ (stops n) λ t. stops-give) (stops-def n p) (stops-stop one-outOfRange)
+        stops-form c stops-give (stops-bind _ (stops n) λ t. stops-give) (stops-def n p) (stops-stop records-outOfRange)
 
     stops-scalar : (n p : ℕ) → Stops OfRecords (scalarFrom s go n p)
     unfolding scalarFrom
     stops-scalar n p =
         stops-bind _ (stops-mark scalarMark p) λ _.
         stops-bind _ (stops-byte p) λ c.
-        stops-cond (eqb c boxCode) (stops-here (boxFrom s go n) (stops-box n)) (stops-bind _ (stops-orStop (kindOf c) outOfRange p one-outOfRange) λ k. stops-give)
+        stops-cond (eqb c boxCode) (stops-here (boxFrom s go n) (stops-box n)) (stops-bind _ (stops-orStop (kindOf c) outOfRange p records-outOfRange) λ k. stops-give)
 
   stops-ty : (d n : ℕ) → Stops OfRecords (readTy s d n)
   unfolding readTy
-  stops-ty zero n = stops-here (stop tooMany) λ p. stops-stop one-tooMany
-  stops-ty (suc d) zero = stops-here (stop tooMany) λ p. stops-stop one-tooMany
+  stops-ty zero n = stops-here (stop tooMany) λ p. stops-stop records-tooMany
+  stops-ty (suc d) zero = stops-here (stop tooMany) λ p. stops-stop records-tooMany
   stops-ty (suc d) (suc n) =
       stops-bind _ (stops-here (shapeFrom s) stops-shape) λ t.
       stops-bind _ (stops-here (scalarFrom s (readTy s d) n) (stops-scalar (readTy s d) (stops-ty d) n)) λ k.
@@ -230,7 +230,7 @@ module _ (s : List ℕ) where
 
   stops-opcode : (p : ℕ) → Stops OfRecords (opcodeFrom s p)
   unfolding opcodeFrom
-  stops-opcode p = stops-bind _ (stops-byte s p) λ x. stops-bind _ (stops-byte s p) λ y. stops-orStop (opcodeIn opcodes x y) unmarked p one-unmarked
+  stops-opcode p = stops-bind _ (stops-byte s p) λ x. stops-bind _ (stops-byte s p) λ y. stops-orStop (opcodeIn opcodes x y) unmarked p records-unmarked
 
   stops-argument : (c : Opcode) (p : ℕ) → Stops OfRecords (argumentFrom s c p)
   unfolding argumentFrom
@@ -286,7 +286,7 @@ listed-sheet : (n : ℕ) → isListed n ≡ true → OfSheet n
 listed-sheet n h = go (eqb n tooMany) refl (eqb n wrongScalar) refl (eqb n wrongShape) refl h
   where
     go : (a : Bool) → eqb n tooMany ≡ a → (b : Bool) → eqb n wrongScalar ≡ b → (c : Bool) → eqb n wrongShape ≡ c → (a || b || c) ≡ true → OfSheet n
-    go true x b y c z h = rw (eqb-true n tooMany x) (inl one-tooMany)
+    go true x b y c z h = rw (eqb-true n tooMany x) (inl records-tooMany)
     go false x true y c z h = rw (eqb-true n wrongScalar y) (inr (omega arith, omega arith))
     go false x false y true z h = rw (eqb-true n wrongShape z) (inr (omega arith, omega arith))
     go false x false y false z h = let z : _≡_ {A = ℕ} 0 1 = cc in absurd (omega arith)

@@ -6,7 +6,7 @@ use mathlib.Core.Bool.{true, false}
 use mathlib.Core.List.{List, [], _∷_, _++_}
 use mathlib.Core.Option.{none}
 use mathlib.Core.Path.{_≡_, refl, _∙_}
-use lib.ListN.{length}
+use lib.ListN.{length, replicate, length-replicate}
 use lib.Dec.{leb}
 use borrow.Author.Tests.{le-leb}
 use Rattle.model.specs.Types.{Dim, static, unknown, shape, num, plain, Ty, ty, inside, below}
@@ -97,6 +97,18 @@ worked-leaves result scratch room enough =
     let fits : leb (length (writeTypes workedLeft)) (length result) ≡ true = le-leb (length (writeTypes workedLeft)) (length result) (omega (arith, worked-length)) in
     record { within = (nums-within (static 3 ∷ []) (omega arith, (omega arith, tt)), tt); outcome = call-run workedBytes result scratch enough ∙ rw (worked-run, fits) }
 
+-- a buffer of zeroes
+unfoldable pub zeroes : ℕ → List ℕ
+zeroes n = replicate n 0
+
+long-enough : (n : ℕ) → n ≤ length (zeroes n)
+unfolding zeroes
+long-enough n = let l : length (replicate {A = ℕ} n 0) ≡ n = length-replicate n 0 in omega arith
+
+-- There are such buffers.
+pub worked-buffers : Leaves workedBytes (zeroes 15) (zeroes scratchBytes) workedLeft
+worked-buffers = worked-leaves (zeroes 15) (zeroes scratchBytes) (long-enough 15) (long-enough scratchBytes)
+
 -- ---- it keeps the conditions
 
 -- Of each step with the stack that it takes, as `Along` has it, but of the stack that the rules come to.
@@ -135,5 +147,5 @@ worked-through = record { fit = (refl, (tt, (refl, (tt, (refl, (tt, (tt, tt)))))
 -- ---- what the first half says of it
 
 -- The type left, [3] Num, holds the shape 3 of the real array there.
-pub worked-holds : (result scratch : List ℕ) → 15 ≤ length result → scratchBytes ≤ length scratch → EachHolds workedLeft ((3 ∷ []) ∷ [])
-worked-holds result scratch room enough = first-half workedBytes result scratch workedSteps workedLeft worked-sheet (worked-leaves result scratch room enough) worked-conditions workedFeeds ((3 ∷ []) ∷ []) worked-through
+pub worked-holds : EachHolds workedLeft ((3 ∷ []) ∷ [])
+worked-holds = first-half workedBytes (zeroes 15) (zeroes scratchBytes) workedSteps workedLeft worked-sheet worked-buffers worked-conditions workedFeeds ((3 ∷ []) ∷ []) worked-through

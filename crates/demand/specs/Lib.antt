@@ -2,3 +2,6 @@ pub mod Claims
 pub mod Calls
 pub mod SecondCalls
 pub mod Demand
+pub mod Numbered
+pub mod Worked
+pub mod RealRun

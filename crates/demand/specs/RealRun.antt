@@ -1,0 +1,167 @@
+-- The real run (document 01, "The sheet, added"): it stops only where a real pervading stops or a real shape does not fit the spec
+-- of its validation, and never for want of a shape in an accepted or well-formed sheet. It keeps as many real shapes as the sheet
+-- keeps types.
+use Prim.Native.Nat.{ℕ, suc, _≤_}
+use native.Mathlib.Omega.{arith}
+use mathlib.Core.Bool.{Bool, true, false, cond}
+use mathlib.Core.List.{List, [], _∷_, reverse}
+use mathlib.Core.Logic.{_⊎_, inl, inr}
+use mathlib.Core.Option.{Option, none, some}
+use mathlib.Core.Path.{_≡_, refl, sym, _∙_}
+use lib.ListN.{length, length-reverse}
+use Rattle.model.specs.Types.{Ty, shapeOf}
+use Rattle.format.specs.ReaderLaws.{Bytes}
+use Rattle.machine.specs.SheetLimits.{maxStack}
+use Rattle.machine.specs.Steps.{Step, put, row, pervading, join, validating, opcodeOf, takes, leaves, SheetOf}
+use Rattle.machine.specs.Run.{gives, Stack, step, steps}
+use Rattle.machine.specs.WellFormed.{WellFormed, heightAfter, typesLeft, Heights}
+use Rattle.machine.specs.Real.{RealShape, fits, realPervade, Feed, Feeds, realRow, keeps, ontoReal, realStep, goesOn, realRun}
+use Rattle.machine.specs.StepsTook.{skim-took}
+use Rattle.machine.specs.StepsHold.{following-gives}
+use Rattle.machine.specs.StepsReads.{step-room}
+use Rattle.machine.specs.SheetWorked.{step-height}
+use Rattle.machine.specs.Sheets.{left-within}
+use Rattle.demand.specs.Claims.{Leaves}
+use Rattle.demand.specs.Calls.{leaves-run}
+
+-- ---- one step
+
+-- Why a step stops, of the real shapes that it takes: a pervading of two real shapes whose real pervading stops, or a validation
+-- of one that does not fit. There is no third reason, and so none that a shape is lacking.
+abbrev pub StopsBecause : Step → List RealShape → Type 0
+StopsBecause (put t) rs = ⊥
+StopsBecause row rs = ⊥
+StopsBecause (pervading f g) [] = ⊥
+StopsBecause (pervading f g) (r ∷ []) = ⊥
+StopsBecause (pervading f g) (r ∷ q ∷ rs) = realPervade r q ≡ none
+StopsBecause join rs = ⊥
+StopsBecause (validating spec) [] = ⊥
+StopsBecause (validating spec) (r ∷ rs) = fits (shapeOf spec) r ≡ false
+
+onto-stops : (rs : List RealShape) (o : Option RealShape) → ontoReal rs o ≡ none → o ≡ none
+onto-stops rs none e = refl
+onto-stops rs (some r) e = let z : _≡_ {A = ℕ} 0 1 = cc in absurd (omega arith)
+
+unfit : (b : Bool) (rs : List RealShape) → cond b (some rs) none ≡ none → b ≡ false
+unfit true rs e = let z : _≡_ {A = ℕ} 0 1 = cc in absurd (omega arith)
+unfit false rs e = refl
+
+-- "Never lacks a shape": with at least as many real shapes as the step takes, it stops for one of the two reasons alone.
+pub step-stops : (x : Step) (u : Feed x) (rs : List RealShape) → takes (opcodeOf x) ≤ length rs → realStep x u rs ≡ none → StopsBecause x rs
+unfolding realStep
+step-stops (put t) r rs h e = let z : _≡_ {A = ℕ} 0 1 = cc in absurd (omega arith)
+step-stops row u [] h e = absurd (omega arith)
+step-stops row u (r ∷ rs) h e = let z : _≡_ {A = ℕ} 0 1 = cc in absurd (omega arith)
+step-stops (pervading f g) u [] h e = absurd (omega arith)
+step-stops (pervading f g) u (r ∷ []) h e = absurd (omega arith)
+step-stops (pervading f g) u (r ∷ q ∷ rs) h e = onto-stops rs (realPervade r q) e
+step-stops join side [] h e = absurd (omega arith)
+step-stops join side (r ∷ []) h e = absurd (omega arith)
+step-stops join side (r ∷ q ∷ rs) h e = let z : _≡_ {A = ℕ} 0 1 = cc in absurd (omega arith)
+step-stops (validating spec) u [] h e = absurd (omega arith)
+step-stops (validating spec) u (r ∷ rs) h e = unfit (fits (shapeOf spec) r) (r ∷ rs) e
+
+onto-many : (rs : List RealShape) (o : Option RealShape) (rs₁ : List RealShape) → ontoReal rs o ≡ some rs₁ → length rs₁ ≡ suc (length rs)
+onto-many rs none rs₁ e = let z : _≡_ {A = ℕ} 0 1 = cc in absurd (omega arith)
+onto-many rs (some r) rs₁ e = let w : r ∷ rs ≡ rs₁ = cc in rw (← w)
+
+fit-many : (b : Bool) (rs rs₁ : List RealShape) → cond b (some rs) none ≡ some rs₁ → length rs₁ ≡ length rs
+fit-many true rs rs₁ e = let w : rs ≡ rs₁ = cc in rw (← w)
+fit-many false rs rs₁ e = let z : _≡_ {A = ℕ} 0 1 = cc in absurd (omega arith)
+
+-- A step that goes on leaves as many real shapes as it leaves types.
+pub step-many : (x : Step) (u : Feed x) (rs rs₁ : List RealShape) → realStep x u rs ≡ some rs₁ → length rs₁ ≡ leaves (opcodeOf x) (length rs)
+unfolding realStep
+step-many (put t) r rs rs₁ e = let w : r ∷ rs ≡ rs₁ = cc in rw (← w) (omega arith)
+step-many row u [] rs₁ e = let z : _≡_ {A = ℕ} 0 1 = cc in absurd (omega arith)
+step-many row u (r ∷ rs) rs₁ e = let w : realRow r ∷ rs ≡ rs₁ = cc in rw (← w) (omega arith)
+step-many (pervading f g) u [] rs₁ e = let z : _≡_ {A = ℕ} 0 1 = cc in absurd (omega arith)
+step-many (pervading f g) u (r ∷ []) rs₁ e = let z : _≡_ {A = ℕ} 0 1 = cc in absurd (omega arith)
+step-many (pervading f g) u (r ∷ q ∷ rs) rs₁ e = omega (arith, onto-many rs (realPervade r q) rs₁ e)
+step-many join side [] rs₁ e = let z : _≡_ {A = ℕ} 0 1 = cc in absurd (omega arith)
+step-many join side (r ∷ []) rs₁ e = let z : _≡_ {A = ℕ} 0 1 = cc in absurd (omega arith)
+step-many join side (r ∷ q ∷ rs) rs₁ e = let w : keeps side r q ∷ rs ≡ rs₁ = cc in rw (← w) (omega arith)
+step-many (validating spec) u [] rs₁ e = let z : _≡_ {A = ℕ} 0 1 = cc in absurd (omega arith)
+step-many (validating spec) u (r ∷ rs) rs₁ e = omega (arith, fit-many (fits (shapeOf spec) r) (r ∷ rs) rs₁ e)
+
+-- ---- all steps
+
+-- Why a run stops: its first step stops for one of the two reasons, or it goes on and the run stops later.
+abbrev pub RunStopsBecause : (xs : List Step) → Feeds xs → List RealShape → Type 0
+RunStopsBecause [] u rs = ⊥
+RunStopsBecause (x ∷ xs) f rs = StopsBecause x rs ⊎ ((rs₁ : List RealShape) × (realStep x (f .0) rs ≡ some rs₁) × RunStopsBecause xs (f .1) rs₁)
+
+-- Where no step lacks types, the run of real shapes, as many as types, stops for these reasons alone.
+pub run-stops : (xs : List Step) (f : Feeds xs) (rs : List RealShape) → Heights xs (length rs) → realRun xs f rs ≡ none → RunStopsBecause xs f rs
+unfolding realRun
+run-stops [] u rs h e = let z : _≡_ {A = ℕ} 0 1 = cc in absurd (omega arith)
+run-stops (x ∷ xs) f rs h e = go (realStep x (f .0) rs) refl e (λ rs₁ k l. run-stops xs (f .1) rs₁ k l)
+  where
+    go : (o : Option (List RealShape)) → realStep x (f .0) rs ≡ o → goesOn o (λ rs₁. realRun xs (f .1) rs₁) ≡ none → ((rs₁ : List RealShape) → Heights xs (length rs₁) → realRun xs (f .1) rs₁ ≡ none → RunStopsBecause xs (f .1) rs₁) → RunStopsBecause (x ∷ xs) f rs
+    go none e₁ e₂ k = inl (step-stops x (f .0) rs (h .0) e₁)
+    go (some rs₁) e₁ e₂ k = inr (rs₁, e₁, k rs₁ (rw (step-many x (f .0) rs rs₁ e₁) (h .2)) e₂)
+
+-- A run that goes through leaves as many real shapes as there are types left.
+pub run-many : (xs : List Step) (f : Feeds xs) (rs left : List RealShape) → realRun xs f rs ≡ some left → length left ≡ heightAfter xs (length rs)
+unfolding realRun
+run-many [] u rs left e = let w : rs ≡ left = cc in rw (← w)
+run-many (x ∷ xs) f rs left e = go (realStep x (f .0) rs) refl e (λ rs₁ l. run-many xs (f .1) rs₁ left l)
+  where
+    go : (o : Option (List RealShape)) → realStep x (f .0) rs ≡ o → goesOn o (λ rs₁. realRun xs (f .1) rs₁) ≡ some left → ((rs₁ : List RealShape) → realRun xs (f .1) rs₁ ≡ some left → length left ≡ heightAfter xs (length rs₁)) → length left ≡ heightAfter xs (leaves (opcodeOf x) (length rs))
+    go none e₁ e₂ k = let z : _≡_ {A = ℕ} 0 1 = cc in absurd (omega arith)
+    go (some rs₁) e₁ e₂ k = rw (← step-many x (f .0) rs rs₁ e₁) (k rs₁ e₂)
+
+-- ---- a well-formed sheet
+
+module _ (s result scratch : List ℕ) (small : Bytes s) (xs : List Step) (w : WellFormed s result scratch xs) (f : Feeds xs) where
+  -- "a well-formed sheet never lacks a shape"
+  pub well-formed-stops : realRun xs f [] ≡ none → RunStopsBecause xs f []
+  well-formed-stops e = run-stops xs f [] (skim-took s small xs (w .read) .1) e
+
+  pub well-formed-many : (left : List RealShape) → realRun xs f [] ≡ some left → length left ≡ typesLeft xs
+  well-formed-many left e = run-many xs f [] left e
+
+-- ---- an accepted sheet
+
+-- A step that its rules work has all the types that it takes.
+step-takes : (x : Step) (st st₁ : Stack) → step x st ≡ gives st₁ → takes (opcodeOf x) ≤ length st
+unfolding step
+step-takes (put t) st st₁ e = omega arith
+step-takes row [] st₁ e = let z : _≡_ {A = ℕ} 0 1 = cc in absurd (omega arith)
+step-takes row (t ∷ st) st₁ e = omega arith
+step-takes (pervading f g) [] st₁ e = let z : _≡_ {A = ℕ} 0 1 = cc in absurd (omega arith)
+step-takes (pervading f g) (t ∷ []) st₁ e = let z : _≡_ {A = ℕ} 0 1 = cc in absurd (omega arith)
+step-takes (pervading f g) (t ∷ u ∷ st) st₁ e = omega arith
+step-takes join [] st₁ e = let z : _≡_ {A = ℕ} 0 1 = cc in absurd (omega arith)
+step-takes join (t ∷ []) st₁ e = let z : _≡_ {A = ℕ} 0 1 = cc in absurd (omega arith)
+step-takes join (t ∷ u ∷ st) st₁ e = omega arith
+step-takes (validating spec) [] st₁ e = let z : _≡_ {A = ℕ} 0 1 = cc in absurd (omega arith)
+step-takes (validating spec) (t ∷ st) st₁ e = omega arith
+
+-- Steps that are worked to their end lack no types and lay down none too many.
+steps-heights : (xs : List Step) (st st₁ : Stack) → length st ≤ maxStack → steps xs st ≡ gives st₁ → Heights xs (length st)
+unfolding steps
+steps-heights [] st st₁ h e = tt
+steps-heights (x ∷ xs) st st₁ h e =
+    following-gives (step x st) e λ st₂ e₁ e₂.
+    let n : length st₂ ≤ maxStack = step-room x st st₂ h e₁ in
+    let l : length st₂ ≡ leaves (opcodeOf x) (length st) = step-height x st st₂ e₁ in
+    (step-takes x st st₂ e₁, rw l at n, rw l at (steps-heights xs st₂ st₁ n e₂))
+
+-- They leave as many types as counted.
+steps-many : (xs : List Step) (st st₁ : Stack) → steps xs st ≡ gives st₁ → length st₁ ≡ heightAfter xs (length st)
+unfolding steps
+steps-many [] st st₁ e = let w : st ≡ st₁ = cc in rw (← w)
+steps-many (x ∷ xs) st st₁ e = following-gives (step x st) e λ st₂ e₁ e₂. rw (step-height x st st₂ e₁) at (steps-many xs st₂ st₁ e₂)
+
+module _ (s result scratch : List ℕ) (xs : List Step) (ts : List Ty) (sheet : SheetOf s xs) (l : Leaves s result scratch ts) (f : Feeds xs) where
+  worked : steps xs [] ≡ gives (reverse ts)
+  worked = left-within s xs ts sheet (leaves-run s result scratch xs ts sheet l) .0
+
+  -- "an accepted sheet never lacks a shape"
+  pub accepted-stops : realRun xs f [] ≡ none → RunStopsBecause xs f []
+  accepted-stops e = run-stops xs f [] (steps-heights xs [] (reverse ts) (omega arith) worked) e
+
+  -- and what gets through it leaves as many real shapes as there are types left, whatever the conditions of demand 3
+  pub accepted-many : (left : List RealShape) → realRun xs f [] ≡ some left → length left ≡ length ts
+  accepted-many left e = run-many xs f [] left e ∙ sym (steps-many xs [] (reverse ts) worked) ∙ length-reverse ts

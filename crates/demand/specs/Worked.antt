@@ -1,0 +1,151 @@
+-- The first half of demand 3 is not empty: one sheet with all five steps, written as steps and as bytes, that the call accepts,
+-- that keeps every condition, and that real arrays get through; and what the first half then says of it.
+use Prim.Native.Nat.{ℕ, _≤_}
+use native.Mathlib.Omega.{arith}
+use mathlib.Core.Bool.{true, false}
+use mathlib.Core.List.{List, [], _∷_, _++_}
+use mathlib.Core.Option.{none}
+use mathlib.Core.Path.{_≡_, refl, _∙_}
+use lib.ListN.{length, replicate, length-replicate}
+use lib.Dec.{leb}
+use borrow.Author.Tests.{le-leb}
+use Rattle.model.specs.Types.{Dim, static, unknown, shape, num, plain, Ty, ty, inside, below}
+use Rattle.model.specs.Within.{DimsWithin, Within}
+use Rattle.format.specs.Reader.{byte, judged, number, bytesOf}
+use Rattle.format.specs.Records.{code, kindOf, writeShape, writeScalar, writeTy, readMark, readDim, readDims, shapeFrom, scalarFrom, readTy}
+use Rattle.format.specs.Outcome.{accepted}
+use Rattle.rules.specs.Sizes.{cmpDim, larger, compatible, joinDim}
+use Rattle.rules.specs.Shapes.{isAny, rowShape, mergeDims, mergeClosing, mergeFrom, joinDims, joinClosing, joinShapes}
+use Rattle.rules.specs.Order.{codeOf}
+use Rattle.rules.specs.Scalars.{supersetCodes, supersetOf, union}
+use Rattle.rules.specs.Pervade.{together, pervadeDims, pervadeClosing, pervade}
+use Rattle.rules.specs.Types.{joinTypes, whollyAny, rowScalar, rowBy}
+use Rattle.validation.specs.CheckShape.{agree, mismatch, shapeMismatch, sidedShape, checkShape}
+use Rattle.validation.specs.CheckScalar.{checkScalar}
+use Rattle.validation.specs.Validate.{validate}
+use Rattle.machine.specs.SheetLimits.{scratchBytes}
+use Rattle.machine.specs.Steps.{Step, put, row, pervading, join, validating, writeSteps, SheetOf}
+use Rattle.machine.specs.Run.{Answer, gives, refuses, Stack, pervadeTypes, step}
+use Rattle.machine.specs.Sheet.{opcodeFrom, argumentFrom, stepFrom, workFrom, sheetFrom, sheetRun}
+use Rattle.machine.specs.Call.{writeTypes, handOver}
+use Rattle.machine.specs.Real.{fits, realPervade, theOneBelow, Feeds, realStep, realRun, Through}
+use Rattle.machine.specs.Conditions.{RowsNoOpenDef, JoinsAlike, Along}
+use Rattle.demand.specs.Claims.{Leaves, FirstConditions, EachHolds}
+use Rattle.demand.specs.Calls.{call-run}
+use Rattle.demand.specs.Demand.{first-half}
+
+-- ---- the sheet
+
+-- Num of some sizes
+abbrev nums : List Dim → Ty
+nums ds = ty (shape ds none) (plain num)
+
+-- put [2 ?] Num, row, put [3] Num, pervade 0, put [4] Num, join, validate [3] Num
+abbrev pub workedSteps : List Step
+workedSteps = put (nums (static 2 ∷ unknown ∷ [])) ∷ row ∷ put (nums (static 3 ∷ [])) ∷ pervading false false ∷ put (nums (static 4 ∷ [])) ∷ join ∷ validating (nums (static 3 ∷ [])) ∷ []
+
+-- the record of [n] Num, for n below 256
+abbrev oneSize : ℕ → List ℕ
+oneSize n = 0x53 ∷ 0x48 ∷ 0x01 ∷ 0xFF ∷ n ∷ 0 ∷ 0 ∷ 0 ∷ 0 ∷ 0 ∷ 0 ∷ 0 ∷ 0x53 ∷ 0x43 ∷ 0x03 ∷ []
+
+abbrev pub workedBytes : List ℕ
+workedBytes =
+    (0x50 ∷ 0x55 ∷ 0x53 ∷ 0x48 ∷ 0x02 ∷ 0xFF ∷ 0x02 ∷ 0 ∷ 0 ∷ 0 ∷ 0 ∷ 0 ∷ 0 ∷ 0 ∷ 0xFF ∷ 0xFF ∷ 0xFF ∷ 0xFF ∷ 0xFF ∷ 0xFF ∷ 0xFF ∷ 0xFF ∷ 0x53 ∷ 0x43 ∷ 0x03 ∷ [])
+    ++ ((0x52 ∷ 0x57 ∷ [])
+    ++ ((0x50 ∷ 0x55 ∷ oneSize 3)
+    ++ ((0x50 ∷ 0x56 ∷ 0x00 ∷ [])
+    ++ ((0x50 ∷ 0x55 ∷ oneSize 4)
+    ++ ((0x4A ∷ 0x4E ∷ [])
+    ++ (0x56 ∷ 0x41 ∷ oneSize 3))))))
+
+-- the type left: [3] Num
+abbrev pub workedLeft : List Ty
+workedLeft = nums (static 3 ∷ []) ∷ []
+
+-- the real arrays: of shapes 2 3, 3 and 4, and the join keeps the one below
+abbrev pub workedFeeds : Feeds workedSteps
+workedFeeds = (2 ∷ 3 ∷ [], (tt, (3 ∷ [], (tt, (4 ∷ [], (theOneBelow, (tt, tt)))))))
+
+-- ---- it is a sheet
+
+nums-within : (ds : List Dim) → DimsWithin ds → Within (nums ds)
+unfolding inside below
+nums-within ds h = record { records = ((h, tt), tt); few = omega arith; shallow = omega arith }
+
+pub worked-sheet : SheetOf workedBytes workedSteps
+unfolding bytesOf code writeShape writeScalar writeTy writeSteps
+worked-sheet = record {
+  bytes = refl;
+  within = (nums-within (static 2 ∷ unknown ∷ []) (omega arith, (omega arith, (tt, tt))), (tt, (nums-within (static 3 ∷ []) (omega arith, (omega arith, tt)), (tt, (nums-within (static 4 ∷ []) (omega arith, (omega arith, tt)), (tt, (nums-within (static 3 ∷ []) (omega arith, (omega arith, tt)), tt)))))));
+  few = omega arith;
+}
+
+-- ---- it is accepted
+
+worked-run : sheetRun workedBytes ≡ accepted workedLeft
+unfolding inside below byte judged number code kindOf readMark readDim readDims shapeFrom scalarFrom readTy cmpDim larger compatible joinDim isAny rowShape mergeDims mergeClosing mergeFrom joinDims joinClosing joinShapes codeOf supersetCodes supersetOf union together pervadeDims pervadeClosing pervade joinTypes whollyAny rowScalar rowBy agree mismatch shapeMismatch sidedShape checkShape checkScalar validate pervadeTypes step opcodeFrom argumentFrom stepFrom workFrom sheetFrom sheetRun
+worked-run = refl
+
+worked-length : length (writeTypes workedLeft) ≡ 15
+unfolding bytesOf code writeShape writeScalar writeTy writeTypes
+worked-length = refl
+
+-- With any result of at least 15 bytes, which the type left takes, and any scratch that is long enough.
+pub worked-leaves : (result scratch : List ℕ) → 15 ≤ length result → scratchBytes ≤ length scratch → Leaves workedBytes result scratch workedLeft
+unfolding handOver
+worked-leaves result scratch room enough =
+    let fits : leb (length (writeTypes workedLeft)) (length result) ≡ true = le-leb (length (writeTypes workedLeft)) (length result) (omega (arith, worked-length)) in
+    record { within = (nums-within (static 3 ∷ []) (omega arith, (omega arith, tt)), tt); outcome = call-run workedBytes result scratch enough ∙ rw (worked-run, fits) }
+
+-- a buffer of zeroes
+unfoldable pub zeroes : ℕ → List ℕ
+zeroes n = replicate n 0
+
+long-enough : (n : ℕ) → n ≤ length (zeroes n)
+unfolding zeroes
+long-enough n = let l : length (replicate {A = ℕ} n 0) ≡ n = length-replicate n 0 in omega arith
+
+-- There are such buffers.
+pub worked-buffers : Leaves workedBytes (zeroes 15) (zeroes scratchBytes) workedLeft
+worked-buffers = worked-leaves (zeroes 15) (zeroes scratchBytes) (long-enough 15) (long-enough scratchBytes)
+
+-- ---- it keeps the conditions
+
+-- Of each step with the stack that it takes, as `Along` has it, but of the stack that the rules come to.
+abbrev onGives : Answer Stack → (Stack → Type 0) → Type 0
+onGives (gives st) Q = Q st
+onGives (refuses k) Q = Unit {0}
+
+abbrev AsWorked : (Step → Stack → Type 0) → List Step → Stack → Type 0
+AsWorked P [] st = Unit {0}
+AsWorked P (x ∷ xs) st = P x st × onGives (step x st) λ st₁. AsWorked P xs st₁
+
+given : (a : Answer Stack) (Q : Stack → Type 0) (st : Stack) → a ≡ gives st → onGives a Q → Q st
+given (gives st₁) Q st e h = let w : st₁ ≡ st = cc in rw (← w) h
+given (refuses k) Q st e h = let z : _≡_ {A = ℕ} 0 1 = cc in absurd (omega arith)
+
+as-worked : (P : Step → Stack → Type 0) (xs : List Step) (st : Stack) → AsWorked P xs st → Along P xs st
+as-worked P [] st h = tt
+as-worked P (x ∷ xs) st h = (h .0, λ st₁ e. as-worked P xs st₁ (given (step x st) (λ st₂. AsWorked P xs st₂) st₁ e (h .1)))
+
+-- The row is of [2 ?] Num, no Def; the join is of [4] and [3], closed and of one size each.
+pub worked-conditions : FirstConditions workedSteps
+unfolding inside below code cmpDim larger compatible joinDim isAny rowShape mergeDims mergeClosing mergeFrom joinDims joinClosing joinShapes codeOf supersetCodes supersetOf union together pervadeDims pervadeClosing pervade joinTypes whollyAny rowScalar rowBy agree mismatch shapeMismatch sidedShape checkShape checkScalar validate pervadeTypes step
+worked-conditions = record {
+  names-no-closing = (refl, (tt, (refl, (tt, (refl, (tt, (refl, tt)))))));
+  fills-nothing = (tt, (tt, (tt, (refl, (tt, (tt, (tt, tt)))))));
+  rows-no-open-def = as-worked RowsNoOpenDef workedSteps [] (tt, (refl, (tt, (tt, (tt, (tt, (tt, tt)))))));
+  joins-alike = as-worked JoinsAlike workedSteps [] (tt, (tt, (tt, (tt, (tt, (refl, (tt, tt)))))));
+}
+
+-- ---- real arrays get through
+
+pub worked-through : Through workedSteps workedFeeds ((3 ∷ []) ∷ [])
+unfolding fits realPervade realStep realRun
+worked-through = record { fit = (refl, (tt, (refl, (tt, (refl, (tt, (tt, tt))))))); run = refl }
+
+-- ---- what the first half says of it
+
+-- The type left, [3] Num, holds the shape 3 of the real array there.
+pub worked-holds : EachHolds workedLeft ((3 ∷ []) ∷ [])
+worked-holds = first-half workedBytes (zeroes 15) (zeroes scratchBytes) workedSteps workedLeft worked-sheet worked-buffers worked-conditions workedFeeds ((3 ∷ []) ∷ []) worked-through

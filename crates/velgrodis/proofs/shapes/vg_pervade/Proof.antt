@@ -11,6 +11,9 @@ use borrow.Author.Needs.{needs}
 use Rattle.velgrodis.proofs.shapes.vg_pervade.Statement.{statement}
 use Rattle.velgrodis.proofs.shapes.vg_pervade.Tie as tie
 
+cast-if1 : tie.Need-cast-if1
+cast-if1 c = search needs
+
 refuse-requires : tie.Need-refuse-requires
 refuse-requires c κs = search needs
 
@@ -32,4 +35,4 @@ returns-2 c = let s = c .before .before .before .before .before .before .before 
 pub vg-pervade-spec : {M : Type 1} → statement M
 vg-pervade-spec =
     tie.close
-    (tie.spec refuse-requires returns pervade-requires of-written-requires same-length returns-2)
+    (tie.spec cast-if1 refuse-requires returns pervade-requires of-written-requires same-length returns-2)

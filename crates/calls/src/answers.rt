@@ -34,14 +34,14 @@ pub enum Answer {
 }
 
 // What a call wrote to its result.
-pub fn delivered(written: Written) -> Answer {
+pub(crate) fn delivered(written: Written) -> Answer {
     match written {
         Written::Wrote(n) => Answer::Bytes(n),
         Written::Refused { number, place } => Answer::Refused { number, place },
     }
 }
 
-pub fn listed(answer: Boxes) -> Answer {
+pub(crate) fn listed(answer: Boxes) -> Answer {
     match answer {
         Boxes::Wrote(n) => Answer::Bytes(n),
         Boxes::Nothing => Answer::Nothing,
@@ -49,7 +49,7 @@ pub fn listed(answer: Boxes) -> Answer {
     }
 }
 
-pub fn tested(answer: Tested) -> Answer {
+pub(crate) fn tested(answer: Tested) -> Answer {
     match answer {
         Tested::Yes => Answer::Number(1),
         Tested::No => Answer::Number(0),
@@ -57,7 +57,7 @@ pub fn tested(answer: Tested) -> Answer {
     }
 }
 
-pub fn compared(answer: Comparison) -> Answer {
+pub(crate) fn compared(answer: Comparison) -> Answer {
     match answer {
         Comparison::Less => Answer::Less,
         Comparison::Same => Answer::Number(0),
@@ -66,21 +66,21 @@ pub fn compared(answer: Comparison) -> Answer {
     }
 }
 
-pub fn sized(answer: Counted) -> Answer {
+pub(crate) fn sized(answer: Counted) -> Answer {
     match answer {
         Counted::Count(n) => Answer::Size(n),
         Counted::Refused { number, place } => Answer::Refused { number, place },
     }
 }
 
-pub fn counted(answer: Counted) -> Answer {
+pub(crate) fn counted(answer: Counted) -> Answer {
     match answer {
         Counted::Count(n) => Answer::Number(n),
         Counted::Refused { number, place } => Answer::Refused { number, place },
     }
 }
 
-pub fn ordered(answer: Compared) -> Answer {
+pub(crate) fn ordered(answer: Compared) -> Answer {
     match answer {
         Compared::Ordered(order) => sign(order),
         Compared::Refused { number, place } => Answer::Refused { number, place },
@@ -97,7 +97,7 @@ fn sign(order: Order) -> Answer {
 
 // One line, after the answers that stand in `out` up to `end`. Answers where it ends. Apart from what stands in the result
 // a line takes less than 64 bytes.
-pub fn say(answer: Answer, result: &[u8], out: &mut [u8], end: usize) -> usize {
+pub(crate) fn say(answer: Answer, result: &[u8], out: &mut [u8], end: usize) -> usize {
     let at = room_for(64, &*out, end);
     match answer {
         Answer::Bytes(n) => say_bytes(part(result, 0, n), out, at),
@@ -116,7 +116,7 @@ pub fn say(answer: Answer, result: &[u8], out: &mut [u8], end: usize) -> usize {
 }
 
 // Writes what stands in `out` up to `end`.
-pub fn flush(out: &[u8], end: usize) {
+pub(crate) fn flush(out: &[u8], end: usize) {
     io::write_all(1, part(out, 0, end));
 }
 
@@ -210,7 +210,7 @@ fn put_number(before: &[u8], n: u64, behind: &[u8], out: &mut [u8], at: usize) -
     put(behind, out, end)
 }
 
-pub fn put(bytes: &[u8], out: &mut [u8], at: usize) -> usize {
+pub(crate) fn put(bytes: &[u8], out: &mut [u8], at: usize) -> usize {
     after(put_bytes(bytes, out, at))
 }
 
@@ -225,7 +225,7 @@ fn room_for(n: usize, out: &[u8], end: usize) -> usize {
     0
 }
 
-pub fn after(placed: Placed) -> usize {
+pub(crate) fn after(placed: Placed) -> usize {
     match placed {
         Placed::To(next) => next,
         Placed::NoRoom => 0,

@@ -7,7 +7,7 @@ use text::decode_hex;
 use text::parse_decimal;
 
 // HEX: bytes in hexadecimal, or a dash for none, into `input` from `at` on.
-pub fn hex(word: &[u8], input: &mut [u8], at: usize) -> Decoded {
+pub(crate) fn hex(word: &[u8], input: &mut [u8], at: usize) -> Decoded {
     if same(word, b"-") {
         return Decoded::To(at);
     }
@@ -21,7 +21,7 @@ pub enum Both {
 }
 
 // HEX HEX, into `input` from its front on.
-pub fn two_hex(a: &[u8], b: &[u8], input: &mut [u8]) -> Both {
+pub(crate) fn two_hex(a: &[u8], b: &[u8], input: &mut [u8]) -> Both {
     let first = hex(a, &mut *input, 0);
     let Decoded::To(middle) = first else {
         return Both::Other;
@@ -34,7 +34,7 @@ pub fn two_hex(a: &[u8], b: &[u8], input: &mut [u8]) -> Both {
 }
 
 // N: a decimal number, at most `most`.
-pub fn decimal(word: &[u8], most: u64) -> Number {
+pub(crate) fn decimal(word: &[u8], most: u64) -> Number {
     let parsed = parse_decimal(word);
     if let Number::Value(n) = parsed {
         if n <= most {
@@ -45,7 +45,7 @@ pub fn decimal(word: &[u8], most: u64) -> Number {
 }
 
 // A size: a decimal number, or ? for unknown.
-pub fn size(word: &[u8]) -> Number {
+pub(crate) fn size(word: &[u8]) -> Number {
     if same(word, b"?") {
         return Number::Value(UNKNOWN);
     }

@@ -19,7 +19,7 @@ pub struct Taken {
 }
 
 // Answers the lines that end in a piece, and holds the rest of it.
-pub fn feed(
+pub(crate) fn feed(
     piece: &[u8],
     line: &mut [u8],
     held: usize,
@@ -49,7 +49,7 @@ pub fn feed(
 }
 
 // The last line may lack its line feed.
-pub fn last_line(
+pub(crate) fn last_line(
     line: &[u8],
     held: usize,
     input: &mut [u8],

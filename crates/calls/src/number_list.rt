@@ -12,11 +12,11 @@ use crate::words::find;
 use crate::words::start;
 use val::nums_scalar;
 
-pub fn number(name: &[u8]) -> Found {
+pub(crate) fn number(name: &[u8]) -> Found {
     find(b"nums_scalar", name)
 }
 
-pub fn answered(line: &[u8], result: &mut [u8]) -> Answer {
+pub(crate) fn answered(line: &[u8], result: &mut [u8]) -> Answer {
     if count(line) == 0 {
         return Answer::Bad(fault::WORDS);
     }

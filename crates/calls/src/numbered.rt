@@ -15,11 +15,11 @@ use text::parse_decimal;
 use ty::into_nth_row;
 
 // In the order of `call`'s arms.
-pub fn number(name: &[u8]) -> Found {
+pub(crate) fn number(name: &[u8]) -> Found {
     find(b"nth_row field", name)
 }
 
-pub fn answered(k: usize, line: &[u8], input: &mut [u8], result: &mut [u8]) -> Answer {
+pub(crate) fn answered(k: usize, line: &[u8], input: &mut [u8], result: &mut [u8]) -> Answer {
     if count(line) != 3 {
         return Answer::Bad(fault::WORDS);
     }

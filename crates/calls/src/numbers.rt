@@ -22,7 +22,7 @@ pub enum Listed {
 }
 
 // The words of a line from a place on, as numbers.
-pub fn parse_numbers(line: &[u8], from: usize, list: &mut [f64]) -> Listed {
+pub(crate) fn parse_numbers(line: &[u8], from: usize, list: &mut [f64]) -> Listed {
     let mut n = 0usize;
     let mut at = from;
     while at < line.len() {
@@ -42,21 +42,21 @@ pub fn parse_numbers(line: &[u8], from: usize, list: &mut [f64]) -> Listed {
 }
 
 // The first n numbers, where there are so many.
-pub fn first_numbers(list: &[f64], n: usize) -> &[f64] {
+pub(crate) fn first_numbers(list: &[f64], n: usize) -> &[f64] {
     if n <= list.len() {
         return &list[0..n];
     }
     list
 }
 
-pub fn of_bits(bits: u64) -> f64 {
+pub(crate) fn of_bits(bits: u64) -> f64 {
     if INFINITY_BITS < bits % SIGN {
         return 0.0 / 0.0;
     }
     f64::from_bits(bits)
 }
 
-pub fn bits_of(x: f64) -> u64 {
+pub(crate) fn bits_of(x: f64) -> u64 {
     // Only a NaN differs from itself.
     if x != x {
         return NAN_BITS;

@@ -29,14 +29,14 @@ use ty::into_row;
 use ty::unboxed;
 
 // In the order of `call`'s arms.
-pub fn number(name: &[u8]) -> Found {
+pub(crate) fn number(name: &[u8]) -> Found {
     find(
         b"read row_shape shape_is_any shape_is_scalar row_count rank row first_row last_row unboxed as_boxes unrefine",
         name,
     )
 }
 
-pub fn answered(k: usize, line: &[u8], input: &mut [u8], result: &mut [u8]) -> Answer {
+pub(crate) fn answered(k: usize, line: &[u8], input: &mut [u8], result: &mut [u8]) -> Answer {
     if count(line) != 2 {
         return Answer::Bad(fault::WORDS);
     }

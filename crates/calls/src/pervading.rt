@@ -14,11 +14,11 @@ use limits::MAX_FLAG;
 use shape_calls::pervade;
 use text::Number;
 
-pub fn number(name: &[u8]) -> Found {
+pub(crate) fn number(name: &[u8]) -> Found {
     find(b"pervade", name)
 }
 
-pub fn answered(line: &[u8], input: &mut [u8], result: &mut [u8]) -> Answer {
+pub(crate) fn answered(line: &[u8], input: &mut [u8], result: &mut [u8]) -> Answer {
     if count(line) != 4 {
         return Answer::Bad(fault::WORDS);
     }

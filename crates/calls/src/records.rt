@@ -16,13 +16,13 @@ use writer::scalar_record;
 use writer::shape_record;
 
 // In the order of `call`'s arms.
-pub fn number(name: &[u8]) -> Found {
+pub(crate) fn number(name: &[u8]) -> Found {
     find(b"write_shape write_scalar", name)
 }
 
 const MAX_ROOM: u64 = 65536;
 
-pub fn answered(k: usize, line: &[u8], input: &mut [u8], result: &mut [u8]) -> Answer {
+pub(crate) fn answered(k: usize, line: &[u8], input: &mut [u8], result: &mut [u8]) -> Answer {
     if count(line) != 3 {
         return Answer::Bad(fault::WORDS);
     }

@@ -15,7 +15,7 @@ use crate::values;
 use crate::words::Found;
 use crate::words::nth;
 
-pub fn answered(line: &[u8], input: &mut [u8], result: &mut [u8]) -> Answer {
+pub(crate) fn answered(line: &[u8], input: &mut [u8], result: &mut [u8]) -> Answer {
     if MAX_LINE < line.len() {
         return Answer::Bad(fault::LONG);
     }

@@ -21,11 +21,11 @@ use text::Number;
 const MAX_ROOM: u64 = 65536;
 
 // In the order of `answered`'s arms.
-pub fn number(name: &[u8]) -> Found {
+pub(crate) fn number(name: &[u8]) -> Found {
     find(b"sheet sheet_call", name)
 }
 
-pub fn answered(k: usize, line: &[u8], input: &mut [u8], result: &mut [u8]) -> Answer {
+pub(crate) fn answered(k: usize, line: &[u8], input: &mut [u8], result: &mut [u8]) -> Answer {
     match k {
         0 => whole(line, input, result),
         1 => lent(line, input, result),

@@ -14,11 +14,11 @@ use validate::check_shape;
 use validate::validate;
 
 // In the order of `call`'s arms.
-pub fn number(name: &[u8]) -> Found {
+pub(crate) fn number(name: &[u8]) -> Found {
     find(b"validate check_shape", name)
 }
 
-pub fn answered(k: usize, line: &[u8], input: &mut [u8], result: &mut [u8]) -> Answer {
+pub(crate) fn answered(k: usize, line: &[u8], input: &mut [u8], result: &mut [u8]) -> Answer {
     if count(line) != 4 {
         return Answer::Bad(fault::WORDS);
     }

@@ -8,7 +8,7 @@ use record::Dims;
 use text::put_decimal;
 
 // The text is put into the result.
-pub fn list_sizes(dims: Dims, result: &mut [u8]) -> Answer {
+pub(crate) fn list_sizes(dims: Dims, result: &mut [u8]) -> Answer {
     let count = dims.count;
     let sizes = dims.sizes;
     let mut end = after(put_decimal(count as u64, &mut *result, 0));

@@ -18,14 +18,14 @@ use shape_calls::dim_row_compatible;
 use text::Number;
 
 // In the order of `call`'s arms.
-pub fn number(name: &[u8]) -> Found {
+pub(crate) fn number(name: &[u8]) -> Found {
     find(
         b"dim_cmp dim_cmp_defined dim_max dim_join dim_compatible dim_row_compatible",
         name,
     )
 }
 
-pub fn answered(k: usize, line: &[u8]) -> Answer {
+pub(crate) fn answered(k: usize, line: &[u8]) -> Answer {
     if count(line) != 3 {
         return Answer::Bad(fault::WORDS);
     }

@@ -23,14 +23,14 @@ use shape_calls::merge;
 use validate::check_scalar;
 
 // In the order of `call`'s arms.
-pub fn number(name: &[u8]) -> Found {
+pub(crate) fn number(name: &[u8]) -> Found {
     find(
         b"merge join_shapes compatible_shapes superset compatible_scalars compatible_with_boxes compare union join check_scalar",
         name,
     )
 }
 
-pub fn answered(k: usize, line: &[u8], input: &mut [u8], result: &mut [u8]) -> Answer {
+pub(crate) fn answered(k: usize, line: &[u8], input: &mut [u8], result: &mut [u8]) -> Answer {
     if count(line) != 3 {
         return Answer::Bad(fault::WORDS);
     }

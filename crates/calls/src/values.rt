@@ -38,7 +38,7 @@ use val::spec;
 use val::ty;
 
 // In the order of `call`'s arms.
-pub fn number(name: &[u8]) -> Found {
+pub(crate) fn number(name: &[u8]) -> Found {
     find(
         b"val_ty val_spec val_scalar val_row_count val_rank val_row val_first_row val_last_row as_dim as_dims",
         name,
@@ -55,7 +55,7 @@ enum Handed {
     Bad(usize),
 }
 
-pub fn answered(k: usize, line: &[u8], input: &mut [u8], result: &mut [u8]) -> Answer {
+pub(crate) fn answered(k: usize, line: &[u8], input: &mut [u8], result: &mut [u8]) -> Answer {
     let mut list = [0.0f64; MAX_NUMBERS];
     let handed = hand_in(line, &mut list, &mut *input);
     match handed {

@@ -10,7 +10,7 @@ pub enum Found {
 }
 
 // How many words a text has, or 0 where one of them is empty.
-pub fn count(text: &[u8]) -> usize {
+pub(crate) fn count(text: &[u8]) -> usize {
     let mut n = 0usize;
     let mut at = 0usize;
     while at <= text.len() {
@@ -25,7 +25,7 @@ pub fn count(text: &[u8]) -> usize {
 }
 
 // The k-th word, from 0.
-pub fn nth(text: &[u8], k: usize) -> &[u8] {
+pub(crate) fn nth(text: &[u8], k: usize) -> &[u8] {
     let at = start(text, k);
     if at <= text.len() {
         return part(text, at, find_space(text, at));
@@ -34,7 +34,7 @@ pub fn nth(text: &[u8], k: usize) -> &[u8] {
 }
 
 // Where the k-th word starts. Past the text's end, where it has fewer.
-pub fn start(text: &[u8], k: usize) -> usize {
+pub(crate) fn start(text: &[u8], k: usize) -> usize {
     let mut left = k;
     let mut at = 0usize;
     while at <= text.len() {
@@ -48,7 +48,7 @@ pub fn start(text: &[u8], k: usize) -> usize {
 }
 
 // Where the word that starts at a place ends.
-pub fn find_space(text: &[u8], from: usize) -> usize
+pub(crate) fn find_space(text: &[u8], from: usize) -> usize
     requires { ⌜ from ≤ length (now text) ⌝ }
     ensures { λ r. ⌜ (from ≤ r) × (r ≤ length (now (text .entry))) ⌝ }
 {
@@ -62,7 +62,7 @@ pub fn find_space(text: &[u8], from: usize) -> usize
     i
 }
 
-pub fn find(list: &[u8], word: &[u8]) -> Found {
+pub(crate) fn find(list: &[u8], word: &[u8]) -> Found {
     let mut k = 0usize;
     let mut at = 0usize;
     while at <= list.len() {
@@ -77,7 +77,7 @@ pub fn find(list: &[u8], word: &[u8]) -> Found {
 }
 
 // The bytes from a place up to another, where both are places of s.
-pub fn part(s: &[u8], from: usize, to: usize) -> &[u8] {
+pub(crate) fn part(s: &[u8], from: usize, to: usize) -> &[u8] {
     if from <= to {
         if to <= s.len() {
             return &s[from..to];
@@ -87,7 +87,7 @@ pub fn part(s: &[u8], from: usize, to: usize) -> &[u8] {
 }
 
 // The first n bytes, where there are so many.
-pub fn front(s: &mut [u8], n: usize) -> &mut [u8] {
+pub(crate) fn front(s: &mut [u8], n: usize) -> &mut [u8] {
     if n <= s.len() {
         return &mut s[..n];
     }

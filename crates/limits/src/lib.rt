@@ -1,5 +1,6 @@
-// Every limit of a type, every code and every refusal number, named once for all code. What a sheet may have is named in `stack`
+// Every limit of a type, every code, every mark and every refusal number, named once for all code. What a sheet may have is named in `stack`
 // (types held, scratch), `run` (steps) and `printer` (bytes of a sheet).
+pub mod marks;
 pub mod refusal;
 
 // The largest static size, 2^53, and the number that stands for an unknown one.

@@ -1,18 +1,14 @@
 // Answers, rendered as lines into the output, which is written in large pieces.
 use crate::words::nth;
 use crate::words::part;
-use lent::Written;
 use limits::UNKNOWN;
-use order::Comparison;
-use shape::Order;
-use shape_calls::Compared;
-use shape_calls::Counted;
-use shape_calls::Tested;
 use text::Placed;
 use text::put_bytes;
 use text::put_decimal;
 use text::put_hex;
-use ty::Boxes;
+use velgrodis::Answer as Crossed;
+use velgrodis::NOTHING;
+use velgrodis::VALUE;
 ghost use mathlib.Core.Path.{_≡_};
 ghost use Prim.Native.Nat.{min};
 
@@ -29,69 +25,57 @@ pub enum Answer {
     Line(usize),
     Less,
     Nothing,
-    Refused { number: u8, place: usize },
+    Refused { number: u64, place: u64 },
     Bad(usize),
 }
 
 // What a call wrote to its result.
-pub(crate) fn delivered(written: Written) -> Answer {
-    match written {
-        Written::Wrote(n) => Answer::Bytes(n),
-        Written::Refused { number, place } => Answer::Refused { number, place },
+pub(crate) fn delivered(a: Crossed) -> Answer {
+    if a.kind == VALUE {
+        return Answer::Bytes(a.first as usize);
     }
+    without_value(a)
 }
 
-pub(crate) fn listed(answer: Boxes) -> Answer {
-    match answer {
-        Boxes::Wrote(n) => Answer::Bytes(n),
-        Boxes::Nothing => Answer::Nothing,
-        Boxes::Refused { number, place } => Answer::Refused { number, place },
+// A number: a count, or 1 and 0 for yes and no.
+pub(crate) fn counted(a: Crossed) -> Answer {
+    if a.kind == VALUE {
+        return Answer::Number(a.first);
     }
+    without_value(a)
 }
 
-pub(crate) fn tested(answer: Tested) -> Answer {
-    match answer {
-        Tested::Yes => Answer::Number(1),
-        Tested::No => Answer::Number(0),
-        Tested::Refused { number, place } => Answer::Refused { number, place },
+pub(crate) fn sized(a: Crossed) -> Answer {
+    if a.kind == VALUE {
+        return Answer::Size(a.first);
     }
+    without_value(a)
 }
 
-pub(crate) fn compared(answer: Comparison) -> Answer {
-    match answer {
-        Comparison::Less => Answer::Less,
-        Comparison::Same => Answer::Number(0),
-        Comparison::More => Answer::Number(1),
-        Comparison::Refused { number, place } => Answer::Refused { number, place },
+// An order, which is 0 for less, 1 for the same and 2 for more.
+pub(crate) fn compared(a: Crossed) -> Answer {
+    if a.kind == VALUE {
+        return sign(a.first);
     }
+    without_value(a)
 }
 
-pub(crate) fn sized(answer: Counted) -> Answer {
-    match answer {
-        Counted::Count(n) => Answer::Size(n),
-        Counted::Refused { number, place } => Answer::Refused { number, place },
-    }
-}
-
-pub(crate) fn counted(answer: Counted) -> Answer {
-    match answer {
-        Counted::Count(n) => Answer::Number(n),
-        Counted::Refused { number, place } => Answer::Refused { number, place },
-    }
-}
-
-pub(crate) fn ordered(answer: Compared) -> Answer {
-    match answer {
-        Compared::Ordered(order) => sign(order),
-        Compared::Refused { number, place } => Answer::Refused { number, place },
-    }
-}
-
-fn sign(order: Order) -> Answer {
+fn sign(order: u64) -> Answer {
     match order {
-        Order::Less => Answer::Less,
-        Order::Same => Answer::Number(0),
-        Order::More => Answer::Number(1),
+        0 => Answer::Less,
+        1 => Answer::Number(0),
+        _ => Answer::Number(1),
+    }
+}
+
+// The refusal, or none.
+pub(crate) fn without_value(a: Crossed) -> Answer {
+    if a.kind == NOTHING {
+        return Answer::Nothing;
+    }
+    Answer::Refused {
+        number: a.number,
+        place: a.place,
     }
 }
 
@@ -191,9 +175,9 @@ fn say_line(text: &[u8], out: &mut [u8], start: usize) -> usize {
     put(b"\n", out, room)
 }
 
-fn say_refused(number: u8, place: usize, out: &mut [u8], at: usize) -> usize {
-    let second = put_number(b"no ", number as u64, b" ", &mut *out, at);
-    put_number(b"", place as u64, b"\n", out, second)
+fn say_refused(number: u64, place: u64, out: &mut [u8], at: usize) -> usize {
+    let second = put_number(b"no ", number, b" ", &mut *out, at);
+    put_number(b"", place, b"\n", out, second)
 }
 
 fn say_bad(fault: usize, out: &mut [u8], at: usize) -> usize {

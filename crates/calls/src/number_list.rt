@@ -10,7 +10,7 @@ use crate::words::Found;
 use crate::words::count;
 use crate::words::find;
 use crate::words::start;
-use val::nums_scalar;
+use velgrodis::vg_nums_scalar;
 
 pub(crate) fn number(name: &[u8]) -> Found {
     find(b"nums_scalar", name)
@@ -25,5 +25,5 @@ pub(crate) fn answered(line: &[u8], result: &mut [u8]) -> Answer {
     let Listed::Count(n) = read else {
         return Answer::Bad(fault::HEX);
     };
-    delivered(nums_scalar(first_numbers(&list, n), result))
+    delivered(vg_nums_scalar(first_numbers(&list, n), result))
 }

@@ -1,6 +1,7 @@
 // NAME N HEX: requests with a number on one type.
 use crate::answers::Answer;
 use crate::answers::delivered;
+use crate::answers::without_value;
 use crate::arguments::hex;
 use crate::fault;
 use crate::words::Found;
@@ -12,7 +13,9 @@ use lent::hand_over;
 use text::Decoded;
 use text::Number;
 use text::parse_decimal;
-use ty::into_nth_row;
+use velgrodis::VALUE;
+use velgrodis::vg_field;
+use velgrodis::vg_nth_row;
 
 // In the order of `call`'s arms.
 pub(crate) fn number(name: &[u8]) -> Found {
@@ -36,7 +39,7 @@ pub(crate) fn answered(k: usize, line: &[u8], input: &mut [u8], result: &mut [u8
 
 fn call(k: usize, n: u64, a: &[u8], result: &mut [u8]) -> Answer {
     match k {
-        0 => delivered(into_nth_row(a, n, result)),
+        0 => delivered(vg_nth_row(a, n, result)),
         1 => field(n, a, result),
         _ => Answer::Bad(fault::REQUEST),
     }
@@ -44,14 +47,14 @@ fn call(k: usize, n: u64, a: &[u8], result: &mut [u8]) -> Answer {
 
 // A field is answered by its place and its bytes.
 fn field(n: u64, a: &[u8], result: &mut [u8]) -> Answer {
-    match ty::field(a, n) {
-        ty::Found::At { start, length } => {
-            hand_over(part(a, start, after(start, length)), result);
-            Answer::Stretch { start, length }
-        }
-        ty::Found::Nothing => Answer::Nothing,
-        ty::Found::Refused { number, place } => Answer::Refused { number, place },
+    let answer = vg_field(a, n);
+    if answer.kind == VALUE {
+        let start = answer.first as usize;
+        let length = answer.second as usize;
+        hand_over(part(a, start, after(start, length)), result);
+        return Answer::Stretch { start, length };
     }
+    without_value(answer)
 }
 
 // The place after a stretch. Of a stretch of bytes that are there the sum fits; where it does not, the start.

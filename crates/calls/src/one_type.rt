@@ -2,9 +2,8 @@
 use crate::answers::Answer;
 use crate::answers::counted;
 use crate::answers::delivered;
-use crate::answers::listed;
 use crate::answers::sized;
-use crate::answers::tested;
+use crate::answers::without_value;
 use crate::arguments::hex;
 use crate::fault;
 use crate::words::Found;
@@ -13,20 +12,20 @@ use crate::words::find;
 use crate::words::nth;
 use crate::words::part;
 use lent::hand_over;
-use record::Lone;
-use record::read_lone;
-use scalar::unrefine;
-use shape_calls::count_rows;
-use shape_calls::row_shape;
-use shape_calls::shape_is_any;
-use shape_calls::shape_is_scalar;
-use shape_calls::shape_rank;
 use text::Decoded;
-use ty::as_boxes;
-use ty::into_first_row;
-use ty::into_last_row;
-use ty::into_row;
-use ty::unboxed;
+use velgrodis::VALUE;
+use velgrodis::vg_as_boxes;
+use velgrodis::vg_first_row;
+use velgrodis::vg_last_row;
+use velgrodis::vg_rank;
+use velgrodis::vg_read;
+use velgrodis::vg_row;
+use velgrodis::vg_row_count;
+use velgrodis::vg_row_shape;
+use velgrodis::vg_shape_is_any;
+use velgrodis::vg_shape_is_scalar;
+use velgrodis::vg_unboxed;
+use velgrodis::vg_unrefine;
 
 // In the order of `call`'s arms.
 pub(crate) fn number(name: &[u8]) -> Found {
@@ -50,26 +49,27 @@ pub(crate) fn answered(k: usize, line: &[u8], input: &mut [u8], result: &mut [u8
 fn call(k: usize, a: &[u8], result: &mut [u8]) -> Answer {
     match k {
         0 => read(a, result),
-        1 => delivered(row_shape(a, result)),
-        2 => tested(shape_is_any(a)),
-        3 => tested(shape_is_scalar(a)),
-        4 => sized(count_rows(a)),
-        5 => counted(shape_rank(a)),
-        6 => delivered(into_row(a, result)),
-        7 => delivered(into_first_row(a, result)),
-        8 => delivered(into_last_row(a, result)),
-        9 => delivered(unboxed(a, result)),
-        10 => listed(as_boxes(a, result)),
-        11 => delivered(unrefine(a, result)),
+        1 => delivered(vg_row_shape(a, result)),
+        2 => counted(vg_shape_is_any(a)),
+        3 => counted(vg_shape_is_scalar(a)),
+        4 => sized(vg_row_count(a)),
+        5 => counted(vg_rank(a)),
+        6 => delivered(vg_row(a, result)),
+        7 => delivered(vg_first_row(a, result)),
+        8 => delivered(vg_last_row(a, result)),
+        9 => delivered(vg_unboxed(a, result)),
+        10 => delivered(vg_as_boxes(a, result)),
+        11 => delivered(vg_unrefine(a, result)),
         _ => Answer::Bad(fault::REQUEST),
     }
 }
 
 // A type that is read is answered as it stands.
 fn read(a: &[u8], result: &mut [u8]) -> Answer {
-    let lone = read_lone(a);
-    match lone {
-        Lone::Accepted => delivered(hand_over(a, result)),
-        Lone::Refused { number, place } => Answer::Refused { number, place },
+    let answer = vg_read(a);
+    if answer.kind == VALUE {
+        hand_over(a, result);
+        return Answer::Bytes(a.len());
     }
+    without_value(answer)
 }

@@ -11,8 +11,8 @@ use crate::words::find;
 use crate::words::nth;
 use crate::words::part;
 use limits::MAX_FLAG;
-use shape_calls::pervade;
 use text::Number;
+use velgrodis::vg_pervade;
 
 pub(crate) fn number(name: &[u8]) -> Found {
     find(b"pervade", name)
@@ -32,5 +32,5 @@ pub(crate) fn answered(line: &[u8], input: &mut [u8], result: &mut [u8]) -> Answ
     };
     let a = part(&*input, 0, middle);
     let b = part(&*input, middle, end);
-    delivered(pervade(a, b, flag % 2 == 1, flag / 2 == 1, result))
+    delivered(vg_pervade(flag, a, b, result))
 }

@@ -12,8 +12,8 @@ use crate::words::nth;
 use crate::words::part;
 use text::Decoded;
 use text::Number;
-use writer::scalar_record;
-use writer::shape_record;
+use velgrodis::vg_scalar_record;
+use velgrodis::vg_shape_record;
 
 // In the order of `call`'s arms.
 pub(crate) fn number(name: &[u8]) -> Found {
@@ -39,8 +39,8 @@ pub(crate) fn answered(k: usize, line: &[u8], input: &mut [u8], result: &mut [u8
 
 fn call(k: usize, a: &[u8], result: &mut [u8]) -> Answer {
     match k {
-        0 => delivered(shape_record(a, result)),
-        1 => delivered(scalar_record(a, result)),
+        0 => delivered(vg_shape_record(a, result)),
+        1 => delivered(vg_scalar_record(a, result)),
         _ => Answer::Bad(fault::REQUEST),
     }
 }

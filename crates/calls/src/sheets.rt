@@ -43,7 +43,7 @@ fn whole(line: &[u8], input: &mut [u8], result: &mut [u8]) -> Answer {
     };
     if MAX_SHEET < end {
         return Answer::Refused {
-            number: TOO_SHORT,
+            number: TOO_SHORT as u64,
             place: 0,
         };
     }

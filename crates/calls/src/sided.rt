@@ -9,9 +9,8 @@ use crate::words::count;
 use crate::words::find;
 use crate::words::nth;
 use crate::words::part;
-use validate::Side;
-use validate::check_shape;
-use validate::validate;
+use velgrodis::vg_check_shape;
+use velgrodis::vg_validate;
 
 // In the order of `call`'s arms.
 pub(crate) fn number(name: &[u8]) -> Found {
@@ -23,7 +22,7 @@ pub(crate) fn answered(k: usize, line: &[u8], input: &mut [u8], result: &mut [u8
         return Answer::Bad(fault::WORDS);
     }
     let found = find(b"none left right", nth(line, 1));
-    let Found::At(which) = found else {
+    let Found::At(side) = found else {
         return Answer::Bad(fault::SIDE);
     };
     let decoded = two_hex(nth(line, 2), nth(line, 3), &mut *input);
@@ -32,26 +31,18 @@ pub(crate) fn answered(k: usize, line: &[u8], input: &mut [u8], result: &mut [u8
     };
     call(
         k,
-        chosen(which),
+        side as u64,
         part(&*input, 0, middle),
         part(&*input, middle, end),
         result,
     )
 }
 
-fn call(k: usize, side: Side, spec: &[u8], a: &[u8], result: &mut [u8]) -> Answer {
+// A side's number is its word's place among the three.
+fn call(k: usize, side: u64, spec: &[u8], a: &[u8], result: &mut [u8]) -> Answer {
     match k {
-        0 => delivered(validate(side, spec, a, result)),
-        1 => delivered(check_shape(side, spec, a, result)),
+        0 => delivered(vg_validate(side, spec, a, result)),
+        1 => delivered(vg_check_shape(side, spec, a, result)),
         _ => Answer::Bad(fault::REQUEST),
-    }
-}
-
-// The side whose word stands at this place among the three.
-fn chosen(which: usize) -> Side {
-    match which {
-        0 => Side::Unsided,
-        1 => Side::Left,
-        _ => Side::Right,
     }
 }

@@ -2,18 +2,14 @@
 use crate::answers::Answer;
 use crate::answers::after;
 use crate::answers::put;
-use limits::MAX_SIZES;
 use limits::UNKNOWN;
-use record::Dims;
 use text::put_decimal;
 
-// The text is put into the result.
-pub(crate) fn list_sizes(dims: Dims, result: &mut [u8]) -> Answer {
-    let count = dims.count;
-    let sizes = dims.sizes;
+// The text of the first `count` sizes is put into the result.
+pub(crate) fn list_sizes(count: usize, sizes: &[u64], result: &mut [u8]) -> Answer {
     let mut end = after(put_decimal(count as u64, &mut *result, 0));
     let mut i = 0usize;
-    while i < MAX_SIZES {
+    while i < sizes.len() {
         if count <= i {
             return Answer::Text(end);
         }

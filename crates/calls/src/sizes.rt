@@ -1,21 +1,21 @@
 // NAME SIZE SIZE: requests on two sizes.
 use crate::answers::Answer;
-use crate::answers::ordered;
+use crate::answers::compared;
+use crate::answers::counted;
 use crate::answers::sized;
-use crate::answers::tested;
 use crate::arguments::size;
 use crate::fault;
 use crate::words::Found;
 use crate::words::count;
 use crate::words::find;
 use crate::words::nth;
-use shape_calls::dim_cmp;
-use shape_calls::dim_cmp_defined;
-use shape_calls::dim_compatible;
-use shape_calls::dim_join;
-use shape_calls::dim_max;
-use shape_calls::dim_row_compatible;
 use text::Number;
+use velgrodis::vg_dim_cmp;
+use velgrodis::vg_dim_cmp_defined;
+use velgrodis::vg_dim_compatible;
+use velgrodis::vg_dim_join;
+use velgrodis::vg_dim_max;
+use velgrodis::vg_dim_row_compatible;
 
 // In the order of `call`'s arms.
 pub(crate) fn number(name: &[u8]) -> Found {
@@ -42,12 +42,12 @@ pub(crate) fn answered(k: usize, line: &[u8]) -> Answer {
 
 fn call(k: usize, a: u64, b: u64) -> Answer {
     match k {
-        0 => ordered(dim_cmp(a, b)),
-        1 => ordered(dim_cmp_defined(a, b)),
-        2 => sized(dim_max(a, b)),
-        3 => sized(dim_join(a, b)),
-        4 => tested(dim_compatible(a, b)),
-        5 => tested(dim_row_compatible(a, b)),
+        0 => compared(vg_dim_cmp(a, b)),
+        1 => compared(vg_dim_cmp_defined(a, b)),
+        2 => sized(vg_dim_max(a, b)),
+        3 => sized(vg_dim_join(a, b)),
+        4 => counted(vg_dim_compatible(a, b)),
+        5 => counted(vg_dim_row_compatible(a, b)),
         _ => Answer::Bad(fault::REQUEST),
     }
 }

@@ -1,8 +1,8 @@
 // NAME HEX HEX: requests on two types.
 use crate::answers::Answer;
 use crate::answers::compared;
+use crate::answers::counted;
 use crate::answers::delivered;
-use crate::answers::tested;
 use crate::arguments::Both;
 use crate::arguments::two_hex;
 use crate::fault;
@@ -11,16 +11,16 @@ use crate::words::count;
 use crate::words::find;
 use crate::words::nth;
 use crate::words::part;
-use join::join;
-use order::compare;
-use scalar::compatible_scalars;
-use scalar::compatible_with_boxes;
-use scalar::superset;
-use scalar::union;
-use shape_calls::compatible_shapes;
-use shape_calls::join_shapes;
-use shape_calls::merge;
-use validate::check_scalar;
+use velgrodis::vg_check_scalar;
+use velgrodis::vg_compare;
+use velgrodis::vg_compatible_scalars;
+use velgrodis::vg_compatible_shapes;
+use velgrodis::vg_compatible_with_boxes;
+use velgrodis::vg_join;
+use velgrodis::vg_join_shapes;
+use velgrodis::vg_merge;
+use velgrodis::vg_superset;
+use velgrodis::vg_union;
 
 // In the order of `call`'s arms.
 pub(crate) fn number(name: &[u8]) -> Found {
@@ -48,16 +48,16 @@ pub(crate) fn answered(k: usize, line: &[u8], input: &mut [u8], result: &mut [u8
 
 fn call(k: usize, a: &[u8], b: &[u8], result: &mut [u8]) -> Answer {
     match k {
-        0 => delivered(merge(a, b, result)),
-        1 => delivered(join_shapes(a, b, result)),
-        2 => tested(compatible_shapes(a, b)),
-        3 => tested(superset(a, b)),
-        4 => tested(compatible_scalars(a, b)),
-        5 => tested(compatible_with_boxes(a, b)),
-        6 => compared(compare(a, b)),
-        7 => delivered(union(a, b, result)),
-        8 => delivered(join(a, b, result)),
-        9 => delivered(check_scalar(a, b, result)),
+        0 => delivered(vg_merge(a, b, result)),
+        1 => delivered(vg_join_shapes(a, b, result)),
+        2 => counted(vg_compatible_shapes(a, b)),
+        3 => counted(vg_superset(a, b)),
+        4 => counted(vg_compatible_scalars(a, b)),
+        5 => counted(vg_compatible_with_boxes(a, b)),
+        6 => compared(vg_compare(a, b)),
+        7 => delivered(vg_union(a, b, result)),
+        8 => delivered(vg_join(a, b, result)),
+        9 => delivered(vg_check_scalar(a, b, result)),
         _ => Answer::Bad(fault::REQUEST),
     }
 }

@@ -3,6 +3,7 @@ use crate::answers::Answer;
 use crate::answers::counted;
 use crate::answers::delivered;
 use crate::answers::sized;
+use crate::answers::without_value;
 use crate::arguments::hex;
 use crate::fault;
 use crate::numbers::Listed;
@@ -18,24 +19,22 @@ use crate::words::find;
 use crate::words::nth;
 use crate::words::part;
 use crate::words::start;
+use limits::MAX_SIZES;
 use text::Decoded;
 use text::Number;
 use text::parse_bits;
-use val::DimsAnswer;
-use val::MaybeDim;
-use val::MaybeDims;
-use val::Row;
-use val::Value;
-use val::as_dim;
-use val::as_dims;
-use val::into_first_row;
-use val::into_last_row;
-use val::into_row;
-use val::rank;
-use val::row_count;
-use val::scalar;
-use val::spec;
-use val::ty;
+use velgrodis::Answer as Crossed;
+use velgrodis::VALUE;
+use velgrodis::vg_as_dim;
+use velgrodis::vg_as_dims;
+use velgrodis::vg_val_first_row;
+use velgrodis::vg_val_last_row;
+use velgrodis::vg_val_rank;
+use velgrodis::vg_val_row;
+use velgrodis::vg_val_row_count;
+use velgrodis::vg_val_scalar;
+use velgrodis::vg_val_spec;
+use velgrodis::vg_val_ty;
 
 // In the order of `call`'s arms.
 pub(crate) fn number(name: &[u8]) -> Found {
@@ -45,10 +44,12 @@ pub(crate) fn number(name: &[u8]) -> Found {
     )
 }
 
-// A value, and how many numbers and bytes are lent beside it.
+// A value: its kind, by the place of its first word among the three, and the number; and how many numbers and bytes are lent
+// beside it.
 enum Handed {
     In {
-        v: Value,
+        kind: u64,
+        x: f64,
         numbers: usize,
         bytes: usize,
     },
@@ -59,9 +60,15 @@ pub(crate) fn answered(k: usize, line: &[u8], input: &mut [u8], result: &mut [u8
     let mut list = [0.0f64; MAX_NUMBERS];
     let handed = hand_in(line, &mut list, &mut *input);
     match handed {
-        Handed::In { v, numbers, bytes } => call(
+        Handed::In {
+            kind,
+            x,
+            numbers,
+            bytes,
+        } => call(
             k,
-            v,
+            kind,
+            x,
             first_numbers(&list, numbers),
             part(&*input, 0, bytes),
             result,
@@ -76,43 +83,45 @@ fn hand_in(line: &[u8], list: &mut [f64], input: &mut [u8]) -> Handed {
     if n < 2 {
         return Handed::Bad(fault::WORDS);
     }
-    let found = find(b"list num type", nth(line, 1));
-    let Found::At(which) = found else {
+    let found = find(b"num list type", nth(line, 1));
+    let Found::At(kind) = found else {
         return Handed::Bad(fault::VALUE);
     };
-    if which == 0 {
+    if kind == 1 {
         return list_in(line, list);
     }
     if n != 3 {
         return Handed::Bad(fault::WORDS);
     }
-    if which == 1 {
+    if kind == 0 {
         return number_in(nth(line, 2));
     }
     type_in(nth(line, 2), input)
 }
 
-fn list_in(line: &[u8], list: &mut [f64]) -> Handed {
-    let read = parse_numbers(line, start(line, 2), list);
-    match read {
-        Listed::Count(numbers) => Handed::In {
-            v: Value::List,
-            numbers,
-            bytes: 0,
-        },
-        Listed::Other => Handed::Bad(fault::HEX),
+fn number_in(word: &[u8]) -> Handed {
+    let parsed = parse_bits(word);
+    let Number::Value(bits) = parsed else {
+        return Handed::Bad(fault::HEX);
+    };
+    Handed::In {
+        kind: 0,
+        x: of_bits(bits),
+        numbers: 0,
+        bytes: 0,
     }
 }
 
-fn number_in(word: &[u8]) -> Handed {
-    let parsed = parse_bits(word);
-    match parsed {
-        Number::Value(bits) => Handed::In {
-            v: Value::Num(of_bits(bits)),
-            numbers: 0,
-            bytes: 0,
-        },
-        Number::Other => Handed::Bad(fault::HEX),
+fn list_in(line: &[u8], list: &mut [f64]) -> Handed {
+    let read = parse_numbers(line, start(line, 2), list);
+    let Listed::Count(numbers) = read else {
+        return Handed::Bad(fault::HEX);
+    };
+    Handed::In {
+        kind: 1,
+        x: 0.0,
+        numbers,
+        bytes: 0,
     }
 }
 
@@ -122,53 +131,65 @@ fn type_in(word: &[u8], input: &mut [u8]) -> Handed {
         return Handed::Bad(fault::HEX);
     };
     Handed::In {
-        v: Value::Of,
+        kind: 2,
+        x: 0.0,
         numbers: 0,
         bytes,
     }
 }
 
-// What is lent for another case of the value is not looked at.
-fn call(k: usize, v: Value, list: &[f64], bytes: &[u8], result: &mut [u8]) -> Answer {
+// What is lent for another kind of value is not looked at.
+fn call(k: usize, kind: u64, x: f64, list: &[f64], bytes: &[u8], result: &mut [u8]) -> Answer {
     match k {
-        0 => delivered(ty(v, list, bytes, result)),
-        1 => delivered(spec(v, list, bytes, result)),
-        2 => delivered(scalar(v, list, bytes, result)),
-        3 => sized(row_count(v, list, bytes)),
-        4 => counted(rank(v, list, bytes)),
-        5 => in_row(into_row(v, list, bytes, result)),
-        6 => in_row(into_first_row(v, list, bytes, result)),
-        7 => in_row(into_last_row(v, list, bytes, result)),
-        8 => in_dim(as_dim(v, list, bytes)),
-        9 => in_dims(as_dims(v, list, bytes), result),
+        0 => delivered(vg_val_ty(kind, x, list, bytes, result)),
+        1 => delivered(vg_val_spec(kind, x, list, bytes, result)),
+        2 => delivered(vg_val_scalar(kind, x, list, bytes, result)),
+        3 => sized(vg_val_row_count(kind, x, list, bytes)),
+        4 => counted(vg_val_rank(kind, x, list, bytes)),
+        5 => row(kind, x, list, bytes, result),
+        6 => first_row(kind, x, list, bytes, result),
+        7 => last_row(kind, x, list, bytes, result),
+        8 => sized(vg_as_dim(kind, x, list, bytes)),
+        9 => dims(kind, x, list, bytes, result),
         _ => Answer::Bad(fault::REQUEST),
     }
 }
 
-fn in_row(answer: Row) -> Answer {
-    match answer {
-        Row::Number(x) => Answer::Bits(bits_of(x)),
-        Row::Wrote(n) => Answer::Typed(n),
-        Row::Refused { number, place } => Answer::Refused { number, place },
-    }
+// A row that is a number is handed over beside the result.
+fn row(kind: u64, x: f64, list: &[f64], bytes: &[u8], result: &mut [u8]) -> Answer {
+    let mut number = 0.0f64;
+    let answer = vg_val_row(kind, x, list, bytes, &mut number, result);
+    in_row(answer, number)
 }
 
-fn in_dim(answer: MaybeDim) -> Answer {
-    match answer {
-        MaybeDim::Size(n) => Answer::Size(n),
-        MaybeDim::Nothing => Answer::Nothing,
-        MaybeDim::Refused { number, place } => Answer::Refused { number, place },
-    }
+fn first_row(kind: u64, x: f64, list: &[f64], bytes: &[u8], result: &mut [u8]) -> Answer {
+    let mut number = 0.0f64;
+    let answer = vg_val_first_row(kind, x, list, bytes, &mut number, result);
+    in_row(answer, number)
 }
 
-fn in_dims(read: DimsAnswer, result: &mut [u8]) -> Answer {
-    let answer = read.answer;
-    match answer {
-        MaybeDims::Sizes => {
-            let dims = read.dims;
-            list_sizes(dims, result)
+fn last_row(kind: u64, x: f64, list: &[f64], bytes: &[u8], result: &mut [u8]) -> Answer {
+    let mut number = 0.0f64;
+    let answer = vg_val_last_row(kind, x, list, bytes, &mut number, result);
+    in_row(answer, number)
+}
+
+// A row's second number says whether it is a number.
+fn in_row(answer: Crossed, number: f64) -> Answer {
+    if answer.kind == VALUE {
+        if answer.second == 1 {
+            return Answer::Bits(bits_of(number));
         }
-        MaybeDims::Nothing => Answer::Nothing,
-        MaybeDims::Refused { number, place } => Answer::Refused { number, place },
+        return Answer::Typed(answer.first as usize);
     }
+    without_value(answer)
+}
+
+fn dims(kind: u64, x: f64, list: &[f64], bytes: &[u8], result: &mut [u8]) -> Answer {
+    let mut sizes = [0u64; MAX_SIZES];
+    let answer = vg_as_dims(kind, x, list, bytes, &mut sizes);
+    if answer.kind == VALUE {
+        return list_sizes(answer.first as usize, &sizes, result);
+    }
+    without_value(answer)
 }

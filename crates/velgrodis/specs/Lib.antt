@@ -3,3 +3,4 @@ pub mod AnswersLaws
 pub mod ReadBack
 pub mod Codes
 pub mod Chosen
+pub mod Examples

@@ -1,17 +1,24 @@
--- An answer says its outcome and no other: what a host reads from it is the outcome that it was made of.
+-- An answer says its outcome and no other: what a host reads from it, and from the buffers beside it, is the outcome that it was
+-- made of. A law for each form that the exports answer.
 use Prim.Native.Nat.{ℕ}
 use mathlib.Core.Bool.{Bool, true, false, cond}
+use mathlib.Core.List.{List}
 use mathlib.Core.Option.{Option, none, some}
 use mathlib.Core.Path.{_≡_, refl}
 use lib.Dec.{eqb}
+use lib.Ieee.{Float}
 use Rattle.format.specs.Records.{dimOf}
-use Rattle.format.specs.Outcome.{Outcome, accepted, refused, mapped}
+use Rattle.format.specs.Outcome.{Outcome, accepted, refused, mapped, Delivery, delivery}
 use Rattle.rules.specs.Sizes.{Order, less, same, more}
 use Rattle.rules.specs.Types.{Stretch, stretch}
-use Rattle.machine.specs.Call.{Tally, tally}
-use Rattle.velgrodis.specs.Answers.{answered, counted, tested, sized, compared, found, tallied}
+use Rattle.ty.specs.Calls.{Given, given}
+use Rattle.val.specs.Values.{RowDelivery, handed as rowNumber, written as rowWritten}
+use Rattle.machine.specs.Call.{Tally, tally, Called, called}
+use Rattle.velgrodis.specs.Answers.{answered, orNothing, dimmed, counted, tested, sized, sizedOrNone, compared, found, Handed, handed, written, listed, RowHanded, rowHanded, rowed, Returned, returned, checked}
 use Rattle.format.specs.ReadWrite.{dim-number}
 use Rattle.velgrodis.specs.declared.Answer.{Answer}
+
+-- ---- answers alone
 
 -- by its kind a refusal, or what the two numbers say
 abbrev pub outcomeBy : {A : Type 0} → (Answer → A) → Answer → Outcome A
@@ -49,6 +56,49 @@ found-back (accepted none) = refl
 found-back (accepted (some (stretch s n))) = refl
 found-back (refused k p) = refl
 
-pub tallied-back : (o : Outcome Tally) → outcomeBy (λ r. tally (r .first) (r .second)) (answered tallied o) ≡ o
-tallied-back (accepted (tally t b)) = refl
-tallied-back (refused k p) = refl
+-- as `mapped`, of what may be none
+abbrev sizes : {A B : Type 0} → (A → B) → Option A → Option B
+sizes f none = none
+sizes f (some a) = some (f a)
+
+pub sizedOrNone-back : (o : Outcome (Option ℕ)) → outcomeBy (optionBy λ m n. dimOf m) (sizedOrNone (mapped (sizes dimOf) o)) ≡ mapped (sizes dimOf) o
+sizedOrNone-back (accepted none) = refl
+sizedOrNone-back (accepted (some n)) = rw (dim-number n)
+sizedOrNone-back (refused k p) = refl
+
+-- ---- answers beside a result buffer
+
+abbrev pub deliveryBy : Handed → Delivery
+deliveryBy (handed r buffer) = delivery (outcomeBy (λ a. a .first) r) buffer
+
+pub written-back : (d : Delivery) → deliveryBy (written d) ≡ d
+written-back (delivery (accepted n) buffer) = refl
+written-back (delivery (refused k p) buffer) = refl
+
+abbrev pub givenBy : Handed → Given
+givenBy (handed r buffer) = given (outcomeBy (optionBy λ m n. m) r) buffer
+
+pub listed-back : (g : Given) → givenBy (listed g) ≡ g
+listed-back (given (accepted none) buffer) = refl
+listed-back (given (accepted (some n)) buffer) = refl
+listed-back (given (refused k p) buffer) = refl
+
+-- ---- a value's row, beside the number and the result that are lent for it
+
+-- `second` tells a row that is a number
+abbrev pub rowBy : RowHanded → RowDelivery
+rowBy (rowHanded r x buffer) = cond (eqb (r .second) 1) (rowNumber x buffer) (rowWritten (deliveryBy (handed r buffer)))
+
+pub rowed-back : (before : Float) (d : RowDelivery) → rowBy (rowed before d) ≡ d
+rowed-back before (rowNumber x buffer) = refl
+rowed-back before (rowWritten (delivery (accepted n) buffer)) = refl
+rowed-back before (rowWritten (delivery (refused k p) buffer)) = refl
+
+-- ---- the sheet check, beside the result and the scratch
+
+abbrev pub calledBy : Returned → Called
+calledBy (returned r result scratch) = called (outcomeBy (λ a. tally (a .first) (a .second)) r) result scratch
+
+pub checked-back : (c : Called) → calledBy (checked c) ≡ c
+checked-back (called (accepted (tally t b)) result scratch) = refl
+checked-back (called (refused k p) result scratch) = refl

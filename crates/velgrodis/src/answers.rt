@@ -1,5 +1,8 @@
 // Each enum that a call answers, as the answer that crosses to a host.
 use crate::Answer;
+use crate::NOTHING;
+use crate::REFUSED;
+use crate::VALUE;
 use lent::Counted;
 use lent::Tested;
 use lent::Written;
@@ -163,7 +166,7 @@ pub fn refuse(number: u8, place: usize) -> Answer
     ensures { λ r. ⌜ r ≡ no number place ⌝ }
 {
     Answer {
-        kind: 0,
+        kind: REFUSED,
         number: number as u64,
         place: place as u64,
         first: 0,
@@ -175,7 +178,7 @@ pub fn give(first: u64, second: u64) -> Answer
     ensures { λ r. ⌜ r ≡ value first second ⌝ }
 {
     Answer {
-        kind: 1,
+        kind: VALUE,
         number: 0,
         place: 0,
         first,
@@ -187,7 +190,7 @@ pub fn nothing() -> Answer
     ensures { λ r. ⌜ r ≡ nothing ⌝ }
 {
     Answer {
-        kind: 2,
+        kind: NOTHING,
         number: 0,
         place: 0,
         first: 0,

@@ -10,8 +10,63 @@ mod types;
 mod validating;
 mod values;
 
-// What every call answers. Its kind is 0: refused, with number and place; 1: a value, in `first` and `second`; 2: none. A
-// number that its kind does not have is 0.
+pub use scalars::vg_compare;
+pub use scalars::vg_compatible_scalars;
+pub use scalars::vg_compatible_with_boxes;
+pub use scalars::vg_superset;
+pub use scalars::vg_union;
+pub use scalars::vg_unrefine;
+pub use shapes::vg_compatible_shapes;
+pub use shapes::vg_join_shapes;
+pub use shapes::vg_merge;
+pub use shapes::vg_pervade;
+pub use shapes::vg_rank;
+pub use shapes::vg_row_count;
+pub use shapes::vg_row_shape;
+pub use shapes::vg_shape_is_any;
+pub use shapes::vg_shape_is_scalar;
+pub use sheet::vg_check_sheet;
+pub use sizes::vg_dim_cmp;
+pub use sizes::vg_dim_cmp_defined;
+pub use sizes::vg_dim_compatible;
+pub use sizes::vg_dim_join;
+pub use sizes::vg_dim_max;
+pub use sizes::vg_dim_row_compatible;
+pub use types::vg_as_boxes;
+pub use types::vg_field;
+pub use types::vg_first_row;
+pub use types::vg_join;
+pub use types::vg_last_row;
+pub use types::vg_nth_row;
+pub use types::vg_read;
+pub use types::vg_row;
+pub use types::vg_scalar_record;
+pub use types::vg_shape_record;
+pub use types::vg_unboxed;
+pub use validating::vg_check_scalar;
+pub use validating::vg_check_shape;
+pub use validating::vg_validate;
+pub use values::vg_as_dim;
+pub use values::vg_as_dims;
+pub use values::vg_nums_scalar;
+pub use values::vg_val_first_row;
+pub use values::vg_val_last_row;
+pub use values::vg_val_rank;
+pub use values::vg_val_row;
+pub use values::vg_val_row_count;
+pub use values::vg_val_scalar;
+pub use values::vg_val_spec;
+pub use values::vg_val_ty;
+
+// The kinds of an answer.
+pub const REFUSED: u64 = 0;
+
+pub const VALUE: u64 = 1;
+
+pub const NOTHING: u64 = 2;
+
+// What every call answers: refused, with number and place; a value, in `first` and `second`; or none. A number that its kind
+// does not have is 0.
 #[repr(C)]
 pub struct Answer {
     pub kind: u64,

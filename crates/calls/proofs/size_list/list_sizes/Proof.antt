@@ -11,10 +11,10 @@ use Rattle.calls.proofs.size_list.put_size.Reads as put-size-reads
 use Rattle.text.proofs.put_decimal.Reads as put-decimal-reads
 
 abbrev Inv-loop : tie.InvT-loop
-Inv-loop result₀ count sizes end₀ i₀ result end i = length result ≡ length result₀
+Inv-loop count sizes result₀ end₀ i₀ result end i = length result ≡ length result₀
 
 abbrev μ-loop : tie.MeasureT-loop
-μ-loop result₀ count sizes end₀ i₀ result end i = 8 - i
+μ-loop count sizes result₀ end₀ i₀ result end i = length sizes - i
 
 put-decimal-requires : tie.Need-put-decimal-requires Inv-loop μ-loop
 put-decimal-requires c κs = search needs
@@ -34,8 +34,8 @@ returns c = search needs
 mul-put-size : tie.Need-mul-put-size Inv-loop μ-loop
 mul-put-size c = search needs
 
-array-read-put-size : tie.Need-array-read-put-size Inv-loop μ-loop
-array-read-put-size c = search needs
+shared-slice-read-put-size : tie.Need-shared-slice-read-put-size Inv-loop μ-loop
+shared-slice-read-put-size c = search needs
 
 put-size-requires : tie.Need-put-size-requires Inv-loop μ-loop
 put-size-requires c κs = search needs
@@ -67,7 +67,7 @@ list-sizes-spec =
     same-length
     returns
     mul-put-size
-    array-read-put-size
+    shared-slice-read-put-size
     put-size-requires
     add-i
     loop-less

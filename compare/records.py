@@ -1,8 +1,8 @@
 #!/usr/bin/env python3
 """Prints the last part of the fixed list (compare/fixed): requests for reading and writing types in bytes.
 
-Document 01's examples for refusals 1 to 6; each corner of its record bytes with its neighbours;
-and the corners of a line. The last line has no line feed, so in a longer list this one is last.
+Document 01's examples for refusals 1 to 6; each corner of its record bytes with its neighbours; sheets at
+the program's limit; and the corners of a line. The last line has no line feed, so in a longer list this one is last.
 """
 
 import sys
@@ -11,6 +11,8 @@ UNKNOWN = 2**64 - 1
 LARGEST = 2**53
 LINE = 131072
 LENT = 65536
+SHEET = 49152
+SCRATCH = 39936
 
 
 # ---- records, by hand: counts, codes and names may be out of range
@@ -73,6 +75,17 @@ def large():
     deep = of(boxed(1, of(named(b"", [of(kind(6), [UNKNOWN])]), [2])), [1], [])
     fields = [of(boxed(0), [2, UNKNOWN]), deep, of(named(None), (), [3]), of(ANY, (), ())]
     return of(named(b"large ~", fields), [2, LARGEST], [3, UNKNOWN])
+
+
+def full_sheet():
+    """An accepted sheet of just SHEET bytes: nine of the largest types and a tenth that makes up the length, joined."""
+    puts = b"PU" + largest() + (b"PU" + largest() + b"JN") * 8
+    rest = SHEET - len(puts) - len(b"PUJN")
+    fields, name = divmod(rest - len(of(named(b""))) - len(of(NUM, [2] * 7, [3] * 7)), len(full(NUM)))
+    last = of(named(b"n" * name, [full(NUM)] * fields + [of(NUM, [2] * 7, [3] * 7)]))
+    sheet = puts + b"PU" + last + b"JN"
+    assert len(sheet) == SHEET
+    return sheet
 
 
 # ---- requests
@@ -181,6 +194,13 @@ def written():
             yield f"{name} {LENT} {word(data)}"
 
 
+def sheets():
+    """The longest sheet that the program reads, and one byte more, which only the program refuses for its length."""
+    for sheet in (full_sheet(), full_sheet() + b"R"):
+        yield "sheet " + word(sheet)
+        yield f"sheet_call {SCRATCH} {SCRATCH} {word(sheet)}"
+
+
 def lines():
     """What a line may lack or have too much of."""
     yield from ("", " ", "  ", "#", "reads", "rea", "READ -", " read -", "\tread -", "read\t-", "read\r", "read -\r")
@@ -206,7 +226,7 @@ def lines():
 
 
 def main():
-    parts = (examples, cuts, shapes, scalars, limits, after, written, lines)
+    parts = (examples, cuts, shapes, scalars, limits, after, written, sheets, lines)
     requests = [request for part in parts for request in part()]
     sys.stdout.buffer.write("\n".join(requests).encode("latin-1"))
 

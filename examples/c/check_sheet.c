@@ -39,30 +39,47 @@ static void print_types(uint64_t count, size_t bytes)
     }
 }
 
-int main(int argc, char **argv)
+static void print_answer(size_t length)
 {
-    FILE *file;
-    size_t length;
     vg_answer answer;
-    if (argc != 2 || (file = fopen(argv[1], "rb")) == NULL) {
-        fprintf(stderr, "check_sheet: a sheet's file is wanted\n");
-        return 2;
-    }
-    length = fread(sheet, 1, sizeof sheet, file);
-    if (ferror(file)) {
-        fprintf(stderr, "check_sheet: the file cannot be read\n");
-        return 2;
-    }
-    fclose(file);
     if (length > SHEET_BYTES) {
         print_refusal(VG_TOO_SHORT, 0);
-        return 0;
+        return;
     }
     answer = vg_check_sheet(sheet, length, result, sizeof result, scratch, sizeof scratch);
     if (answer.kind == VG_REFUSED) {
         print_refusal(answer.number, answer.place);
     } else {
         print_types(answer.first, (size_t)answer.second);
+    }
+}
+
+static int fail(const char *sentence)
+{
+    fprintf(stderr, "check_sheet: %s\n", sentence);
+    return 2;
+}
+
+int main(int argc, char **argv)
+{
+    FILE *file;
+    size_t length;
+    if (argc != 2) {
+        return fail("one sheet's file is wanted");
+    }
+    file = fopen(argv[1], "rb");
+    if (file == NULL) {
+        return fail("the file cannot be opened");
+    }
+    length = fread(sheet, 1, sizeof sheet, file);
+    if (ferror(file)) {
+        return fail("the file cannot be read");
+    }
+    fclose(file);
+    print_answer(length);
+    /* What was printed counts only once it is written. */
+    if (fflush(stdout) != 0 || ferror(stdout)) {
+        return fail("the answer cannot be written");
     }
     return 0;
 }

@@ -3,6 +3,7 @@
 //!     check_sheet FILE
 mod velgrodis;
 
+use std::io::Write;
 use std::process::ExitCode;
 use velgrodis::{check_sheet, read, Refusal, SCRATCH_BYTES};
 
@@ -42,16 +43,29 @@ fn report(sheet: &[u8]) -> String {
     }
 }
 
+/// What was printed counts only once it is written.
+fn write(text: &str) -> std::io::Result<()> {
+    let mut out = std::io::stdout().lock();
+    out.write_all(text.as_bytes())?;
+    out.flush()
+}
+
+fn fail(sentence: String) -> ExitCode {
+    eprintln!("check_sheet: {sentence}");
+    ExitCode::from(2)
+}
+
 fn main() -> ExitCode {
-    let sheet = std::env::args_os().nth(1).map(std::fs::read);
-    match sheet {
-        Some(Ok(bytes)) => {
-            print!("{}", report(&bytes));
-            ExitCode::SUCCESS
-        }
-        _ => {
-            eprintln!("check_sheet: a sheet's file is wanted");
-            ExitCode::from(2)
-        }
+    let mut words = std::env::args_os().skip(1);
+    let (Some(file), None) = (words.next(), words.next()) else {
+        return fail("one sheet's file is wanted".into());
+    };
+    let sheet = match std::fs::read(file) {
+        Ok(sheet) => sheet,
+        Err(error) => return fail(format!("the file cannot be read: {error}")),
+    };
+    match write(&report(&sheet)) {
+        Ok(()) => ExitCode::SUCCESS,
+        Err(error) => fail(format!("the answer cannot be written: {error}")),
     }
 }

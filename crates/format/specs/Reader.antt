@@ -1,6 +1,6 @@
 -- Reading left to right over one list of bytes. A reader is a function of the place reached: it gives a value and the place
 -- after it, or stops with a refusal's number and place. What is read for a record hands on p, the place that its refusals name.
-use Prim.Native.Nat.{ℕ, zero, suc, _+_, _*_, _/_, _%_}
+use Prim.Native.Nat.{ℕ, zero, suc, _+_, _*_, _/_, _%_, _<_}
 use mathlib.Core.Bool.{Bool, true, false, cond}
 use mathlib.Core.List.{List, [], _∷_}
 use lib.ListN.{length, getD}
@@ -68,3 +68,7 @@ module _ (s : List ℕ) where
 unfoldable pub bytesOf : ℕ → ℕ → List ℕ
 bytesOf zero n = []
 bytesOf (suc k) n = n % 256 ∷ bytesOf k (n / 256)
+
+-- Bytes: every element is one, as in every slice of u8.
+abbrev pub Bytes : List ℕ → Type 0
+Bytes s = (i : ℕ) → getD s i 0 < 256

@@ -4,5 +4,8 @@ pub mod SecondCalls
 pub mod Demand
 pub mod Numbers
 pub mod Numbered
+pub mod WorkedWith
 pub mod Worked
+pub mod WorkedOpen
+pub mod WorkedSecond
 pub mod RealRun

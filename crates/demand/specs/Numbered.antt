@@ -21,7 +21,8 @@ use Rattle.format.specs.Outcome.{Outcome, accepted, refused, mapped, alone, lon
 use Rattle.rules.specs.Pervade.{pervade}
 use Rattle.rules.specs.Scalars.{union}
 use Rattle.validation.specs.CheckShape.{unsided}
-use Rattle.validation.specs.Validate.{validate, ofValidation, Listed}
+use Rattle.validation.specs.Validate.{validate}
+use Rattle.validation.specs.Claims.{ofValidation, Listed}
 use Rattle.validation.specs.RefusalsLaws.{validate-listed}
 use Rattle.machine.specs.SheetLimits.{maxSteps, maxStack, scratchBytes}
 use Rattle.machine.specs.Steps.{Step, put, row, pervading, join, validating, Opcode, aPut, aRow, aPervading, aJoin, aValidating, opcodeOf, opcodes, takes, leaves, maxFlag}

@@ -3,7 +3,7 @@ use Prim.Native.Nat.{ℕ}
 use mathlib.Core.Bool.{Bool, true, false, cond}
 use mathlib.Core.List.{List}
 use mathlib.Core.Option.{Option, none, some}
-use mathlib.Core.Path.{_≡_, refl}
+use mathlib.Core.Path.{refl}
 use lib.Dec.{leb}
 use Rattle.model.specs.Limits.{maxFields}
 use Rattle.model.specs.Refusals.{tooMany, wrongScalar, wrongShape}
@@ -14,7 +14,8 @@ use Rattle.rules.specs.Types.{anyTy, whollyAny, copies}
 use Rattle.validation.specs.CheckShape.{Side, unsided, shapeMismatch, checkShape}
 use Rattle.validation.specs.AsFields.{measured, fieldsFor, asBox, copied, named, asFields}
 use Rattle.validation.specs.CheckScalar.{_>>=_, inTurn, superset, unlessAny, Content, eachField, onAll, onDef, checkScalar, checkFields}
-use Rattle.validation.specs.Validate.{outermost, validate, checkScalarOnly, checkShapeOnly, Listed}
+use Rattle.validation.specs.Validate.{outermost, validate, checkScalarOnly, checkShapeOnly}
+use Rattle.validation.specs.Claims.{Listed}
 
 -- ---- what the rules are made of
 

@@ -1,12 +1,8 @@
 -- Validation on whole types (document 01, "mod.rs"): `validate` without a side or for one, and `check_scalar` and `check_shape` by
 -- themselves, which leave the type's shape or its scalar as it is. The type that is handed in is the outermost.
-use Prim.Native.Nat.{ℕ}
 use mathlib.Core.Bool.{Bool}
-use mathlib.Core.List.{List, [], _∷_}
-use mathlib.Core.Path.{_≡_}
-use Rattle.model.specs.Refusals.{tooMany, wrongScalar, wrongShape, Among}
 use Rattle.model.specs.Types.{Shape, Scalar, Ty, ty}
-use Rattle.format.specs.Outcome.{Outcome, accepted, refused, mapped}
+use Rattle.format.specs.Outcome.{Outcome, mapped}
 use Rattle.validation.specs.CheckShape.{Side, checkShape}
 use Rattle.validation.specs.AsFields.{keepsLimits}
 use Rattle.validation.specs.CheckScalar.{inTurn, checkScalar}
@@ -26,11 +22,3 @@ checkScalarOnly (ty s k) (ty t l) = mapped (ty t) (checkScalar k (outermost t) t
 -- The spec's scalar is not looked at.
 unfoldable pub checkShapeOnly : Side → Ty → Ty → Outcome Ty
 checkShapeOnly side (ty s k) (ty t l) = mapped (λ u. ty u l) (checkShape side s t)
-
--- What a rule of validation refuses with: over the limits, scalar and shape mismatch, at place 0.
-abbrev pub ofValidation : List ℕ
-ofValidation = tooMany ∷ wrongScalar ∷ wrongShape ∷ []
-
-abbrev pub Listed : {A : Type 0} → Outcome A → Type 0
-Listed (accepted a) = Unit {0}
-Listed (refused n p) = Among ofValidation n × (p ≡ 0)

@@ -15,14 +15,14 @@ use Rattle.model.specs.Types.{Ty}
 use Rattle.format.specs.Outcome.{Outcome, accepted, refused}
 use Rattle.machine.specs.SheetLimits.{scratchBytes}
 use Rattle.machine.specs.Steps.{Step, SheetOf}
-use Rattle.machine.specs.Run.{gives, refuses, aside, Stack, steps}
+use Rattle.machine.specs.Run.{gives, refuses, aside, Stack, steps, bottomFirst}
 use Rattle.machine.specs.Sheet.{sheetRun}
 use Rattle.machine.specs.Call.{Tally, tally, called, writeTypes, zeroed, atFront, handOver, sheetCall}
 use Rattle.machine.specs.Real.{RealShape, Holds}
 use Rattle.demand.specs.Claims.{Leaves, Mismatched, EachHolds}
 use Rattle.machine.specs.StepsHold.{Held}
 use Rattle.machine.specs.StepsWithin.{writeTypes-suffices, writeTypes-same}
-use Rattle.machine.specs.Sheets.{bottomFirst, sheet-steps, left-within}
+use Rattle.machine.specs.Sheets.{sheet-steps, left-within}
 
 -- ---- an accepted call
 

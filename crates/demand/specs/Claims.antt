@@ -1,18 +1,21 @@
--- The words of demand 3 about the call: the answers that it speaks of, and the conditions of its two halves.
+-- The words of demand 3 about the call: the answers that it speaks of, the conditions of its two halves and what the second says,
+-- and why a real run stops.
 use Prim.Native.Nat.{ℕ}
-use mathlib.Core.List.{List, []}
-use mathlib.Core.Option.{some}
+use mathlib.Core.Bool.{false}
+use mathlib.Core.List.{List, [], _∷_}
+use mathlib.Core.Logic.{_⊎_}
+use mathlib.Core.Option.{none, some}
 use mathlib.Core.Path.{_≡_}
 use lib.ListN.{length, getElem?}
 use Rattle.model.specs.Refusals.{unpervaded}
-use Rattle.model.specs.Types.{Ty}
+use Rattle.model.specs.Types.{Ty, shapeOf}
 use Rattle.model.specs.Within.{All, Within}
 use Rattle.format.specs.Outcome.{accepted, refused}
-use Rattle.machine.specs.Steps.{Step}
+use Rattle.machine.specs.Steps.{Step, put, row, pervading, join, validating}
 use Rattle.machine.specs.Run.{Answer, gives, refuses}
 use Rattle.machine.specs.Call.{tally, Called, called, writeTypes, zeroed, atFront, sheetCall}
 use Rattle.machine.specs.WellFormed.{WellFormed, typesLeft}
-use Rattle.machine.specs.Real.{RealShape, Holds}
+use Rattle.machine.specs.Real.{RealShape, fits, Holds, realPervade, Feeds, realStep, Through}
 use Rattle.machine.specs.Conditions.{NamesNoClosing, FillsNothing, RowsNoOpenDef, JoinsAlike, Along, PutOrPervade}
 
 -- ---- what the call answers
@@ -55,3 +58,29 @@ pub record SecondConditions (s result scratch : List ℕ) (xs : List Step) : Typ
   pub well-formed : WellFormed s result scratch xs
   pub puts-and-pervadings : All PutOrPervade xs
   pub one-left : typesLeft xs ≡ 1
+
+-- "For every list of puts and unfilled pervadings that makes a well-formed sheet leaving one type": `SecondConditions`. "Mismatch,
+-- refusal 8, is answered exactly when no real arrays that fit the puts get through, and otherwise the sheet is accepted": one of
+-- these two, and no third.
+pub data SecondHalf (s result scratch : List ℕ) (xs : List Step) : Type 0 where
+  accepts : (t : Ty) → Leaves s result scratch (t ∷ []) → (f : Feeds xs) (left : List RealShape) → Through xs f left → SecondHalf s result scratch xs
+  mismatches : Mismatched s result scratch → ((f : Feeds xs) (left : List RealShape) → Through xs f left → ⊥) → SecondHalf s result scratch xs
+
+-- ---- the real run
+
+-- Why a step of it stops, of the real shapes that it takes: a pervading of two real shapes whose real pervading stops, or a validation
+-- of one that does not fit. There is no third reason, and so none that a shape is lacking.
+abbrev pub StopsBecause : Step → List RealShape → Type 0
+StopsBecause (put t) rs = ⊥
+StopsBecause row rs = ⊥
+StopsBecause (pervading f g) [] = ⊥
+StopsBecause (pervading f g) (r ∷ []) = ⊥
+StopsBecause (pervading f g) (r ∷ q ∷ rs) = realPervade r q ≡ none
+StopsBecause join rs = ⊥
+StopsBecause (validating spec) [] = ⊥
+StopsBecause (validating spec) (r ∷ rs) = fits (shapeOf spec) r ≡ false
+
+-- Why a run stops: its first step stops for one of the two reasons, or it goes on and the run stops later.
+abbrev pub RunStopsBecause : (xs : List Step) → Feeds xs → List RealShape → Type 0
+RunStopsBecause [] u rs = ⊥
+RunStopsBecause (x ∷ xs) f rs = StopsBecause x rs ⊎ ((rs₁ : List RealShape) × (realStep x (f .0) rs ≡ some rs₁) × RunStopsBecause xs (f .1) rs₁)

@@ -1,26 +1,25 @@
 -- Demand 3, both halves, of what the sheet call answers. These statements rest on the rules and, in the crate `machine`, on
--- SheetLimits, Steps, Run, Sheet, Call, WellFormed, Real and Conditions, and here on Claims and on `SecondHalf` below: what has to be
--- believed stands there. `Bytes s` (`format`: ReaderLaws) says that s is a list of bytes, as every slice of u8 is, and `bottomFirst`
--- (`machine`: Sheets) that a stack is told from the bottom.
+-- SheetLimits, Steps, Run, Sheet, Call, WellFormed, Real and Conditions, and here on Claims: what has to be believed stands there.
+-- `Bytes s` (`format`: Reader) says that s is a list of bytes, as every slice of u8 is.
 use Prim.Native.Nat.{ℕ, _≤_}
 use mathlib.Core.List.{List, [], _∷_, reverse, reverse-reverse}
 use mathlib.Core.Logic.{_↔_}
 use mathlib.Core.Path.{_≡_, sym, _∙_, ap}
 use lib.ListN.{length}
 use Rattle.model.specs.Types.{Ty}
-use Rattle.format.specs.ReaderLaws.{Bytes}
+use Rattle.format.specs.Reader.{Bytes}
 use Rattle.format.specs.Outcome.{accepted, shapeRecord}
 use Rattle.machine.specs.SheetLimits.{scratchBytes}
 use Rattle.machine.specs.Steps.{Step, SheetOf}
-use Rattle.machine.specs.Run.{gives, aside, steps}
+use Rattle.machine.specs.Run.{gives, aside, steps, bottomFirst}
 use Rattle.machine.specs.Sheet.{sheetRun}
 use Rattle.machine.specs.Call.{Tally, called, sheetCall}
 use Rattle.machine.specs.WellFormed.{WellFormed, Heights}
 use Rattle.machine.specs.Real.{RealShape, Feeds, Through}
 use Rattle.machine.specs.Conditions.{puts, SamePuts, countClosing}
-use Rattle.demand.specs.Claims.{Leaves, Mismatched, verdictOf, FirstConditions, EachHolds, SecondConditions}
+use Rattle.demand.specs.Claims.{Leaves, Mismatched, verdictOf, FirstConditions, EachHolds, SecondConditions, SecondHalf, accepts, mismatches}
 use Rattle.machine.specs.StepsTook.{skim-took}
-use Rattle.machine.specs.Sheets.{bottomFirst, sheet-steps, accepted-steps, skim-steps, left-within}
+use Rattle.machine.specs.Sheets.{sheet-steps, accepted-steps, skim-steps, left-within}
 use Rattle.machine.specs.StepsReads.{writeSteps-same}
 use Rattle.machine.specs.StepsHold.{steps-hold}
 use Rattle.machine.specs.Orders.{order-shape}
@@ -73,13 +72,6 @@ first-half-of-bytes s result scratch small n out after e =
     (xs, ts, h, l, first-half s result scratch xs ts h l)
 
 -- ---- the second half
-
--- "For every list of puts and unfilled pervadings that makes a well-formed sheet leaving one type": `SecondConditions`. "Mismatch,
--- refusal 8, is answered exactly when no real arrays that fit the puts get through, and otherwise the sheet is accepted": one of
--- these two, and no third.
-pub data SecondHalf (s result scratch : List ℕ) (xs : List Step) : Type 0 where
-  accepts : (t : Ty) → Leaves s result scratch (t ∷ []) → (f : Feeds xs) (left : List RealShape) → Through xs f left → SecondHalf s result scratch xs
-  mismatches : Mismatched s result scratch → ((f : Feeds xs) (left : List RealShape) → Through xs f left → ⊥) → SecondHalf s result scratch xs
 
 module _ (s result scratch : List ℕ) (small : Bytes s) (xs : List Step) (c : SecondConditions s result scratch xs) where
   pub second-half : SecondHalf s result scratch xs

@@ -2,6 +2,10 @@ pub mod Claims
 pub mod Calls
 pub mod SecondCalls
 pub mod Demand
+pub mod Numbers
 pub mod Numbered
+pub mod WorkedWith
 pub mod Worked
+pub mod WorkedOpen
+pub mod WorkedSecond
 pub mod RealRun

@@ -5,12 +5,12 @@ use Prim.Native.Nat.{ℕ, suc, _≤_}
 use native.Mathlib.Omega.{arith}
 use mathlib.Core.Bool.{Bool, true, false, cond}
 use mathlib.Core.List.{List, [], _∷_, reverse}
-use mathlib.Core.Logic.{_⊎_, inl, inr}
+use mathlib.Core.Logic.{inl, inr}
 use mathlib.Core.Option.{Option, none, some}
 use mathlib.Core.Path.{_≡_, refl, sym, _∙_}
 use lib.ListN.{length, length-reverse}
 use Rattle.model.specs.Types.{Ty, shapeOf}
-use Rattle.format.specs.ReaderLaws.{Bytes}
+use Rattle.format.specs.Reader.{Bytes}
 use Rattle.machine.specs.SheetLimits.{maxStack}
 use Rattle.machine.specs.Steps.{Step, put, row, pervading, join, validating, opcodeOf, takes, leaves, SheetOf}
 use Rattle.machine.specs.Run.{gives, Stack, step, steps}
@@ -21,22 +21,10 @@ use Rattle.machine.specs.StepsHold.{following-gives}
 use Rattle.machine.specs.StepsReads.{step-room}
 use Rattle.machine.specs.SheetWorked.{step-height}
 use Rattle.machine.specs.Sheets.{left-within}
-use Rattle.demand.specs.Claims.{Leaves}
+use Rattle.demand.specs.Claims.{Leaves, StopsBecause, RunStopsBecause}
 use Rattle.demand.specs.Calls.{leaves-run}
 
 -- ---- one step
-
--- Why a step stops, of the real shapes that it takes: a pervading of two real shapes whose real pervading stops, or a validation
--- of one that does not fit. There is no third reason, and so none that a shape is lacking.
-abbrev pub StopsBecause : Step → List RealShape → Type 0
-StopsBecause (put t) rs = ⊥
-StopsBecause row rs = ⊥
-StopsBecause (pervading f g) [] = ⊥
-StopsBecause (pervading f g) (r ∷ []) = ⊥
-StopsBecause (pervading f g) (r ∷ q ∷ rs) = realPervade r q ≡ none
-StopsBecause join rs = ⊥
-StopsBecause (validating spec) [] = ⊥
-StopsBecause (validating spec) (r ∷ rs) = fits (shapeOf spec) r ≡ false
 
 onto-stops : (rs : List RealShape) (o : Option RealShape) → ontoReal rs o ≡ none → o ≡ none
 onto-stops rs none e = refl
@@ -85,11 +73,6 @@ step-many (validating spec) u [] rs₁ e = let z : _≡_ {A = ℕ} 0 1 = cc in a
 step-many (validating spec) u (r ∷ rs) rs₁ e = omega (arith, fit-many (fits (shapeOf spec) r) (r ∷ rs) rs₁ e)
 
 -- ---- all steps
-
--- Why a run stops: its first step stops for one of the two reasons, or it goes on and the run stops later.
-abbrev pub RunStopsBecause : (xs : List Step) → Feeds xs → List RealShape → Type 0
-RunStopsBecause [] u rs = ⊥
-RunStopsBecause (x ∷ xs) f rs = StopsBecause x rs ⊎ ((rs₁ : List RealShape) × (realStep x (f .0) rs ≡ some rs₁) × RunStopsBecause xs (f .1) rs₁)
 
 -- Where no step lacks types, the run of real shapes, as many as types, stops for these reasons alone.
 pub run-stops : (xs : List Step) (f : Feeds xs) (rs : List RealShape) → Heights xs (length rs) → realRun xs f rs ≡ none → RunStopsBecause xs f rs

@@ -5,7 +5,7 @@ use mathlib.Core.List.{List, [], _∷_}
 use mathlib.Core.Path.{_≡_, sym, ap}
 use Rattle.model.specs.Refusals.{unpervaded}
 use Rattle.model.specs.Types.{Ty, ty, shapeOf}
-use Rattle.format.specs.ReaderLaws.{Bytes}
+use Rattle.format.specs.Reader.{Bytes}
 use Rattle.format.specs.Records.{writeShape}
 use Rattle.format.specs.Outcome.{shapeRecord}
 use Rattle.machine.specs.Steps.{Step, SheetOf}

@@ -2,15 +2,11 @@
 -- that keeps every condition, and that real arrays get through; and what the first half then says of it.
 use Prim.Native.Nat.{ℕ, _≤_}
 use native.Mathlib.Omega.{arith}
-use mathlib.Core.Bool.{true, false}
+use mathlib.Core.Bool.{false}
 use mathlib.Core.List.{List, [], _∷_, _++_}
-use mathlib.Core.Option.{none}
-use mathlib.Core.Path.{_≡_, refl, _∙_}
-use lib.ListN.{length, replicate, length-replicate}
-use lib.Dec.{leb}
-use borrow.Author.Tests.{le-leb}
-use Rattle.model.specs.Types.{Dim, static, unknown, shape, num, plain, Ty, ty, inside, below}
-use Rattle.model.specs.Within.{DimsWithin, Within}
+use mathlib.Core.Path.{_≡_, refl}
+use lib.ListN.{length}
+use Rattle.model.specs.Types.{static, unknown, Ty, inside, below}
 use Rattle.format.specs.Reader.{byte, judged, number, bytesOf}
 use Rattle.format.specs.Records.{code, kindOf, writeShape, writeScalar, writeTy, readMark, readDim, readDims, shapeFrom, scalarFrom, readTy}
 use Rattle.format.specs.Outcome.{accepted}
@@ -25,28 +21,20 @@ use Rattle.validation.specs.CheckScalar.{checkScalar}
 use Rattle.validation.specs.Validate.{validate}
 use Rattle.machine.specs.SheetLimits.{scratchBytes}
 use Rattle.machine.specs.Steps.{Step, put, row, pervading, join, validating, writeSteps, SheetOf}
-use Rattle.machine.specs.Run.{Answer, gives, refuses, Stack, pervadeTypes, step}
+use Rattle.machine.specs.Run.{pervadeTypes, step}
 use Rattle.machine.specs.Sheet.{opcodeFrom, argumentFrom, stepFrom, workFrom, sheetFrom, sheetRun}
-use Rattle.machine.specs.Call.{writeTypes, handOver}
+use Rattle.machine.specs.Call.{writeTypes}
 use Rattle.machine.specs.Real.{fits, realPervade, theOneBelow, Feeds, realStep, realRun, Through}
-use Rattle.machine.specs.Conditions.{RowsNoOpenDef, JoinsAlike, Along}
+use Rattle.machine.specs.Conditions.{RowsNoOpenDef, JoinsAlike}
 use Rattle.demand.specs.Claims.{Leaves, FirstConditions, EachHolds}
-use Rattle.demand.specs.Calls.{call-run}
+use Rattle.demand.specs.WorkedWith.{nums, oneSize, nums-within, zeroes, long-enough, run-leaves, as-worked}
 use Rattle.demand.specs.Demand.{first-half}
 
 -- ---- the sheet
 
--- Num of some sizes
-abbrev nums : List Dim → Ty
-nums ds = ty (shape ds none) (plain num)
-
 -- put [2 ?] Num, row, put [3] Num, pervade 0, put [4] Num, join, validate [3] Num
 abbrev pub workedSteps : List Step
 workedSteps = put (nums (static 2 ∷ unknown ∷ [])) ∷ row ∷ put (nums (static 3 ∷ [])) ∷ pervading false false ∷ put (nums (static 4 ∷ [])) ∷ join ∷ validating (nums (static 3 ∷ [])) ∷ []
-
--- the record of [n] Num, for n below 256
-abbrev oneSize : ℕ → List ℕ
-oneSize n = 0x53 ∷ 0x48 ∷ 0x01 ∷ 0xFF ∷ n ∷ 0 ∷ 0 ∷ 0 ∷ 0 ∷ 0 ∷ 0 ∷ 0 ∷ 0x53 ∷ 0x43 ∷ 0x03 ∷ []
 
 abbrev pub workedBytes : List ℕ
 workedBytes =
@@ -68,10 +56,6 @@ workedFeeds = (2 ∷ 3 ∷ [], (tt, (3 ∷ [], (tt, (4 ∷ [], (theOneBelow, (tt
 
 -- ---- it is a sheet
 
-nums-within : (ds : List Dim) → DimsWithin ds → Within (nums ds)
-unfolding inside below
-nums-within ds h = record { records = ((h, tt), tt); few = omega arith; shallow = omega arith }
-
 pub worked-sheet : SheetOf workedBytes workedSteps
 unfolding bytesOf code writeShape writeScalar writeTy writeSteps
 worked-sheet = record {
@@ -92,41 +76,13 @@ worked-length = refl
 
 -- With any result of at least 15 bytes, which the type left takes, and any scratch that is long enough.
 pub worked-leaves : (result scratch : List ℕ) → 15 ≤ length result → scratchBytes ≤ length scratch → Leaves workedBytes result scratch workedLeft
-unfolding handOver
-worked-leaves result scratch room enough =
-    let fits : leb (length (writeTypes workedLeft)) (length result) ≡ true = le-leb (length (writeTypes workedLeft)) (length result) (omega (arith, worked-length)) in
-    record { within = (nums-within (static 3 ∷ []) (omega arith, (omega arith, tt)), tt); outcome = call-run workedBytes result scratch enough ∙ rw (worked-run, fits) }
-
--- a buffer of zeroes
-unfoldable pub zeroes : ℕ → List ℕ
-zeroes n = replicate n 0
-
-long-enough : (n : ℕ) → n ≤ length (zeroes n)
-unfolding zeroes
-long-enough n = let l : length (replicate {A = ℕ} n 0) ≡ n = length-replicate n 0 in omega arith
+worked-leaves result scratch room enough = run-leaves workedBytes result scratch enough workedLeft worked-run (nums-within (static 3 ∷ []) (omega arith, (omega arith, tt)), tt) (omega (arith, worked-length))
 
 -- There are such buffers.
 pub worked-buffers : Leaves workedBytes (zeroes 15) (zeroes scratchBytes) workedLeft
 worked-buffers = worked-leaves (zeroes 15) (zeroes scratchBytes) (long-enough 15) (long-enough scratchBytes)
 
 -- ---- it keeps the conditions
-
--- Of each step with the stack that it takes, as `Along` has it, but of the stack that the rules come to.
-abbrev onGives : Answer Stack → (Stack → Type 0) → Type 0
-onGives (gives st) Q = Q st
-onGives (refuses k) Q = Unit {0}
-
-abbrev AsWorked : (Step → Stack → Type 0) → List Step → Stack → Type 0
-AsWorked P [] st = Unit {0}
-AsWorked P (x ∷ xs) st = P x st × onGives (step x st) λ st₁. AsWorked P xs st₁
-
-given : (a : Answer Stack) (Q : Stack → Type 0) (st : Stack) → a ≡ gives st → onGives a Q → Q st
-given (gives st₁) Q st e h = let w : st₁ ≡ st = cc in rw (← w) h
-given (refuses k) Q st e h = let z : _≡_ {A = ℕ} 0 1 = cc in absurd (omega arith)
-
-as-worked : (P : Step → Stack → Type 0) (xs : List Step) (st : Stack) → AsWorked P xs st → Along P xs st
-as-worked P [] st h = tt
-as-worked P (x ∷ xs) st h = (h .0, λ st₁ e. as-worked P xs st₁ (given (step x st) (λ st₂. AsWorked P xs st₂) st₁ e (h .1)))
 
 -- The row is of [2 ?] Num, no Def; the join is of [4] and [3], closed and of one size each.
 pub worked-conditions : FirstConditions workedSteps

@@ -6,3 +6,5 @@ pub mod WriteRead
 pub mod ReadWrite
 pub mod Suffices
 pub mod Views
+pub mod DeliverLaws
+pub mod Examples

@@ -14,9 +14,9 @@ use Rattle.model.specs.Limits.{ones, maxSize, maxSizes, maxName, maxFields, max
 use Rattle.model.specs.Refusals.{unmarked, outOfRange, trailing}
 use Rattle.model.specs.Types.{Dim, static, unknown, Shape, shape, Kind, bool, nat, int, num, complex, ascii, char, stream, any, Scalar, plain, boxAny, Fields, Ty, ty, boxOf, fieldOf, fieldCount, inside, among, types, below, deepest, depth}
 use Rattle.model.specs.Within.{All, Each, DimWithin, ShapeWithin, Printing, ScalarWithin, FieldsWithin, RecordsWithin, Within}
-use Rattle.format.specs.Reader.{Read, got, stopped, Reader, andThen, give, stop, need, here, byte, judged, number, bytesOf}
+use Rattle.format.specs.Reader.{Bytes, Read, got, stopped, Reader, andThen, give, stop, need, here, byte, judged, number, bytesOf, Took}
 use Rattle.format.specs.WriteRead.{reads-shape}
-use Rattle.format.specs.ReaderLaws.{Bytes, reads-here, Took, took-none, took-join, split, gave, needed, took-byte, took-judged, took-number}
+use Rattle.format.specs.ReaderLaws.{reads-here, took-none, took-join, split, gave, needed, took-byte, took-judged, took-number}
 use Rattle.format.specs.Records.{Mark, mark, shapeMark, scalarMark, boxMark, markBytes, absent, code, boxCode, kindOf, dimNumber, writeDims, countOf, listOf, writeShape, boxStart, writeScalar, writeFields, writeTy, dimOf, isCount, isOptional, listCount, optional, isPrinting, form, orStop, readMark, readDim, readDims, shapeFrom, readShape, readName, readFields, defFrom, allFrom, boxFrom, plainFrom, scalarFrom, readTy, readType}
 use Rattle.format.specs.Outcome.{accepted, refused, alone, lone}
 

@@ -1,9 +1,10 @@
 -- Reading left to right over one list of bytes. A reader is a function of the place reached: it gives a value and the place
 -- after it, or stops with a refusal's number and place. What is read for a record hands on p, the place that its refusals name.
-use Prim.Native.Nat.{ℕ, zero, suc, _+_, _*_, _/_, _%_}
+use Prim.Native.Nat.{ℕ, zero, suc, _+_, _*_, _/_, _%_, _<_}
 use mathlib.Core.Bool.{Bool, true, false, cond}
-use mathlib.Core.List.{List, [], _∷_}
-use lib.ListN.{length, getD}
+use mathlib.Core.List.{List, [], _∷_, _++_}
+use mathlib.Core.Path.{_≡_}
+use lib.ListN.{length, getD, drop}
 use lib.Dec.{ltb}
 use Rattle.model.specs.Refusals.{ended, outOfRange}
 
@@ -68,3 +69,17 @@ module _ (s : List ℕ) where
 unfoldable pub bytesOf : ℕ → ℕ → List ℕ
 bytesOf zero n = []
 bytesOf (suc k) n = n % 256 ∷ bytesOf k (n / 256)
+
+-- Bytes: every element is one, as in every slice of u8.
+abbrev pub Bytes : List ℕ → Type 0
+Bytes s = (i : ℕ) → getD s i 0 < 256
+
+-- ---- what was written and what was read
+
+-- m reads a off the bytes w, wherever they stand in s. A record, so that m, w and a can be read off a goal.
+pub record Reads {A : Type 0} (s : List ℕ) (m : Reader A) (w : List ℕ) (a : A) : Type 0 where
+  pub run : (at : ℕ) (rest : List ℕ) → drop at s ≡ w ++ rest → m at ≡ got a (at + length w)
+
+-- From place `at` up to place n stand the bytes w.
+pub record Took (s : List ℕ) (at : ℕ) (w : List ℕ) (n : ℕ) : Type 0 where
+  pub is : drop at s ≡ w ++ drop n s

@@ -13,19 +13,7 @@ use lib.Dec.{ltb, lit<}
 use lib.Arith.{digits-div, digits-mod, digits-lt}
 use borrow.Author.Tests.{lt-ltb, le-ltb, ltb-true}
 use Rattle.model.specs.Refusals.{ended, outOfRange}
-use Rattle.format.specs.Reader.{Read, got, stopped, Reader, andThen, _>>=_, _>>_, give, need, here, byte, judged, number, bytesOf}
-
--- m reads a off the bytes w, wherever they stand in s. A record, so that m, w and a can be read off a goal.
-pub record Reads {A : Type 0} (s : List ℕ) (m : Reader A) (w : List ℕ) (a : A) : Type 0 where
-  pub run : (at : ℕ) (rest : List ℕ) → drop at s ≡ w ++ rest → m at ≡ got a (at + length w)
-
--- From place `at` up to place n stand the bytes w.
-pub record Took (s : List ℕ) (at : ℕ) (w : List ℕ) (n : ℕ) : Type 0 where
-  pub is : drop at s ≡ w ++ drop n s
-
--- Every element is a byte.
-abbrev pub Bytes : List ℕ → Type 0
-Bytes s = (i : ℕ) → getD s i 0 < 256
+use Rattle.format.specs.Reader.{Bytes, Read, got, stopped, Reader, andThen, _>>=_, _>>_, give, need, here, byte, judged, number, bytesOf, Reads, Took}
 
 -- ---- written and read
 

@@ -7,7 +7,8 @@ use mathlib.Core.List.{List, [], _∷_, _++_, append-assoc, append-nil}
 use mathlib.Core.Path.{_≡_, sym, _∙_, ap}
 use lib.ListN.{length, getD, take, drop, length-append, length-drop, drop-of-length-le, List·getD-append}
 use lib.Seq.{getD-drop, take-length, take-append-seam}
-use Rattle.format.specs.ReaderLaws.{Took, drop-past}
+use Rattle.format.specs.Reader.{Took}
+use Rattle.format.specs.ReaderLaws.{drop-past}
 
 -- The rest of a list, as a part of a slice has it.
 pub rest-is : (s : List ℕ) (n : ℕ) → take (length s - n) (drop n s) ≡ drop n s

@@ -5,7 +5,7 @@ use mathlib.Core.Path.{_≡_, sym, _∙_, ap}
 use lib.ListN.{length, drop}
 use Rattle.model.specs.Limits.{maxDepth}
 use Rattle.model.specs.Types.{any, Shape, Scalar, plain, boxAny, ty}
-use Rattle.format.specs.ReaderLaws.{Bytes}
+use Rattle.format.specs.Reader.{Bytes}
 use Rattle.format.specs.Records.{writeShape, writeScalar, writeTy}
 use Rattle.format.specs.Outcome.{Outcome, accepted, mapped, both, lone, scalarRecord}
 use Rattle.record.specs.Answers.{nothings}

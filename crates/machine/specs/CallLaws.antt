@@ -12,7 +12,7 @@ use borrow.Author.Tests.{le-leb, le-ltb}
 use Rattle.model.specs.Refusals.{tooShort}
 use Rattle.model.specs.Types.{Ty}
 use Rattle.model.specs.Within.{All, Within}
-use Rattle.format.specs.ReaderLaws.{Bytes}
+use Rattle.format.specs.Reader.{Bytes}
 use Rattle.format.specs.Outcome.{Outcome, accepted, refused}
 use Rattle.machine.specs.SheetLimits.{maxStack, scratchBytes}
 use Rattle.machine.specs.Steps.{Step}

@@ -1,17 +1,18 @@
 -- Worked examples of the sheet in one list: document 01's own, and those where its words are easily read otherwise. What comes
 -- first of several refusals, which place is named, which side is the first, and what stands at the bottom.
-use Prim.Native.Nat.{ℕ, zero, suc, _≤_}
+use Prim.Native.Nat.{ℕ, zero, suc, _*_, _≤_}
 use mathlib.Core.Bool.{Bool, true, false}
 use mathlib.Core.List.{List, [], _∷_, _++_, map}
 use mathlib.Core.Option.{Option, none, some}
 use mathlib.Core.Path.{_≡_, refl}
 use lib.ListN.{length, replicate}
 use borrow.Author.Tests.{le-ltb}
+use Rattle.model.specs.Limits.{maxBytes}
 use Rattle.model.specs.Refusals.{ended, unmarked, outOfRange, tooShort, unpervaded, wrongScalar, wrongShape, underflow, overflow}
 use Rattle.model.specs.Types.{static, unknown, Shape, shape, Kind, num, char, plain, boxAny, boxAll, Ty, ty, inside, below}
 use Rattle.model.specs.Within.{All}
 use Rattle.format.specs.Reader.{byte, judged, number, bytesOf}
-use Rattle.format.specs.Records.{code, kindOf, writeShape, writeScalar, writeTy, readMark, readDim, readDims, shapeFrom, readName, readFields, defFrom, boxFrom, scalarFrom, readTy}
+use Rattle.format.specs.Records.{markBytes, code, kindOf, writeShape, writeScalar, writeTy, readMark, readDim, readDims, shapeFrom, readName, readFields, defFrom, boxFrom, scalarFrom, readTy}
 use Rattle.format.specs.Outcome.{accepted, refused, mapped}
 use Rattle.rules.specs.Sizes.{cmpDim, larger, compatible, joinDim}
 use Rattle.rules.specs.Shapes.{isAny, rank, rowShape, mergeDims, mergeClosing, mergeFrom, joinDims, joinLonger, joinEnds, joinClosing, joinShapes}
@@ -23,8 +24,8 @@ use Rattle.validation.specs.CheckShape.{agree, equalDim, equalDims, mismatch, s
 use Rattle.validation.specs.AsFields.{keepsLimits}
 use Rattle.validation.specs.CheckScalar.{checkScalar}
 use Rattle.validation.specs.Validate.{validate}
-use Rattle.machine.specs.SheetLimits.{scratchBytes}
-use Rattle.machine.specs.Steps.{Step, put, row, pervading, join, validating, writeSteps}
+use Rattle.machine.specs.SheetLimits.{maxSteps, maxStack, scratchBytes, programBytes}
+use Rattle.machine.specs.Steps.{Step, put, row, pervading, join, validating, markOf, opcodes, flagByte, maxFlag, writeSteps}
 use Rattle.machine.specs.Run.{pervadeTypes, step}
 use Rattle.machine.specs.Sheet.{opcodeFrom, argumentFrom, stepFrom, workFrom, sheetFrom, skimFrom, sheetRun, skim}
 use Rattle.machine.specs.Call.{tally, called, writeTypes, zeroed, handOver, sheetCall}
@@ -45,6 +46,20 @@ Holds (theBytes s w) = mapped writeTypes (sheetRun s) ≡ accepted w
 Holds (theTypes xs ts) = sheetRun (writeSteps xs) ≡ accepted ts
 Holds (theRefusal s k p) = sheetRun s ≡ refused k p
 Holds (theSteps s xs) = skim s ≡ accepted xs
+
+-- ---- limits, marks and flags as they stand in the paper, once
+
+-- 64 steps, a stack of eight, 39,936 bytes of scratch, which are eight types of 4,992, and 49,152 bytes for the program
+pub sheet-limited : (_≡_ {A = List ℕ} (maxSteps ∷ maxStack ∷ scratchBytes ∷ programBytes ∷ []) (64 ∷ 8 ∷ 39936 ∷ 49152 ∷ [])) × (scratchBytes ≡ maxStack * maxBytes)
+sheet-limited = (refl, refl)
+
+-- 50 55 put, 52 57 row, 50 56 pervade, 4A 4E join, 56 41 validate
+pub marks-are : map (λ c. markBytes (markOf c)) opcodes ≡ (0x50 ∷ 0x55 ∷ []) ∷ (0x52 ∷ 0x57 ∷ []) ∷ (0x50 ∷ 0x56 ∷ []) ∷ (0x4A ∷ 0x4E ∷ []) ∷ (0x56 ∷ 0x41 ∷ []) ∷ []
+marks-are = refl
+
+-- bit 0 fills the top, bit 1 the one below, and 3 both
+pub flags-are : _≡_ {A = List ℕ} (flagByte false false ∷ flagByte true false ∷ flagByte false true ∷ flagByte true true ∷ maxFlag ∷ []) (0 ∷ 1 ∷ 2 ∷ 3 ∷ 3 ∷ [])
+flags-are = refl
 
 -- ---- how the examples are written
 
@@ -120,10 +135,10 @@ oneSheet = 0x50 ∷ 0x55 ∷ 0x53 ∷ 0x48 ∷ 0x00 ∷ 0xFF ∷ 0x53 ∷ 0x43 �
 abbrev oneRecord : List ℕ
 oneRecord = 0x53 ∷ 0x48 ∷ 0x00 ∷ 0xFF ∷ 0x53 ∷ 0x43 ∷ 0x03 ∷ []
 
--- A scratch that is too short is found first and stays as lent.
-pub call-no-scratch : (s result : List ℕ) → sheetCall s result [] ≡ called (refused tooShort 0) result []
+-- A scratch that is too short is found first and stays as lent, one of no bytes and one of two.
+pub call-no-scratch : (s result : List ℕ) → (sheetCall s result [] ≡ called (refused tooShort 0) result []) × (sheetCall s result (7 ∷ 7 ∷ []) ≡ called (refused tooShort 0) result (7 ∷ 7 ∷ []))
 unfolding sheetCall
-call-no-scratch s result = refl
+call-no-scratch s result = (refl, refl)
 
 module _ (scratch : List ℕ) (enough : scratchBytes ≤ length scratch) where
   -- An empty sheet needs no result.
@@ -135,6 +150,11 @@ module _ (scratch : List ℕ) (enough : scratchBytes ≤ length scratch) where
   pub call-one : sheetCall oneSheet (replicate 8 7) scratch ≡ called (accepted (tally 1 7)) (oneRecord ++ (7 ∷ [])) (zeroed scratch)
   unfolding sheetCall sheetRun sheetFrom workFrom stepFrom opcodeFrom argumentFrom step handOver writeTypes byte judged number bytesOf code kindOf writeShape writeScalar writeTy readMark readDim readDims shapeFrom scalarFrom readTy
   call-one = rw (le-ltb (length scratch) scratchBytes enough)
+
+  -- A refusal writes nothing to the result: a row first.
+  pub call-refused : sheetCall (0x52 ∷ 0x57 ∷ []) (replicate 8 7) scratch ≡ called (refused underflow 0) (replicate 8 7) (zeroed scratch)
+  unfolding sheetCall sheetRun sheetFrom workFrom stepFrom opcodeFrom handOver byte
+  call-refused = rw (le-ltb (length scratch) scratchBytes enough)
 
   -- A result that is one byte too short stays as lent, and is found at the sheet's length.
   pub call-short : sheetCall oneSheet (replicate 6 7) scratch ≡ called (refused tooShort 9) (replicate 6 7) (zeroed scratch)

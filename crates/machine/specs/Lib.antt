@@ -14,6 +14,7 @@ pub mod SheetWorked
 pub mod StepsWithin
 pub mod Sheets
 pub mod CallLaws
+pub mod BufferLaws
 pub mod Fitting
 pub mod Bare
 pub mod PervadeHolds

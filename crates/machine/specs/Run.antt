@@ -2,7 +2,7 @@
 -- stack, or the number of its refusal. The top is the Rust's first.
 use Prim.Native.Nat.{ℕ}
 use mathlib.Core.Bool.{Bool, cond}
-use mathlib.Core.List.{List, [], _∷_}
+use mathlib.Core.List.{List, [], _∷_, reverse}
 use mathlib.Core.Option.{Option, none, some}
 use lib.ListN.{length}
 use lib.Dec.{ltb}
@@ -64,3 +64,8 @@ step (validating spec) (t ∷ st) = onto st (aside (validate unsided spec t))
 unfoldable pub steps : List Step → Stack → Answer Stack
 steps [] st = gives st
 steps (x ∷ xs) st = following (step x st) λ st₁. steps xs st₁
+
+-- The types left, bottom first.
+abbrev pub bottomFirst : Answer Stack → Answer (List Ty)
+bottomFirst (gives st) = gives (reverse st)
+bottomFirst (refuses k) = refuses k

@@ -6,24 +6,18 @@ use mathlib.Core.List.{List, [], reverse, reverse-reverse}
 use mathlib.Core.Path.{_≡_, refl, sym, _∙_, ap}
 use Rattle.model.specs.Types.{Ty}
 use Rattle.model.specs.Within.{All, Within}
-use Rattle.format.specs.Reader.{Read, got, stopped}
-use Rattle.format.specs.ReaderLaws.{Bytes}
+use Rattle.format.specs.Reader.{Bytes, Read, got, stopped}
 use Rattle.format.specs.Outcome.{accepted, mapped}
 use Rattle.rules.specs.Lists.{all-reverse}
 use Rattle.machine.specs.SheetLimits.{maxSteps}
 use Rattle.machine.specs.Steps.{Step, SheetOf}
-use Rattle.machine.specs.Run.{Answer, gives, refuses, aside, Stack, steps}
+use Rattle.machine.specs.Run.{Answer, gives, refuses, aside, Stack, steps, bottomFirst}
 use Rattle.machine.specs.Sheet.{sheetFrom, outcomeOf, sheetRun, skim}
 use Rattle.machine.specs.WellFormed.{Heights}
 use Rattle.machine.specs.StepsTook.{skim-took}
 use Rattle.machine.specs.SheetWorked.{Same, accepted-skims}
 use Rattle.machine.specs.StepsReads.{written-worked, written-skims}
 use Rattle.machine.specs.StepsWithin.{steps-within}
-
--- a stack as the types left, bottom first
-abbrev pub bottomFirst : Answer Stack → Answer (List Ty)
-bottomFirst (gives st) = gives (reverse st)
-bottomFirst (refuses k) = refuses k
 
 same-aside : (a : Answer Stack) (r : Read Stack) → Same a r → aside (mapped reverse (outcomeOf r)) ≡ bottomFirst a
 same-aside (gives st) r (n, e) = rw e

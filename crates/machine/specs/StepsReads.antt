@@ -10,8 +10,8 @@ use lib.Dec.{leb}
 use borrow.Author.Tests.{le-leb, le-ltb, leb-true, leb-false}
 use Rattle.model.specs.Refusals.{underflow, overflow}
 use Rattle.model.specs.Within.{All}
-use Rattle.format.specs.Reader.{got, stop, here}
-use Rattle.format.specs.ReaderLaws.{Reads, drop-past, reads-give, reads-bind, reads-byte, reads-need, reads-judged, reads-last}
+use Rattle.format.specs.Reader.{got, stop, here, Reads}
+use Rattle.format.specs.ReaderLaws.{drop-past, reads-give, reads-bind, reads-byte, reads-need, reads-judged, reads-last}
 use Rattle.format.specs.Records.{markBytes, isCount}
 use Rattle.format.specs.WriteRead.{write-read}
 use Rattle.machine.specs.SheetLimits.{maxStack}

@@ -10,8 +10,8 @@ use lib.Dec.{eqb, leb, ltb}
 use borrow.Author.Tests.{eqb-true, leb-true, ltb-true, ltb-false}
 use Rattle.model.specs.Refusals.{unmarked, underflow, overflow}
 use Rattle.model.specs.Within.{All}
-use Rattle.format.specs.Reader.{Read, got, stopped, Reader, _>>=_, give, stop, here, byte, judged}
-use Rattle.format.specs.ReaderLaws.{Bytes, Took, took-none, took-join, split, needed, gave, took-byte, took-judged}
+use Rattle.format.specs.Reader.{Bytes, Read, got, stopped, Reader, _>>=_, give, stop, here, byte, judged, Took}
+use Rattle.format.specs.ReaderLaws.{took-none, took-join, split, needed, gave, took-byte, took-judged}
 use Rattle.format.specs.Records.{Mark, mark, markBytes, isCount, orStop, readType}
 use Rattle.format.specs.ReadWrite.{read-write}
 use Rattle.format.specs.Outcome.{accepted}

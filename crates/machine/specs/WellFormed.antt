@@ -10,7 +10,7 @@ use Rattle.machine.specs.Steps.{Step, opcodeOf, takes, leaves}
 use Rattle.machine.specs.Sheet.{skim}
 
 -- The term well-formed, of a sheet's bytes and of the two buffers, with the steps that the reading gives: the reading's own
--- refusals are 1 to 5, 11 and 12 (`demand`: `skim-refused`), so that it meets none of them if it is accepted.
+-- refusals are 1 to 5, 11 and 12 (`demand`: `skim-numbered`), so that it meets none of them if it is accepted.
 pub record WellFormed (s result scratch : List ℕ) (xs : List Step) : Type 0 where
   pub read : skim s ≡ accepted xs
   pub result-holds : scratchBytes ≤ length result

@@ -2,3 +2,4 @@ pub mod Limits
 pub mod Refusals
 pub mod Types
 pub mod Within
+pub mod Examples

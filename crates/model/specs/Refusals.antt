@@ -1,6 +1,10 @@
 -- The thirteen ways of saying no (document 01, the section of that name): each refusal's number, with a name for it.
 -- Definitions cite the names; the numbers stand here alone.
 use Prim.Native.Nat.{ℕ}
+use mathlib.Core.Bool.{Bool, true, false, _||_}
+use mathlib.Core.List.{List, [], _∷_}
+use mathlib.Core.Path.{_≡_}
+use lib.Dec.{eqb}
 
 -- bytes end inside a record or a type
 abbrev pub ended : ℕ
@@ -50,3 +54,17 @@ overflow = 12
 -- NaN, a negative number or a fraction as a size
 abbrev pub notASize : ℕ
 notASize = 13
+
+-- ---- lists of them
+
+-- all thirteen
+abbrev pub thirteen : List ℕ
+thirteen = ended ∷ unmarked ∷ outOfRange ∷ oversized ∷ tooMany ∷ trailing ∷ tooShort ∷ unpervaded ∷ wrongScalar ∷ wrongShape ∷ underflow ∷ overflow ∷ notASize ∷ []
+
+-- a number is one of a list
+abbrev pub isAmong : List ℕ → ℕ → Bool
+isAmong [] k = false
+isAmong (n ∷ ns) k = eqb k n || isAmong ns k
+
+abbrev pub Among : List ℕ → ℕ → Type 0
+Among ns k = isAmong ns k ≡ true

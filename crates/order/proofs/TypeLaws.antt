@@ -8,7 +8,7 @@ use lib.ListN.{length, getD, length-append}
 use Rattle.model.specs.Limits.{maxDepth}
 use Rattle.model.specs.Types.{Shape, Scalar, plain, boxAny, boxAll, boxDef, Fields, noFields, field, Ty, ty, shapeOf, scalarOf, fieldCount}
 use Rattle.format.specs.Records.{code, boxCode, listOf, writeShape, writeScalar, writeFields, writeTy}
-use Rattle.format.specs.ReaderLaws.{Bytes}
+use Rattle.format.specs.Reader.{Bytes}
 use Rattle.format.specs.Outcome.{accepted, both, lone}
 use Rattle.record.specs.Answers.{nothings}
 use Rattle.rules.specs.Sizes.{Order, less, same, more, cmpNumber}

@@ -7,8 +7,7 @@ use lib.ListN.{length, drop, length-append}
 use borrow.Author.Tests.{lt-ltb, le-ltb}
 use Rattle.model.specs.Refusals.{trailing}
 use Rattle.model.specs.Types.{Shape, Ty, ty, shapeOf}
-use Rattle.format.specs.Reader.{got, stopped, mapRead}
-use Rattle.format.specs.ReaderLaws.{Bytes}
+use Rattle.format.specs.Reader.{Bytes, got, stopped, mapRead}
 use Rattle.format.specs.Records.{writeShape, writeScalar, writeTy, readShape, readType}
 use Rattle.format.specs.Outcome.{Outcome, accepted, refused, mapped, bound, both, lone, scalarRecord}
 use Rattle.format.specs.ReadWrite.{lone-parts, lone-write}

@@ -12,8 +12,7 @@ use Rattle.model.specs.Limits.{maxBytes, maxTypes}
 use Rattle.model.specs.Refusals.{unpervaded}
 use Rattle.model.specs.Types.{Shape, Scalar, Ty, ty, types}
 use Rattle.model.specs.Within.{Within}
-use Rattle.format.specs.Reader.{got, stopped, mapRead}
-use Rattle.format.specs.ReaderLaws.{Bytes}
+use Rattle.format.specs.Reader.{Bytes, got, stopped, mapRead}
 use Rattle.format.specs.Records.{writeTy, readType}
 use Rattle.format.specs.ReadWrite.{read-write}
 use Rattle.format.specs.WriteRead.{write-read, write-lone}

@@ -6,7 +6,7 @@ use mathlib.Core.Path.{_≡_, refl, sym, _∙_, ap}
 use lib.ListN.{length, getD, drop}
 use Rattle.model.specs.Limits.{maxDepth}
 use Rattle.model.specs.Types.{any, Scalar, plain, boxAny}
-use Rattle.format.specs.ReaderLaws.{Bytes}
+use Rattle.format.specs.Reader.{Bytes}
 use Rattle.format.specs.Records.{writeScalar}
 use Rattle.format.specs.Outcome.{Outcome, accepted, mapped, both, lone, scalarRecord}
 use Rattle.rules.specs.Order.{codeOf}

@@ -11,7 +11,7 @@ use lib.Seq.{take-add, set-split, paste-zero, append-snoc, drop-append-seam}
 use Rattle.model.specs.Limits.{maxDepth}
 use Rattle.model.specs.Refusals.{tooShort}
 use Rattle.model.specs.Types.{Kind, bool, nat, int, num, complex, ascii, char, stream, any, Scalar, plain, boxAny, boxAll, boxDef, Fields, noFields, field, Ty, ty, shapeOf, scalarOf, fieldCount}
-use Rattle.format.specs.ReaderLaws.{Bytes}
+use Rattle.format.specs.Reader.{Bytes}
 use Rattle.format.specs.Records.{scalarMark, markBytes, code, boxCode, boxStart, countOf, listOf, writeShape, writeScalar, writeFields, writeTy}
 use Rattle.format.specs.Outcome.{Outcome, accepted, refused, mapped, lone, scalarRecord, delivery, deliver}
 use Rattle.format.specs.Views.{rest-is, Stands, stands-first, stands-part, stands-within}

@@ -9,7 +9,7 @@ use lib.ListN.{length, take, drop, length-drop}
 use lib.Seq.{drop-drop}
 use Rattle.model.specs.Limits.{maxBytes}
 use Rattle.model.specs.Types.{Shape, Scalar, plain, boxAny, boxAll, boxDef, Fields, noFields, field, Ty, ty, shapeOf}
-use Rattle.format.specs.ReaderLaws.{Bytes}
+use Rattle.format.specs.Reader.{Bytes}
 use Rattle.format.specs.Records.{code, writeShape, writeScalar, writeFields, writeTy}
 use Rattle.format.specs.Outcome.{Outcome, accepted, refused, mapped, lone}
 use Rattle.format.specs.ReadWrite.{lone-parts, lone-write}

@@ -8,8 +8,7 @@ use lib.ListN.{length, drop, length-append}
 use Rattle.model.specs.Limits.{maxTypes, maxDepth}
 use Rattle.model.specs.Types.{Shape, boxDef, Fields, noFields, field, Ty, ty, fieldCount, inside, among, below, deepest}
 use Rattle.model.specs.Within.{FieldsWithin, Within}
-use Rattle.format.specs.Reader.{Read, got, stopped, mapRead}
-use Rattle.format.specs.ReaderLaws.{Bytes}
+use Rattle.format.specs.Reader.{Bytes, Read, got, stopped, mapRead}
 use Rattle.format.specs.Records.{listOf, writeShape, writeScalar, writeFields, writeTy}
 use Rattle.format.specs.Outcome.{accepted, mapped, lone}
 use Rattle.format.specs.WriteRead.{write-read}

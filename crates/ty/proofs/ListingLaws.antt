@@ -11,7 +11,7 @@ use lib.Dec.{leb}
 use Rattle.model.specs.Limits.{maxFields}
 use Rattle.model.specs.Refusals.{tooMany}
 use Rattle.model.specs.Types.{Dim, static, unknown, Shape, Scalar, boxDef, Fields, Ty, ty, shapeOf}
-use Rattle.format.specs.ReaderLaws.{Bytes}
+use Rattle.format.specs.Reader.{Bytes}
 use Rattle.format.specs.Records.{writeScalar, writeFields, writeTy}
 use Rattle.format.specs.Outcome.{accepted, refused, mapped, bound, lone, scalarRecord, Delivery, deliver}
 use Rattle.rules.specs.Shapes.{rowCount}

@@ -10,7 +10,7 @@ use lib.Dec.{lit<}
 use Rattle.model.specs.Limits.{maxName}
 use Rattle.model.specs.Types.{Shape, Kind, Scalar, plain, boxAny, boxAll, boxDef, Fields, Ty, ty, fieldCount}
 use Rattle.model.specs.Within.{Within}
-use Rattle.format.specs.ReaderLaws.{Bytes}
+use Rattle.format.specs.Reader.{Bytes}
 use Rattle.format.specs.Records.{boxCode, countOf, listOf, listCount, writeShape, writeScalar, writeFields, writeTy}
 use Rattle.format.specs.Outcome.{Outcome, accepted, refused, mapped, lone, scalarRecord}
 use Rattle.format.specs.WriteRead.{listCount-ok}

@@ -8,7 +8,7 @@ use mathlib.Core.Path.{_≡_, refl, sym, _∙_, ap}
 use lib.ListN.{length, set, take, length-append}
 use lib.Seq.{sets, sets-eq}
 use Rattle.model.specs.Types.{Dim, shape, Kind, num, plain, ty}
-use Rattle.format.specs.ReaderLaws.{Bytes}
+use Rattle.format.specs.Reader.{Bytes}
 use Rattle.format.specs.Records.{code, dimOf, writeShape, writeScalar, writeTy}
 use Rattle.format.specs.ReadWrite.{lone-write}
 use Rattle.format.specs.Outcome.{accepted, mapped, lone}

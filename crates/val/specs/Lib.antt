@@ -1,3 +1,4 @@
 pub mod Values
 pub mod Examples
 pub mod Answers
+pub mod ReadAgain

@@ -11,8 +11,8 @@ use borrow.Author.Tests.{ne-eqb}
 use Rattle.model.specs.Limits.{maxName, maxTypes, maxDepth}
 use Rattle.model.specs.Types.{Dim, Shape, shape, Scalar, boxAny, boxAll, boxDef, Fields, noFields, field, fieldCount, Ty, ty, types, inside, among, below, deepest}
 use Rattle.model.specs.Within.{ScalarWithin, FieldsWithin, Within}
-use Rattle.format.specs.Reader.{got, stopped, mapRead}
-use Rattle.format.specs.ReaderLaws.{Bytes, reads-here}
+use Rattle.format.specs.Reader.{Bytes, got, stopped, mapRead}
+use Rattle.format.specs.ReaderLaws.{reads-here}
 use Rattle.format.specs.Records.{boxCode, absent, countOf, listOf, listCount, shapeFrom, readShape, readTy, readType, writeShape, writeScalar, writeFields, writeTy}
 use Rattle.format.specs.WriteRead.{listCount-ok, reads-shape, reads-ty, reads-scalar, write-read}
 use Rattle.format.specs.ReadWrite.{Took-ty, took-ty}

@@ -6,7 +6,7 @@ use mathlib.Core.Path.{_≡_, refl, sym, _∙_, ap}
 use lib.ListN.{take}
 use Rattle.model.specs.Limits.{maxTypes}
 use Rattle.model.specs.Types.{Shape, Scalar, Ty, ty, inside}
-use Rattle.format.specs.ReaderLaws.{Bytes}
+use Rattle.format.specs.Reader.{Bytes}
 use Rattle.format.specs.Records.{writeShape, writeScalar, writeTy}
 use Rattle.format.specs.Outcome.{Outcome, accepted, refused, mapped, both, lone}
 use Rattle.format.specs.ReadWrite.{lone-write}

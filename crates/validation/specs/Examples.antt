@@ -85,10 +85,15 @@ examples =
     ∷ theShapeCheck left (statics (2 ∷ 3 ∷ [])) (sized 2) (refused wrongShape 0)
     ∷ theShapeCheck left (statics (2 ∷ 3 ∷ [])) (starting (2 ∷ [])) (accepted (starting (2 ∷ 3 ∷ [])))
     ∷ theShapeCheck right (statics (2 ∷ 3 ∷ [])) (ending (static 3 ∷ [])) (refused wrongShape 0)
+    -- For the right side the type's opening and closing sizes are counted together: [2 3] on [2..3], whose last is 3.
+    ∷ theShapeCheck right (statics (2 ∷ 3 ∷ [])) (shape (static 2 ∷ []) (some (static 3 ∷ []))) (accepted (shape (static 2 ∷ []) (some (static 3 ∷ static 3 ∷ []))))
     -- A name of length 0 is a name; a closed shape of one static size says how many fields.
     ∷ theValidation unsided (ty anyShape (boxDef (some []) noFields)) (of any (sized 3)) (accepted (ty (starting (3 ∷ [])) (boxDef (some []) (fields (anyTy ∷ anyTy ∷ anyTy ∷ [])))))
     ∷ theValidation unsided (defN anyShape (of num scalar ∷ [])) (of any (sized 2)) (accepted (defN (starting (2 ∷ [])) (of num scalar ∷ anyTy ∷ [])))
     ∷ theValidation unsided (defN anyShape (of num scalar ∷ [])) (ty scalar boxAny) (accepted (defN (ending []) (of num scalar ∷ [])))
+    -- An open shape and one of two sizes do not: [3..] and [3 4] of box Any get the spec's one field.
+    ∷ theValidation unsided (defN anyShape (of num scalar ∷ [])) (ty (starting (3 ∷ [])) boxAny) (accepted (defN (starting (3 ∷ [])) (of num scalar ∷ [])))
+    ∷ theValidation unsided (defN anyShape (of num scalar ∷ [])) (ty (statics (3 ∷ 4 ∷ [])) boxAny) (accepted (defN (starting (3 ∷ 4 ∷ [])) (of num scalar ∷ [])))
     ∷ theValidation unsided (defN anyShape (of num scalar ∷ [])) (ty (sized 2) (boxOf (of int scalar))) (accepted (defN (starting (2 ∷ [])) (of int scalar ∷ of int scalar ∷ [])))
     ∷ theValidation unsided (defN scalar []) (def (of int scalar ∷ [])) (accepted (defN scalar (of int scalar ∷ [])))
     -- Counts of fields are not compared; unlike boxes pass, also an unnamed Def on All.
@@ -114,4 +119,4 @@ examples =
 
 pub examples-hold : All Holds examples
 unfolding examples inside below cmpDim larger compatible isAny rank mergeDims mergeClosing mergeFrom code codeOf supersetCodes supersetOf whollyAny copies agree equalDim equalDims mismatch shapeMismatch sidedShape checkShape keepsLimits fieldsFor asBox copied named asFields eachField onAll onDef checkScalar validate
-examples-hold = (refl, (refl, (refl, (refl, (refl, (refl, (refl, (refl, (refl, (refl, (refl, (refl, (refl, (refl, (refl, (refl, (refl, (refl, (refl, (refl, (refl, (refl, (refl, (refl, (refl, (refl, (refl, (refl, (refl, (refl, (refl, (refl, (refl, (refl, (refl, tt)))))))))))))))))))))))))))))))))))
+examples-hold = (refl, (refl, (refl, (refl, (refl, (refl, (refl, (refl, (refl, (refl, (refl, (refl, (refl, (refl, (refl, (refl, (refl, (refl, (refl, (refl, (refl, (refl, (refl, (refl, (refl, (refl, (refl, (refl, (refl, (refl, (refl, (refl, (refl, (refl, (refl, (refl, (refl, (refl, tt))))))))))))))))))))))))))))))))))))))

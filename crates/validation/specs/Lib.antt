@@ -2,6 +2,7 @@ pub mod CheckShape
 pub mod AsFields
 pub mod CheckScalar
 pub mod Validate
+pub mod Claims
 pub mod Examples
 pub mod OutcomeLaws
 pub mod CheckShapeLaws

@@ -4,7 +4,7 @@ use Prim.Native.Nat.{ℕ}
 use mathlib.Core.Bool.{Bool, true, false, cond}
 use mathlib.Core.List.{List}
 use mathlib.Core.Option.{Option, none, some}
-use mathlib.Core.Path.{_≡_, refl, ap}
+use mathlib.Core.Path.{refl, ap}
 use lib.Dec.{leb}
 use Rattle.model.specs.Limits.{maxFields}
 use Rattle.model.specs.Refusals.{tooMany}
@@ -15,15 +15,7 @@ use Rattle.validation.specs.CheckShape.{Side, unsided, checkShape}
 use Rattle.validation.specs.AsFields.{measured, fieldsFor, asBox, copied, named, asFields}
 use Rattle.validation.specs.CheckScalar.{_>>=_, inTurn, superset, unlessAny, Content, eachField, onAll, onDef, checkScalar, checkFields}
 use Rattle.validation.specs.Validate.{outermost, validate}
-
--- r is 5, or it is q.
-pub data LimitsOnly {A : Type 0} (r q : Outcome A) : Type 0 where
-  over : r ≡ refused tooMany 0 → LimitsOnly r q
-  free : r ≡ q → LimitsOnly r q
-
--- nothing is measured
-abbrev pub unlimited : {A : Type 0} → A → Bool
-unlimited x = true
+use Rattle.validation.specs.Claims.{unlimited, validateUnlimited, LimitsOnly, over, free}
 
 -- ---- what the rules are made of
 
@@ -129,10 +121,6 @@ mutual
   checkFields-limits (field s k f) keeps (field t l g) =
       field-limits (checkScalar k (λ x. keeps (field t x g)) t l) (checkScalar k unlimited t l) (checkShape unsided s t) (λ r. checkFields f (λ h. keeps (fieldOf r h)) g) (λ r. checkFields f unlimited g)
       (checkScalar-limits k (λ x. keeps (field t x g)) t l) λ r. checkFields-limits f (λ h. keeps (fieldOf r h)) g
-
--- Validation where nothing is measured.
-abbrev pub validateUnlimited : Side → Ty → Ty → Outcome Ty
-validateUnlimited side (ty s k) (ty t l) = inTurn (checkScalar k unlimited t l) (checkShape side s t)
 
 pub validate-limits : (side : Side) (s t : Ty) → LimitsOnly (validate side s t) (validateUnlimited side s t)
 unfolding validate

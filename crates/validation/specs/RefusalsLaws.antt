@@ -1,10 +1,10 @@
 -- Validation refuses by 5, 9 and 10 alone, at place 0.
 use Prim.Native.Nat.{ℕ}
-use mathlib.Core.Bool.{Bool, true, false, _||_, cond}
+use mathlib.Core.Bool.{Bool, true, false, cond}
 use mathlib.Core.List.{List}
 use mathlib.Core.Option.{Option, none, some}
-use mathlib.Core.Path.{_≡_, refl}
-use lib.Dec.{eqb, leb}
+use mathlib.Core.Path.{refl}
+use lib.Dec.{leb}
 use Rattle.model.specs.Limits.{maxFields}
 use Rattle.model.specs.Refusals.{tooMany, wrongScalar, wrongShape}
 use Rattle.model.specs.Types.{Shape, Scalar, plain, boxAny, boxAll, boxDef, Fields, noFields, field, Ty, ty, boxOf, fieldOf, fieldCount}
@@ -15,13 +15,7 @@ use Rattle.validation.specs.CheckShape.{Side, unsided, shapeMismatch, ch
 use Rattle.validation.specs.AsFields.{measured, fieldsFor, asBox, copied, named, asFields}
 use Rattle.validation.specs.CheckScalar.{_>>=_, inTurn, superset, unlessAny, Content, eachField, onAll, onDef, checkScalar, checkFields}
 use Rattle.validation.specs.Validate.{outermost, validate, checkScalarOnly, checkShapeOnly}
-
-abbrev pub isListed : ℕ → Bool
-isListed n = eqb n tooMany || eqb n wrongScalar || eqb n wrongShape
-
-abbrev pub Listed : {A : Type 0} → Outcome A → Type 0
-Listed (accepted a) = Unit {0}
-Listed (refused n p) = (isListed n ≡ true) × (p ≡ 0)
+use Rattle.validation.specs.Claims.{Listed}
 
 -- ---- what the rules are made of
 

@@ -6,7 +6,7 @@ use mathlib.Core.Path.{_≡_, sym, _∙_, ap}
 use lib.ListN.{length, drop, length-drop, drop-of-length-le}
 use Rattle.model.specs.Limits.{maxDepth}
 use Rattle.model.specs.Types.{Scalar, Ty, ty, scalarOf}
-use Rattle.format.specs.ReaderLaws.{Bytes}
+use Rattle.format.specs.Reader.{Bytes}
 use Rattle.format.specs.Records.{writeScalar, writeTy}
 use Rattle.format.specs.Outcome.{accepted, mapped, both, lone, scalarRecord}
 use Rattle.format.specs.ReadWrite.{lone-write}

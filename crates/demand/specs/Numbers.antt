@@ -1,0 +1,36 @@
+-- Demand 1, "gets its result or one of thirteen numbered refusals": which of document 01's "Thirteen ways of saying no" each can
+-- have, as lists of their names.
+use Prim.Native.Nat.{ℕ}
+use mathlib.Core.List.{List, [], _∷_}
+use Rattle.model.specs.Refusals.{ended, unmarked, outOfRange, oversized, tooMany, trailing, tooShort, unpervaded, wrongScalar, wrongShape, underflow, overflow, Among}
+use Rattle.format.specs.Outcome.{Outcome, accepted, refused}
+use Rattle.machine.specs.Call.{Tally, Called, called}
+
+-- "for 1 to 5 while reading": those of a record or a type
+abbrev pub ofRecords : List ℕ
+ofRecords = ended ∷ unmarked ∷ outOfRange ∷ oversized ∷ tooMany ∷ []
+
+-- those of a lone type: also "bytes after a lone type"
+abbrev pub ofLone : List ℕ
+ofLone = ended ∷ unmarked ∷ outOfRange ∷ oversized ∷ tooMany ∷ trailing ∷ []
+
+-- "meets none of 1 to 5, 11 and 12": those of a sheet's reading, the rules passed over
+abbrev pub ofReading : List ℕ
+ofReading = ended ∷ unmarked ∷ outOfRange ∷ oversized ∷ tooMany ∷ underflow ∷ overflow ∷ []
+
+-- those of a sheet, worked: all but 6, which is a lone type's, 7, which is the buffers', and 13, which is a number's
+abbrev pub ofSheet : List ℕ
+ofSheet = ended ∷ unmarked ∷ outOfRange ∷ oversized ∷ tooMany ∷ unpervaded ∷ wrongScalar ∷ wrongShape ∷ underflow ∷ overflow ∷ []
+
+-- those of the sheet call
+abbrev pub ofSheetCall : List ℕ
+ofSheetCall = ended ∷ unmarked ∷ outOfRange ∷ oversized ∷ tooMany ∷ tooShort ∷ unpervaded ∷ wrongScalar ∷ wrongShape ∷ underflow ∷ overflow ∷ []
+
+-- An outcome is accepted, or refused with one of these.
+abbrev pub RefusedWith : {A : Type 0} → List ℕ → Outcome A → Type 0
+RefusedWith ns (accepted a) = Unit {0}
+RefusedWith ns (refused k p) = Among ns k
+
+-- the answer of the sheet call, its buffers aside
+abbrev pub answerIn : Called → Outcome Tally
+answerIn (called o result scratch) = o

@@ -43,7 +43,7 @@ const IN_ONES: u64 = 1075;
 const IN_TWOS: u64 = 1076;
 
 // Whole is up to 2^53 in magnitude, and Larger is whole beyond that.
-pub enum Class {
+enum Class {
     NotANumber,
     Infinite { negative: bool },
     Fraction,
@@ -51,7 +51,7 @@ pub enum Class {
     Larger { negative: bool },
 }
 
-pub fn classify(x: f64) -> Class
+fn classify(x: f64) -> Class
     ensures { λ r. ⌜ classOutcome r ≡ classOf x ⌝ }
 {
     // Only a NaN differs from itself. It has many patterns, so its bits are not asked for.

@@ -1,9 +1,10 @@
 -- The scalar of a value, one law for each way out of a function.
-use Prim.Native.Nat.{ℕ}
+use Prim.Native.Nat.{ℕ, _<_}
+use native.Mathlib.Omega.{arith}
 use mathlib.Core.List.{List, [], _∷_}
 use mathlib.Core.Path.{_≡_, refl, sym, _∙_, ap}
 use lib.Ieee.{Float}
-use Rattle.model.specs.Types.{Ty, ty, scalarOf}
+use Rattle.model.specs.Types.{Kind, bool, nat, int, num, complex, ascii, char, stream, any, Ty, ty, scalarOf}
 use Rattle.format.specs.Records.{code, writeScalar}
 use Rattle.format.specs.Outcome.{Outcome, accepted, refused, mapped, lone, scalarRecord}
 use Rattle.number.specs.Kind.{kindOf}
@@ -13,6 +14,19 @@ use Rattle.val.specs.Answers.{valueOf, kindRecord}
 use Rattle.val.specs.Values.{numsScalar, valueScalar}
 use Rattle.val.proofs.WriteLaws.{write-plain}
 use Rattle.val.proofs.HandedLaws.{maps-number, maps-list, maps-type}
+
+-- every code is a byte
+pub code-byte : (k : Kind) → code k < 256
+unfolding code
+code-byte bool = omega arith
+code-byte nat = omega arith
+code-byte int = omega arith
+code-byte num = omega arith
+code-byte complex = omega arith
+code-byte ascii = omega arith
+code-byte char = omega arith
+code-byte stream = omega arith
+code-byte any = omega arith
 
 pub scalar-of-kind : (xs : List Float) {kind : ℕ} → kind ≡ code (kindOf xs) → kindRecord kind ≡ writeScalar (numsScalar xs)
 unfolding numsScalar

@@ -87,8 +87,8 @@ pub fn copy_fields(
 }
 
 // A box's record up to its form.
-pub fn put_box(out: &mut [u8], to: usize, form: u8)
-    requires { ⌜ to + 6 ≤ length (now out) ⌝ }
+pub fn put_box(out: &mut [u8], to: usize, form: u64)
+    requires { ⌜ (to + 6 ≤ length (now out)) × (form < 256) ⌝ }
     ensures { λ _. ⌜ now (out .exit) ≡ over (now (out .entry)) to (boxStart form) ⌝ }
 {
     out[to] = marks::SCALAR.first;
@@ -96,7 +96,7 @@ pub fn put_box(out: &mut [u8], to: usize, form: u8)
     out[to + 2] = BOX as u8;
     out[to + 3] = marks::BOX.first;
     out[to + 4] = marks::BOX.second;
-    out[to + 5] = form;
+    out[to + 5] = form as u8;
 }
 
 // A Def's head: its box, the name that stands at `name`, and the count of its fields. Answers the place after it.
@@ -105,7 +105,7 @@ pub fn put_def(s: &[u8], name: usize, count: u8, out: &mut [u8], to: usize) -> u
     ensures { λ r. ⌜ ((label : Option (List ℕ)) → Stands (now (s .entry)) name (countOf label ∷ listOf label) → length (listOf label) ≤ maxName → (r ≡ to + length (defHead label count)) × (r ≤ to + boxBytes) × (now (out .exit) ≡ over (now (out .entry)) to (defHead label count))) ⌝ }
 {
     let end = name + 1 + name_length(s[name]);
-    put_box(&mut *out, to, BOX_DEF as u8);
+    put_box(&mut *out, to, BOX_DEF);
     lay(&s[name..end], &mut *out, to + 6);
     let last = to + 6 + (end - name);
     out[last] = count;

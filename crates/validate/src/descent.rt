@@ -84,7 +84,7 @@ pub fn check_scalar_at(
         Plan::Keep => copy_scalar(ty, j, &mut *out, to),
         Plan::Take => copy_scalar(spec, i, &mut *out, to),
         Plan::Inside { content, other } => {
-            put_box(&mut *out, to, BOX_ALL as u8);
+            put_box(&mut *out, to, BOX_ALL);
             check_type(
                 Side::Unsided,
                 spec,

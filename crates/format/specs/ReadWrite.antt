@@ -10,7 +10,7 @@ use lib.ListN.{length, drop, drop-of-length-le}
 use lib.Seq.{drop-append-seam}
 use lib.Dec.{eqb, leb, ltb}
 use borrow.Author.Tests.{leb-true, eqb-true, ltb-false}
-use Rattle.model.specs.Limits.{ones, maxSize, maxSizes, maxName, maxFields, maxTypes, maxDepth}
+use Rattle.model.specs.Limits.{ones, maxSize, maxSizes, maxName, maxFields, firstPrinting, lastPrinting, maxTypes, maxDepth}
 use Rattle.model.specs.Refusals.{unmarked, outOfRange, trailing}
 use Rattle.model.specs.Types.{Dim, static, unknown, Shape, shape, Kind, bool, nat, int, num, complex, ascii, char, stream, any, Scalar, plain, boxAny, Fields, Ty, ty, boxOf, fieldOf, fieldCount, inside, among, types, below, deepest, depth}
 use Rattle.model.specs.Within.{All, Each, DimWithin, ShapeWithin, Printing, ScalarWithin, FieldsWithin, RecordsWithin, Within}
@@ -66,10 +66,10 @@ optional-back {A = A} P most n xs t h all = go (eqb n absent) refl xs t h all
     go false x xs t h all = record { count = rw x h; held = rw x; within = rw x (rw h (leb-true n most (rw or-false at t)), all) }
 
 printing-back : (b : ℕ) → isPrinting b ≡ true → Printing b
-printing-back b t = go (leb 32 b) (leb b 126) refl refl t
+printing-back b t = go (leb firstPrinting b) (leb b lastPrinting) refl refl t
   where
-    go : (x y : Bool) → leb 32 b ≡ x → leb b 126 ≡ y → (x && y) ≡ true → Printing b
-    go true true e f t = (leb-true 32 b e, leb-true b 126 f)
+    go : (x y : Bool) → leb firstPrinting b ≡ x → leb b lastPrinting ≡ y → (x && y) ≡ true → Printing b
+    go true true e f t = (leb-true firstPrinting b e, leb-true b lastPrinting f)
     go true false e f t = let z : _≡_ {A = ℕ} 0 1 = cc in absurd (omega arith)
     go false y e f t = let z : _≡_ {A = ℕ} 0 1 = cc in absurd (omega arith)
 

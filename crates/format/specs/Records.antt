@@ -8,7 +8,7 @@ use mathlib.Core.List.{List, [], _∷_, _++_}
 use mathlib.Core.Option.{Option, none, some}
 use lib.ListN.{length, getD}
 use lib.Dec.{eqb, leb}
-use Rattle.model.specs.Limits.{maxSize, ones, maxSizes, maxName, maxFields, maxTypes, maxDepth}
+use Rattle.model.specs.Limits.{maxSize, ones, maxSizes, maxName, maxFields, firstPrinting, lastPrinting, maxTypes, maxDepth}
 use Rattle.model.specs.Refusals.{unmarked, outOfRange, oversized, tooMany}
 use Rattle.model.specs.Types.{Dim, static, unknown, Shape, shape, Kind, bool, nat, int, num, complex, ascii, char, stream, any, Scalar, plain, boxAny, boxAll, boxDef, Fields, noFields, field, Ty, ty, boxOf, fieldOf, fieldCount, types}
 use Rattle.format.specs.Reader.{Reader, _>>=_, _>>_, give, stop, need, here, byte, judged, number, bytesOf}
@@ -115,7 +115,7 @@ abbrev pub optional : {A : Type 0} → ℕ → List A → Option (List A)
 optional n xs = cond (eqb n absent) none (some xs)
 
 abbrev pub isPrinting : ℕ → Bool
-isPrinting b = leb 32 b && leb b 126
+isPrinting b = leb firstPrinting b && leb b lastPrinting
 
 -- one of a box's three forms, by its code
 abbrev pub form : {A : Type 0} → ℕ → A → A → A → A → A

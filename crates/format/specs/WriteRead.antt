@@ -10,7 +10,7 @@ use mathlib.Core.Path.{_≡_, refl, sym, ap}
 use lib.ListN.{length}
 use lib.Dec.{eqb, leb, lit<, lit≤}
 use borrow.Author.Tests.{le-leb, eq-eqb, ne-eqb, le-ltb}
-use Rattle.model.specs.Limits.{ones, maxSize, maxSizes, maxName, maxFields, maxTypes, maxDepth}
+use Rattle.model.specs.Limits.{ones, maxSize, maxSizes, maxName, maxFields, firstPrinting, lastPrinting, maxTypes, maxDepth}
 use Rattle.model.specs.Refusals.{outOfRange}
 use Rattle.model.specs.Types.{Dim, static, unknown, Shape, shape, Kind, bool, nat, int, num, complex, ascii, char, stream, any, Scalar, plain, boxAny, boxAll, boxDef, Fields, noFields, field, Ty, ty, fieldCount, inside, among, types, below, deepest}
 use Rattle.model.specs.Within.{All, Each, DimWithin, DimsWithin, ShapeWithin, Printing, NameWithin, ScalarWithin, FieldsWithin, Within}
@@ -103,7 +103,7 @@ module _ (s : List ℕ) where
   reads-name : (p : ℕ) (n : List ℕ) → All Printing n → Reads s (readName s (length n) p) n n
   unfolding readName
   reads-name p [] h = reads-give
-  reads-name p (b ∷ n) h = reads-judged isPrinting p _ (rw (le-leb 32 b (h .0 .0), le-leb b 126 (h .0 .1))) (reads-last _ (reads-name p n (h .1)) refl)
+  reads-name p (b ∷ n) h = reads-judged isPrinting p _ (rw (le-leb firstPrinting b (h .0 .0), le-leb b lastPrinting (h .0 .1))) (reads-last _ (reads-name p n (h .1)) refl)
 
   name-within : (n : Option (List ℕ)) → Each NameWithin n → (length (listOf n) ≤ maxName) × All Printing (listOf n)
   name-within none h = (lit≤ tt, tt)

@@ -1,9 +1,8 @@
 // The join of two types: the join of their shapes with the union of their scalars.
 use lent::Written;
-use limits::ANY;
-use limits::BOX;
-use limits::BOX_ANY;
 use limits::MAX_DEPTH;
+use limits::records::ANY_SCALAR;
+use limits::records::BOX_ANY_SCALAR;
 use record::DynShape;
 use record::Lone;
 use record::lone_scalar;
@@ -13,6 +12,7 @@ use scalar::United;
 use scalar::unite;
 use shape::join as join_shapes;
 use ty::write_parts;
+use writer::as_written;
 ghost use mathlib.Core.Path.{_≡_};
 ghost use Rattle.model.specs.Types.{ty};
 ghost use Rattle.format.specs.Records.{writeTy};
@@ -27,9 +27,9 @@ pub fn join(a: &[u8], b: &[u8], result: &mut [u8]) -> Written
     ensures { λ r. ⌜ delivered r (now (result .exit)) ≡ deliver (joinCall (now (a .entry)) (now (b .entry))) (now (result .entry)) ⌝ }
 {
     let read = read_both(a, b);
-    if let Lone::Refused { number, place } = read {
-        return Written::Refused { number, place };
-    }
+    let Lone::Accepted = read else {
+        return as_written(read);
+    };
     join_known(a, b, &mut *result)
 }
 
@@ -52,13 +52,7 @@ pub fn write_union(shape: DynShape, a: &[u8], b: &[u8], result: &mut [u8]) -> Wr
     match unite(a, i, b, j, MAX_DEPTH - 1) {
         United::First => write_parts(shape, b"", &a[i..], &mut *result),
         United::Second => write_parts(shape, b"", &b[j..], &mut *result),
-        United::BoxAny => {
-            let record = [0x53u8, 0x43, BOX as u8, 0x42, 0x58, BOX_ANY as u8];
-            write_parts(shape, b"", &record, &mut *result)
-        }
-        United::Any => {
-            let record = [0x53u8, 0x43, ANY as u8];
-            write_parts(shape, b"", &record, &mut *result)
-        }
+        United::BoxAny => write_parts(shape, b"", &BOX_ANY_SCALAR, &mut *result),
+        United::Any => write_parts(shape, b"", &ANY_SCALAR, &mut *result),
     }
 }

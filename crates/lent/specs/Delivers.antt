@@ -7,11 +7,17 @@ use borrow.Author.Tests.{le-leb, lt-leb}
 use Rattle.model.specs.Refusals.{tooShort}
 use Rattle.format.specs.Outcome.{Outcome, accepted, refused, delivery, deliver}
 use Rattle.lent.specs.Over.{over, over-front}
+use Rattle.lent.specs.Written.{writtenOf, delivered}
+use Rattle.lent.specs.declared.Written.{Written}
 
 module _ (buffer : List ℕ) where
   pub deliver-refused : {o : Outcome (List ℕ)} {k p : ℕ} → o ≡ refused k p → deliver o buffer ≡ delivery (refused k p) buffer
   unfolding deliver
   deliver-refused e = rw e
+
+  -- a refusal that the answer hands on
+  pub deliver-handed : (w : Written) {o : Outcome (List ℕ)} {k p : ℕ} → writtenOf w ≡ refused k p → o ≡ refused k p → delivered w buffer ≡ deliver o buffer
+  deliver-handed w handed e = ap (λ a. delivery a buffer) handed ∙ sym (deliver-refused e)
 
   module _ {o : Outcome (List ℕ)} {w : List ℕ} (e : o ≡ accepted w) where
     pub deliver-short : length buffer < length w → deliver o buffer ≡ delivery (refused tooShort 0) buffer

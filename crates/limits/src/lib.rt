@@ -1,6 +1,7 @@
-// Every limit of a type, every code, every mark and every refusal number, named once for all code. What a sheet may have is named in `stack`
-// (types held, scratch), `run` (steps) and `printer` (bytes of a sheet).
+// Every limit of a type, every code, every mark, every constant record and every refusal number, named once for all code. What a
+// sheet may have is named in `stack` (types held, scratch), `run` (steps) and `printer` (bytes of a sheet).
 pub mod marks;
+pub mod records;
 pub mod refusal;
 
 // The largest static size, 2^53, and the number that stands for an unknown one.
@@ -16,6 +17,11 @@ pub const MAX_NAME: u64 = 16;
 
 pub const MAX_FIELDS: u64 = 31;
 
+// The first and the last printing character of ASCII, between which every byte of a name is.
+pub const FIRST_PRINTING: u64 = 32;
+
+pub const LAST_PRINTING: u64 = 126;
+
 // Types in one type, itself counted; the outermost is at depth 1.
 pub const MAX_TYPES: u64 = 32;
 
@@ -28,13 +34,13 @@ pub const MAX_BYTES: usize = 4992;
 pub const ABSENT: u64 = 255;
 
 // The codes of the kinds.
-pub const BOOL: u8 = 0;
+pub const BOOL: u64 = 0;
 
-pub const NAT: u8 = 1;
+pub const NAT: u64 = 1;
 
-pub const INT: u8 = 2;
+pub const INT: u64 = 2;
 
-pub const NUM: u8 = 3;
+pub const NUM: u64 = 3;
 
 pub const COMPLEX: u64 = 4;
 

@@ -21,6 +21,13 @@ maxName = 16
 abbrev pub maxFields : ℕ
 maxFields = 31
 
+-- the first and the last printing character of ASCII, between which every byte of a name is
+abbrev pub firstPrinting : ℕ
+firstPrinting = 32
+
+abbrev pub lastPrinting : ℕ
+lastPrinting = 126
+
 -- types in one type, itself counted; the outermost is at depth 1
 abbrev pub maxTypes : ℕ
 maxTypes = 32

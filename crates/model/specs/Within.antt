@@ -3,7 +3,7 @@ use Prim.Native.Nat.{ℕ, _≤_}
 use mathlib.Core.List.{List, [], _∷_}
 use mathlib.Core.Option.{Option, none, some}
 use lib.ListN.{length}
-use Rattle.model.specs.Limits.{maxSize, maxSizes, maxName, maxFields, maxTypes, maxDepth}
+use Rattle.model.specs.Limits.{maxSize, maxSizes, maxName, maxFields, firstPrinting, lastPrinting, maxTypes, maxDepth}
 use Rattle.model.specs.Types.{Dim, static, unknown, Shape, shape, Scalar, plain, boxAny, boxAll, boxDef, Fields, noFields, field, Ty, ty, fieldCount, types, depth}
 
 -- of each element of a list
@@ -28,7 +28,7 @@ ShapeWithin (shape o c) = DimsWithin o × Each DimsWithin c
 
 -- a printing character of ASCII, as every byte of a name is
 abbrev pub Printing : ℕ → Type 0
-Printing b = (32 ≤ b) × (b ≤ 126)
+Printing b = (firstPrinting ≤ b) × (b ≤ lastPrinting)
 
 abbrev pub NameWithin : List ℕ → Type 0
 NameWithin n = (length n ≤ maxName) × All Printing n

@@ -1,4 +1,4 @@
--- The kind of a list is the greatest of its numbers' kinds. Assumes nothing.
+-- The kind of a list is the greatest of its numbers' kinds, by their codes. Assumes nothing.
 use mathlib.Core.Path.{_≡_, refl, ap}
 use mathlib.Core.Bool.{Bool, true, false, _||_, or-false}
 use mathlib.Core.List.{List, [], _∷_}
@@ -7,16 +7,18 @@ use native.Mathlib.Numerals.{add-one}
 use lib.ListN.{length, drop, getD, drop-of-length-le}
 use lib.Seq.{drop-cons}
 use lib.Ieee.{Float, nan}
+use Rattle.format.specs.Records.{code}
 use Rattle.number.specs.Kind.{any, notWhole, negative, aboveOne, kindBy, kindOf}
 
 -- ---- one number
 
-pub kindOf-one : (x : Float) (p q r : Bool) → notWhole x ≡ p → negative x ≡ q → aboveOne x ≡ r → kindOf (x ∷ []) ≡ kindBy p q r
+pub kindOf-one : (x : Float) (p q r : Bool) → notWhole x ≡ p → negative x ≡ q → aboveOne x ≡ r → code (kindOf (x ∷ [])) ≡ code (kindBy p q r)
 kindOf-one x p q r a b c = simp (a, b, c, or-false)
 
 -- ---- one number more
 
-kindBy-or : (a b c p q r : Bool) → kindBy (a || p) (b || q) (c || r) ≡ max (kindBy (a || false) (b || false) (c || false)) (kindBy p q r)
+kindBy-or : (a b c p q r : Bool) → code (kindBy (a || p) (b || q) (c || r)) ≡ max (code (kindBy (a || false) (b || false) (c || false))) (code (kindBy p q r))
+unfolding code
 kindBy-or true b c true q r = refl
 kindBy-or true b c false true r = refl
 kindBy-or true b c false false true = refl
@@ -34,11 +36,12 @@ kindBy-or false false false false true r = refl
 kindBy-or false false false false false true = refl
 kindBy-or false false false false false false = refl
 
-kindOf-cons : (x : Float) (xs : List Float) → kindOf (x ∷ xs) ≡ max (kindOf (x ∷ [])) (kindOf xs)
+kindOf-cons : (x : Float) (xs : List Float) → code (kindOf (x ∷ xs)) ≡ max (code (kindOf (x ∷ []))) (code (kindOf xs))
 kindOf-cons x xs = kindBy-or (notWhole x) (negative x) (aboveOne x) (any notWhole xs) (any negative xs) (any aboveOne xs)
 
-pub greatest-next : (xs : List Float) (i : ℕ) → i < length xs → kindOf (drop i xs) ≡ max (kindOf (getD xs i nan ∷ [])) (kindOf (drop (i + 1) xs))
+pub greatest-next : (xs : List Float) (i : ℕ) → i < length xs → code (kindOf (drop i xs)) ≡ max (code (kindOf (getD xs i nan ∷ []))) (code (kindOf (drop (i + 1) xs)))
 greatest-next xs i h = rw (add-one, drop-cons xs i nan h) (kindOf-cons (getD xs i nan) (drop (suc i) xs))
 
-pub greatest-ends : (xs : List Float) (i : ℕ) → length xs ≤ i → kindOf (drop i xs) ≡ 0
-greatest-ends xs i h = ap kindOf (drop-of-length-le xs h)
+pub greatest-ends : (xs : List Float) (i : ℕ) → length xs ≤ i → code (kindOf (drop i xs)) ≡ 0
+unfolding code
+greatest-ends xs i h = ap (λ ys. code (kindOf ys)) (drop-of-length-le xs h)

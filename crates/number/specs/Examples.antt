@@ -7,9 +7,10 @@ use lib.IntN.{pos, negsuc}
 use lib.Ieee.{Float, nan, inf, fin, lt}
 use Rattle.model.specs.Limits.{maxSize, ones}
 use Rattle.model.specs.Refusals.{outOfRange, oversized, notASize}
+use Rattle.model.specs.Types.{bool, nat, int, num}
 use Rattle.number.specs.Size.{size, unknown, refused, asDim, listedDim}
 use Rattle.number.specs.Sizes.{sizes, refusedAt, sizesFrom, listedDims}
-use Rattle.number.specs.Kind.{bool, nat, int, num, kindOf}
+use Rattle.number.specs.Kind.{kindOf}
 
 -- ---- how the numbers are written
 

@@ -2,23 +2,10 @@
 -- else any above 1 Nat; else Bool, also when empty. A whole number counts as whole here however large it is.
 use mathlib.Core.Bool.{Bool, true, false, cond, _||_}
 use mathlib.Core.List.{List, [], _∷_}
-use Prim.Native.Nat.{ℕ}
 use lib.IntN.{pos}
 use lib.Ieee.{Float, fin, lt}
+use Rattle.model.specs.Types.{Kind, bool, nat, int, num}
 use Rattle.number.specs.Class.{Class, notANumber, infinite, fraction, whole, larger, classOf}
-
--- the codes of the four kinds
-abbrev pub bool : ℕ
-bool = 0
-
-abbrev pub nat : ℕ
-nat = 1
-
-abbrev pub int : ℕ
-int = 2
-
-abbrev pub num : ℕ
-num = 3
 
 -- whether one of the numbers is so
 abbrev pub any : (Float → Bool) → List Float → Bool
@@ -44,8 +31,8 @@ abbrev pub aboveOne : Float → Bool
 aboveOne x = lt (fin false 1 (pos 0)) x
 
 -- the first of the three that holds decides
-abbrev pub kindBy : Bool → Bool → Bool → ℕ
+abbrev pub kindBy : Bool → Bool → Bool → Kind
 kindBy p q r = cond p num (cond q int (cond r nat bool))
 
-abbrev pub kindOf : List Float → ℕ
+abbrev pub kindOf : List Float → Kind
 kindOf xs = kindBy (any notWhole xs) (any negative xs) (any aboveOne xs)

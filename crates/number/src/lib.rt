@@ -17,6 +17,7 @@ ghost use Prim.Native.Nat.{_≤_, _<_, _*_, _^_};
 ghost use lib.Ieee.{ofBits, binary64};
 ghost use Rattle.model.specs.Limits.{maxSizes};
 ghost use Rattle.model.specs.Refusals.{notASize};
+ghost use Rattle.format.specs.Records.{code};
 ghost use Rattle.number.specs.Class.{whole, classOfRatio, classOf, magnitude};
 ghost use Rattle.number.specs.Size.{refused, sizeOfWhole, asDim, listedDim};
 ghost use Rattle.number.specs.Sizes.{refusedAt, listedDims};
@@ -42,7 +43,7 @@ const IN_ONES: u64 = 1075;
 const IN_TWOS: u64 = 1076;
 
 // Whole is up to 2^53 in magnitude, and Larger is whole beyond that.
-pub enum Class {
+enum Class {
     NotANumber,
     Infinite { negative: bool },
     Fraction,
@@ -50,7 +51,7 @@ pub enum Class {
     Larger { negative: bool },
 }
 
-pub fn classify(x: f64) -> Class
+fn classify(x: f64) -> Class
     ensures { λ r. ⌜ classOutcome r ≡ classOf x ⌝ }
 {
     // Only a NaN differs from itself. It has many patterns, so its bits are not asked for.
@@ -205,9 +206,9 @@ fn refuse_dims(number: u8, place: usize) -> Dims
     }
 }
 
-// The kind of a number alone: that of the list of this one number.
-pub fn kind_of_number(x: f64) -> u8
-    ensures { λ r. ⌜ r ≡ kindOf (x ∷ []) ⌝ }
+// The code of the kind of a number alone: that of the list of this one number.
+pub fn kind_of_number(x: f64) -> u64
+    ensures { λ r. ⌜ r ≡ code (kindOf (x ∷ [])) ⌝ }
 {
     match classify(x) {
         Class::NotANumber | Class::Infinite { negative: _ } | Class::Fraction => NUM,
@@ -223,9 +224,9 @@ pub fn kind_of_number(x: f64) -> u8
     }
 }
 
-// The kinds' codes are in the order in which one number's kind outweighs another's, so the list has the greatest.
-pub fn kind_of(xs: &[f64]) -> u8
-    ensures { λ r. ⌜ r ≡ kindOf (now (xs .entry)) ⌝ }
+// The code of a list's kind. Codes are in the order in which one number's kind outweighs another's, so the list has the greatest.
+pub fn kind_of(xs: &[f64]) -> u64
+    ensures { λ r. ⌜ r ≡ code (kindOf (now (xs .entry))) ⌝ }
 {
     let mut kind = BOOL;
     let mut i = 0;

@@ -3,7 +3,6 @@ mod names;
 mod shapes;
 mod types;
 
-pub use shapes::cmp_shape;
 pub use types::compare;
 pub use types::compare_types;
 

@@ -24,6 +24,9 @@ ghost use Prim.Native.Nat.{ℕ, _+_};
 ghost use lib.ListN.{length};
 ghost use Rattle.model.specs.Types.{Scalar, Fields, Ty};
 ghost use Rattle.format.specs.Records.{listOf, writeScalar, writeFields, writeTy};
+ghost use Rattle.format.specs.Outcome.{mapped};
+ghost use Rattle.record.specs.Answers.{loneOf};
+ghost use Rattle.rules.specs.Sizes.{same};
 ghost use Rattle.rules.specs.Order.{thenBy, cmpName, cmpScalar, cmpFields, compare};
 ghost use Rattle.walk.specs.At.{ScalarAt, TypeAt, DefAt, CountedAt, HasScalar, HasType, HasDef, HasFields};
 ghost use Rattle.walk.specs.Whole.{ofTypes};
@@ -33,13 +36,23 @@ pub fn compare(a: &[u8], b: &[u8]) -> Comparison
     ensures { λ r. ⌜ comparisonOf r ≡ ofTypes compare (now (a .entry)) (now (b .entry)) ⌝ }
 {
     let read = read_both(a, b);
-    if let Lone::Refused { number, place } = read {
-        return Comparison::Refused { number, place };
-    }
+    let Lone::Accepted = read else {
+        return as_comparison(read);
+    };
     match compare_types(a, 0, b, 0, MAX_DEPTH) {
         Compared::Less => Comparison::Less,
         Compared::Same(_) => Comparison::Same,
         Compared::More => Comparison::More,
+    }
+}
+
+// A reading as an answer: what was refused as it was read stays refused.
+fn as_comparison(read: Lone) -> Comparison
+    ensures { λ r. ⌜ comparisonOf r ≡ mapped (λ _. same) (loneOf read) ⌝ }
+{
+    match read {
+        Lone::Accepted => Comparison::Same,
+        Lone::Refused { number, place } => Comparison::Refused { number, place },
     }
 }
 

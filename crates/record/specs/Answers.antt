@@ -26,6 +26,10 @@ nothing a = 0
 abbrev pub nothings : {A B : Type 0} → A → B → Outcome ℕ
 nothings a b = accepted 0
 
+abbrev pub passed : Read ℕ → Outcome ℕ
+passed (got v n) = accepted 0
+passed (stopped k p) = refused k p
+
 -- eight bytes from a place on, low byte first
 abbrev pub eightBytes : List ℕ → ℕ → ℕ
 eightBytes s at =

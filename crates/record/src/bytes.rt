@@ -2,8 +2,11 @@
 // belong to, which its refusals name.
 use crate::Answer;
 use limits::ABSENT;
+use limits::FIRST_PRINTING;
+use limits::LAST_PRINTING;
 use limits::MAX_SIZE;
 use limits::UNKNOWN;
+use limits::marks::Mark;
 use limits::refusal::ENDED;
 use limits::refusal::OUT_OF_RANGE;
 use limits::refusal::OVERSIZED;
@@ -80,13 +83,13 @@ fn read_printing(s: &[u8], place: usize, at: usize) -> Answer
     let Answer::Got { value, next: _ } = b else {
         return b;
     };
-    if value < 32 {
+    if value < FIRST_PRINTING {
         return Answer::Refused {
             number: OUT_OF_RANGE,
             place,
         };
     }
-    if 126 < value {
+    if LAST_PRINTING < value {
         return Answer::Refused {
             number: OUT_OF_RANGE,
             place,
@@ -96,8 +99,8 @@ fn read_printing(s: &[u8], place: usize, at: usize) -> Answer
 }
 
 // A mark is judged once both its bytes are there.
-pub fn read_mark(s: &[u8], place: usize, at: usize, first: u64, second: u64) -> Answer
-    ensures { λ r. ⌜ answerOf r ≡ mapRead nothing (readMark (now (s .entry)) (mark first second) place at) ⌝ }
+pub fn read_mark(s: &[u8], place: usize, at: usize, due: Mark) -> Answer
+    ensures { λ r. ⌜ answerOf r ≡ mapRead nothing (readMark (now (s .entry)) (mark (due .first) (due .second)) place at) ⌝ }
 {
     let a = read_byte(s, place, at);
     let Answer::Got { value: x, next } = a else {
@@ -111,8 +114,8 @@ pub fn read_mark(s: &[u8], place: usize, at: usize, first: u64, second: u64) -> 
     else {
         return b;
     };
-    if x == first {
-        if y == second {
+    if x == wide(due.first) {
+        if y == wide(due.second) {
             return Answer::Got {
                 value: 0,
                 next: end,

@@ -6,6 +6,7 @@ use crate::bytes::read_mark;
 use crate::bytes::read_optional;
 use crate::bytes::read_size;
 use limits::MAX_SIZES;
+use limits::marks;
 ghost use mathlib.Core.Path.{_≡_};
 ghost use Rattle.format.specs.Reader.{mapRead};
 ghost use Rattle.format.specs.Records.{readDims, readShape};
@@ -32,7 +33,7 @@ fn read_sizes(s: &[u8], place: usize, start: usize, count: u64) -> Answer
 pub fn read_shape(s: &[u8], at: usize) -> Answer
     ensures { λ r. ⌜ answerOf r ≡ mapRead nothing (readShape (now (s .entry)) at) ⌝ }
 {
-    let mark = read_mark(s, at, at, 0x53, 0x48);
+    let mark = read_mark(s, at, at, marks::SHAPE);
     let Answer::Got { value: _, next: a } = mark else {
         return mark;
     };

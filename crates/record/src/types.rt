@@ -15,6 +15,7 @@ use limits::BOX_ANY;
 use limits::BOX_DEF;
 use limits::MAX_FIELDS;
 use limits::MAX_NAME;
+use limits::marks;
 use limits::refusal::OUT_OF_RANGE;
 use limits::refusal::TOO_MANY;
 ghost use mathlib.Core.Path.{_≡_};
@@ -51,7 +52,7 @@ pub fn read_type(s: &[u8], at: usize, depth: u64, left: u64) -> Answer
 fn read_scalar(s: &[u8], at: usize, depth: u64, left: u64) -> Answer
     ensures { λ r. ⌜ answerOf r ≡ mapRead (λ k. left - inside k) (scalarFrom (now (s .entry)) (readTy (now (s .entry)) depth) left at at) ⌝ }
 {
-    let mark = read_mark(s, at, at, 0x53, 0x43);
+    let mark = read_mark(s, at, at, marks::SCALAR);
     let Answer::Got { value: _, next: a } = mark else {
         return mark;
     };
@@ -81,7 +82,7 @@ fn read_scalar(s: &[u8], at: usize, depth: u64, left: u64) -> Answer
 fn read_box(s: &[u8], at: usize, depth: u64, left: u64) -> Answer
     ensures { λ r. ⌜ answerOf r ≡ mapRead (λ k. left - inside k) (boxFrom (now (s .entry)) (readTy (now (s .entry)) depth) left at at) ⌝ }
 {
-    let mark = read_mark(s, at, at, 0x42, 0x58);
+    let mark = read_mark(s, at, at, marks::BOX);
     let Answer::Got { value: _, next: a } = mark else {
         return mark;
     };

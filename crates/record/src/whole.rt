@@ -13,23 +13,31 @@ ghost use Prim.Native.Nat.{_≤_};
 ghost use lib.ListN.{length, drop};
 ghost use Rattle.model.specs.Types.{shapeOf};
 ghost use Rattle.format.specs.Outcome.{accepted, mapped, both, lone, scalarRecord};
-ghost use Rattle.record.specs.Answers.{loneOf, shapeFor, nothing, nothings};
+ghost use Rattle.record.specs.Answers.{answerOf, loneOf, shapeFor, nothing, nothings, passed};
 
 // A lone type: nothing may stand after it.
 pub fn read_lone(s: &[u8]) -> Lone
     ensures { λ r. ⌜ loneOf r ≡ mapped nothing (lone (now (s .entry))) ⌝ }
 {
     let answer = read_type(s, 0, MAX_DEPTH, MAX_TYPES);
+    let Answer::Got { value: _, next } = answer else {
+        return as_lone(answer);
+    };
+    if next < s.len() {
+        return Lone::Refused {
+            number: TRAILING,
+            place: next,
+        };
+    }
+    Lone::Accepted
+}
+
+// The same reading, its value and the place after it passed over.
+fn as_lone(answer: Answer) -> Lone
+    ensures { λ r. ⌜ loneOf r ≡ passed (answerOf answer) ⌝ }
+{
     match answer {
-        Answer::Got { value: _, next } => {
-            if next < s.len() {
-                return Lone::Refused {
-                    number: TRAILING,
-                    place: next,
-                };
-            }
-            Lone::Accepted
-        }
+        Answer::Got { value: _, next: _ } => Lone::Accepted,
         Answer::Refused { number, place } => Lone::Refused { number, place },
     }
 }
@@ -39,12 +47,9 @@ pub fn read_both(a: &[u8], b: &[u8]) -> Lone
     ensures { λ r. ⌜ loneOf r ≡ both nothings (lone (now (a .entry))) (lone (now (b .entry))) ⌝ }
 {
     let first = read_lone(a);
-    if let Lone::Refused {
-        number: _,
-        place: _,
-    } = first {
+    let Lone::Accepted = first else {
         return first;
-    }
+    };
     read_lone(b)
 }
 

@@ -6,12 +6,8 @@ mod refinement;
 mod tests;
 mod unions;
 
-pub use boxes::compatible_boxes;
-pub use kinds::compatible_codes;
 pub use kinds::superset_codes;
-pub use lent::Tested;
 pub use refinement::unrefine;
-pub use refinement::unrefine_at;
 pub use tests::compatible_scalars;
 pub use tests::compatible_with_boxes;
 pub use tests::superset;

@@ -19,6 +19,7 @@ use walk::form_at;
 use walk::kind_at;
 use walk::name_end;
 use walk::shape_at;
+use writer::as_written;
 use writer::shape_length;
 ghost use mathlib.Core.Path.{_≡_};
 ghost use Prim.Native.Nat.{_+_, _<_};
@@ -38,9 +39,9 @@ pub fn unrefine(ty: &[u8], result: &mut [u8]) -> Written
     ensures { λ r. ⌜ delivered r (now (result .exit)) ≡ deliver (ofScalar (λ k. writeScalar (unrefine k)) (now (ty .entry))) (now (result .entry)) ⌝ }
 {
     let read = read_lone(ty);
-    if let Lone::Refused { number, place } = read {
-        return Written::Refused { number, place };
-    }
+    let Lone::Accepted = read else {
+        return as_written(read);
+    };
     let start = lone_scalar(ty);
     let n = ty.len() - start;
     if result.len() < n {
@@ -55,7 +56,7 @@ pub fn unrefine(ty: &[u8], result: &mut [u8]) -> Written
 }
 
 // Each function below answers the place after what it unrefines.
-pub fn unrefine_at(out: &mut [u8], at: usize, depth: u64) -> usize
+fn unrefine_at(out: &mut [u8], at: usize, depth: u64) -> usize
     requires { ⌜ HasScalar (now out) at depth ⌝ }
     ensures { λ r. ⌜ ((k : Scalar) → ScalarAt (now (out .entry)) at depth k → (r ≡ at + length (writeScalar k)) × (now (out .exit) ≡ over (now (out .entry)) at (writeScalar (unrefine k)))) ⌝ }
 {
@@ -79,8 +80,8 @@ pub fn unrefine_at(out: &mut [u8], at: usize, depth: u64) -> usize
 fn unrefine_kind(x: u64) -> u64
     ensures { λ r. ⌜ ((k : Kind) → x ≡ code k → (r ≡ code (unrefineKind k)) × (r < 256)) ⌝ }
 {
-    if x <= INT as u64 {
-        return NUM as u64;
+    if x <= INT {
+        return NUM;
     }
     if x == ASCII {
         return CHAR;

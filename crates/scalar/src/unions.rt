@@ -4,10 +4,9 @@ use crate::boxes::compatible_contents;
 use crate::kinds::superset_codes;
 use lent::Written;
 use lent::hand_over;
-use limits::ANY;
-use limits::BOX;
-use limits::BOX_ANY;
 use limits::MAX_DEPTH;
+use limits::records::ANY_SCALAR;
+use limits::records::BOX_ANY_SCALAR;
 use order::Compared;
 use order::compare_types;
 use record::Lone;
@@ -15,6 +14,7 @@ use record::lone_scalar;
 use record::read_both;
 use walk::is_all;
 use walk::kind_at;
+use writer::as_written;
 ghost use mathlib.Core.Path.{_≡_};
 ghost use mathlib.Core.Bool.{_&&_, cond};
 ghost use Rattle.model.specs.Types.{any, Scalar, Ty, plain, boxAny, boxOf, shapeOf, scalarOf};
@@ -33,9 +33,9 @@ pub fn union(a: &[u8], b: &[u8], result: &mut [u8]) -> Written
     ensures { λ r. ⌜ delivered r (now (result .exit)) ≡ deliver (ofScalars (λ k l. writeScalar (union k l)) (now (a .entry)) (now (b .entry))) (now (result .entry)) ⌝ }
 {
     let read = read_both(a, b);
-    if let Lone::Refused { number, place } = read {
-        return Written::Refused { number, place };
-    }
+    let Lone::Accepted = read else {
+        return as_written(read);
+    };
     let i = lone_scalar(a);
     let j = lone_scalar(b);
     match unite(a, i, b, j, MAX_DEPTH - 1) {
@@ -49,15 +49,13 @@ pub fn union(a: &[u8], b: &[u8], result: &mut [u8]) -> Written
 fn hand_box_any(result: &mut [u8]) -> Written
     ensures { λ r. ⌜ delivered r (now (result .exit)) ≡ deliver (accepted (writeScalar boxAny)) (now (result .entry)) ⌝ }
 {
-    let record = [0x53u8, 0x43, BOX as u8, 0x42, 0x58, BOX_ANY as u8];
-    hand_over(&record, &mut *result)
+    hand_over(&BOX_ANY_SCALAR, &mut *result)
 }
 
 fn hand_any(result: &mut [u8]) -> Written
     ensures { λ r. ⌜ delivered r (now (result .exit)) ≡ deliver (accepted (writeScalar (plain any))) (now (result .entry)) ⌝ }
 {
-    let record = [0x53u8, 0x43, ANY as u8];
-    hand_over(&record, &mut *result)
+    hand_over(&ANY_SCALAR, &mut *result)
 }
 
 // Two scalars inside bytes.

@@ -4,12 +4,6 @@ mod pervade;
 mod shapes;
 mod sizes;
 
-pub use dims::compatible_dims;
-pub use dims::join_dims;
-pub use dims::join_ends;
-pub use dims::merge_dims;
-pub use dims::rest_dims;
-pub use pervade::pervade_dims;
 pub use pervade::pervade_dyn_shapes;
 use record::Dims;
 use record::DynShape;
@@ -54,7 +48,7 @@ pub enum Verdict {
     Clash(usize),
 }
 
-pub struct DimsPervaded {
+struct DimsPervaded {
     pub answer: Verdict,
     pub dims: Dims,
 }

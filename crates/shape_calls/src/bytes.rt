@@ -15,6 +15,9 @@ use shape::join;
 use shape::merge_from;
 use shape::rank;
 use shape::row_count;
+use writer::as_counted;
+use writer::as_tested;
+use writer::as_written;
 use writer::write_shape;
 ghost use mathlib.Core.Path.{_≡_};
 ghost use Rattle.format.specs.Outcome.{deliver};
@@ -26,79 +29,79 @@ ghost use Rattle.shape_calls.specs.Calls.{mergeCall, joinCall, rowCall, 
 pub fn merge(a: &[u8], b: &[u8], result: &mut [u8]) -> Written
     ensures { λ r. ⌜ delivered r (now (result .exit)) ≡ deliver (mergeCall (now (a .entry)) (now (b .entry))) (now (result .entry)) ⌝ }
 {
-    let answer = read_both(a, b);
-    if let Lone::Refused { number, place } = answer {
-        return Written::Refused { number, place };
-    }
+    let read = read_both(a, b);
+    let Lone::Accepted = read else {
+        return as_written(read);
+    };
     write_shape(merge_from(lone_shape(a), lone_shape(b)), &mut *result)
 }
 
 pub fn join_shapes(a: &[u8], b: &[u8], result: &mut [u8]) -> Written
     ensures { λ r. ⌜ delivered r (now (result .exit)) ≡ deliver (joinCall (now (a .entry)) (now (b .entry))) (now (result .entry)) ⌝ }
 {
-    let answer = read_both(a, b);
-    if let Lone::Refused { number, place } = answer {
-        return Written::Refused { number, place };
-    }
+    let read = read_both(a, b);
+    let Lone::Accepted = read else {
+        return as_written(read);
+    };
     write_shape(join(lone_shape(a), lone_shape(b)), &mut *result)
 }
 
 pub fn row_shape(a: &[u8], result: &mut [u8]) -> Written
     ensures { λ r. ⌜ delivered r (now (result .exit)) ≡ deliver (rowCall (now (a .entry))) (now (result .entry)) ⌝ }
 {
-    let answer = read_lone(a);
-    if let Lone::Refused { number, place } = answer {
-        return Written::Refused { number, place };
-    }
+    let read = read_lone(a);
+    let Lone::Accepted = read else {
+        return as_written(read);
+    };
     write_shape(into_row(lone_shape(a)), &mut *result)
 }
 
 pub fn compatible_shapes(a: &[u8], b: &[u8]) -> Tested
     ensures { λ r. ⌜ testedOf r ≡ compatibleShapesCall (now (a .entry)) (now (b .entry)) ⌝ }
 {
-    let answer = read_both(a, b);
-    if let Lone::Refused { number, place } = answer {
-        return Tested::Refused { number, place };
-    }
+    let read = read_both(a, b);
+    let Lone::Accepted = read else {
+        return as_tested(read);
+    };
     tell(compatible_with(lone_shape(a), lone_shape(b)))
 }
 
 pub fn shape_is_any(a: &[u8]) -> Tested
     ensures { λ r. ⌜ testedOf r ≡ isAnyCall (now (a .entry)) ⌝ }
 {
-    let answer = read_lone(a);
-    if let Lone::Refused { number, place } = answer {
-        return Tested::Refused { number, place };
-    }
+    let read = read_lone(a);
+    let Lone::Accepted = read else {
+        return as_tested(read);
+    };
     tell(is_any(lone_shape(a)))
 }
 
 pub fn shape_is_scalar(a: &[u8]) -> Tested
     ensures { λ r. ⌜ testedOf r ≡ isScalarCall (now (a .entry)) ⌝ }
 {
-    let answer = read_lone(a);
-    if let Lone::Refused { number, place } = answer {
-        return Tested::Refused { number, place };
-    }
+    let read = read_lone(a);
+    let Lone::Accepted = read else {
+        return as_tested(read);
+    };
     tell(is_scalar(lone_shape(a)))
 }
 
 pub fn count_rows(a: &[u8]) -> Counted
     ensures { λ r. ⌜ countedDim r ≡ rowCountCall (now (a .entry)) ⌝ }
 {
-    let answer = read_lone(a);
-    if let Lone::Refused { number, place } = answer {
-        return Counted::Refused { number, place };
-    }
+    let read = read_lone(a);
+    let Lone::Accepted = read else {
+        return as_counted(read);
+    };
     Counted::Count(row_count(lone_shape(a)))
 }
 
 pub fn shape_rank(a: &[u8]) -> Counted
     ensures { λ r. ⌜ countedNumber r ≡ rankCall (now (a .entry)) ⌝ }
 {
-    let answer = read_lone(a);
-    if let Lone::Refused { number, place } = answer {
-        return Counted::Refused { number, place };
-    }
+    let read = read_lone(a);
+    let Lone::Accepted = read else {
+        return as_counted(read);
+    };
     Counted::Count(rank(lone_shape(a)) as u64)
 }

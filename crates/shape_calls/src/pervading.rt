@@ -6,6 +6,7 @@ use record::lone_shape;
 use record::read_both;
 use shape::Verdict;
 use shape::pervade_dyn_shapes;
+use writer::as_written;
 use writer::write_shape;
 ghost use mathlib.Core.Path.{_≡_};
 ghost use Rattle.format.specs.Outcome.{deliver};
@@ -16,10 +17,10 @@ ghost use Rattle.shape_calls.specs.Calls.{pervadeCall};
 pub fn pervade(a: &[u8], b: &[u8], fill_a: bool, fill_b: bool, result: &mut [u8]) -> Written
     ensures { λ r. ⌜ delivered r (now (result .exit)) ≡ deliver (pervadeCall «fill_a» «fill_b» (now (a .entry)) (now (b .entry))) (now (result .entry)) ⌝ }
 {
-    let answer = read_both(a, b);
-    if let Lone::Refused { number, place } = answer {
-        return Written::Refused { number, place };
-    }
+    let read = read_both(a, b);
+    let Lone::Accepted = read else {
+        return as_written(read);
+    };
     let pervaded = pervade_dyn_shapes(lone_shape(a), lone_shape(b), fill_a, fill_b);
     let verdict = pervaded.answer;
     if let Verdict::Clash(_) = verdict {

@@ -3,7 +3,6 @@ mod parse;
 mod render;
 
 pub use parse::decode_hex;
-pub use parse::hex_digit_value;
 pub use parse::parse_bits;
 pub use parse::parse_decimal;
 pub use render::put_bytes;

@@ -11,7 +11,7 @@ ghost use Rattle.text.specs.Place.{placeDecoded};
 ghost use Rattle.text.specs.Answers.{numberOf, decoding};
 
 // A digit's value, or 16 for a character that is no digit.
-pub fn hex_digit_value(c: u8) -> u8
+fn hex_digit_value(c: u8) -> u8
     ensures { λ r. ⌜ (r ≡ digit c) × (r ≤ 16) ⌝ }
 {
     if c < 48 {

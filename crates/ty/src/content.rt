@@ -1,15 +1,16 @@
 // What stands in a box.
-use crate::ANY_TYPE;
 use crate::parts::Held;
 use crate::parts::Part;
 use crate::parts::find_field;
 use crate::parts::look_inside;
 use lent::Written;
 use lent::hand_over;
+use limits::records::ANY_TYPE;
 use record::Lone;
 use record::lone_shape;
 use record::read_lone;
 use shape::is_scalar;
+use writer::as_written;
 ghost use mathlib.Core.Path.{_≡_};
 ghost use Rattle.format.specs.Records.{writeTy};
 ghost use Rattle.format.specs.Outcome.{accepted, deliver, mapped, lone};
@@ -22,10 +23,10 @@ ghost use Rattle.ty.specs.Parts.{contentOf};
 pub fn unboxed(ty: &[u8], result: &mut [u8]) -> Written
     ensures { λ r. ⌜ delivered r (now (result .exit)) ≡ deliver (mapped (λ t. writeTy (unboxed t)) (lone (now (ty .entry)))) (now (result .entry)) ⌝ }
 {
-    let answer = read_lone(ty);
-    if let Lone::Refused { number, place } = answer {
-        return Written::Refused { number, place };
-    }
+    let read = read_lone(ty);
+    let Lone::Accepted = read else {
+        return as_written(read);
+    };
     if is_scalar(lone_shape(ty)) {
         return write_content(ty, &mut *result);
     }

@@ -7,7 +7,9 @@ use crate::parts::look_inside;
 use record::Lone;
 use record::read_lone;
 ghost use mathlib.Core.Path.{_≡_};
+ghost use mathlib.Core.Option.{none};
 ghost use Rattle.format.specs.Outcome.{mapped, lone};
+ghost use Rattle.record.specs.Answers.{loneOf};
 ghost use Rattle.rules.specs.Types.{fieldPlace};
 ghost use Rattle.ty.specs.Calls.{foundOf};
 
@@ -15,10 +17,10 @@ ghost use Rattle.ty.specs.Calls.{foundOf};
 pub fn field(ty: &[u8], n: u64) -> Found
     ensures { λ r. ⌜ foundOf r ≡ mapped (fieldPlace n) (lone (now (ty .entry))) ⌝ }
 {
-    let answer = read_lone(ty);
-    if let Lone::Refused { number, place } = answer {
-        return Found::Refused { number, place };
-    }
+    let read = read_lone(ty);
+    let Lone::Accepted = read else {
+        return as_found(read);
+    };
     let held = look_inside(ty);
     match held {
         Held::Plain => Found::Nothing,
@@ -31,5 +33,15 @@ pub fn field(ty: &[u8], n: u64) -> Found
                 Part::Nothing => Found::Nothing,
             }
         }
+    }
+}
+
+// A reading as an answer: what was refused as it was read stays refused, and all else has no field yet.
+fn as_found(read: Lone) -> Found
+    ensures { λ r. ⌜ foundOf r ≡ mapped (λ _. none) (loneOf read) ⌝ }
+{
+    match read {
+        Lone::Accepted => Found::Nothing,
+        Lone::Refused { number, place } => Found::Refused { number, place },
     }
 }

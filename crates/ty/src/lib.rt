@@ -18,12 +18,6 @@ pub use rows::into_row;
 pub use rows::row_known;
 pub use rows::write_parts;
 
-// The bytes of [..] of Any.
-const ANY_TYPE: [u8; 7] = [0x53, 0x48, 0, 0, 0x53, 0x43, 9];
-
-// A scalar's record up to the type in its box.
-const BOX_START: [u8; 6] = [0x53, 0x43, 8, 0x42, 0x58, 1];
-
 // Where field n of a type stands, that there is none, or the refusal of the type.
 pub enum Found {
     At { start: usize, length: usize },

@@ -1,16 +1,17 @@
 // A box as a list of types.
-use crate::ANY_TYPE;
 use crate::Boxes;
 use crate::copies::write_copies;
 use crate::parts::Held;
 use crate::parts::look_inside;
 use lent::Written;
 use lent::hand_over;
+use limits::records::ANY_TYPE;
 use record::Lone;
 use record::lone_scalar;
 use record::lone_shape;
 use record::read_lone;
 use shape::row_count;
+use writer::as_written;
 ghost use mathlib.Core.Path.{_≡_};
 ghost use mathlib.Core.Option.{some};
 ghost use Rattle.format.specs.Outcome.{mapped, bound, lone};
@@ -22,10 +23,10 @@ ghost use Rattle.ty.specs.Calls.{boxesOf, given, deliverBoxes};
 pub fn as_boxes(ty: &[u8], result: &mut [u8]) -> Boxes
     ensures { λ r. ⌜ given (boxesOf r) (now (result .exit)) ≡ deliverBoxes (bound asBoxes (lone (now (ty .entry)))) (now (result .entry)) ⌝ }
 {
-    let answer = read_lone(ty);
-    if let Lone::Refused { number, place } = answer {
-        return Boxes::Refused { number, place };
-    }
+    let read = read_lone(ty);
+    let Lone::Accepted = read else {
+        return offer(as_written(read));
+    };
     let rows = row_count(lone_shape(ty));
     let held = look_inside(ty);
     match held {

@@ -1,12 +1,12 @@
 // The rows of a type.
-use crate::ANY_TYPE;
-use crate::BOX_START;
 use crate::parts::Held;
 use crate::parts::Part;
 use crate::parts::find_field;
 use crate::parts::look_inside;
 use lent::Written;
 use lent::lay;
+use limits::records::ANY_TYPE;
+use limits::records::BOX_ALL_START;
 use limits::refusal::TOO_SHORT;
 use record::DynShape;
 use record::Lone;
@@ -15,6 +15,7 @@ use record::lone_shape;
 use record::read_lone;
 use shape::into_row as shape_row;
 use shape::rank;
+use writer::as_written;
 use writer::put_shape;
 use writer::shape_length;
 ghost use mathlib.Core.Path.{_≡_};
@@ -66,10 +67,10 @@ pub enum Which {
 fn row_by(ty: &[u8], which: Which, result: &mut [u8]) -> Written
     ensures { λ r. ⌜ delivered r (now (result .exit)) ≡ deliver (mapped (λ t. writeTy (rowBy (chosen which) t)) (lone (now (ty .entry)))) (now (result .entry)) ⌝ }
 {
-    let answer = read_lone(ty);
-    if let Lone::Refused { number, place } = answer {
-        return Written::Refused { number, place };
-    }
+    let read = read_lone(ty);
+    let Lone::Accepted = read else {
+        return as_written(read);
+    };
     row_known(ty, which, &mut *result)
 }
 
@@ -119,9 +120,9 @@ fn take_field(
     match part {
         Part::At { start: at, length } => {
             let end = at + length;
-            write_parts(row, &BOX_START, &ty[at..end], &mut *result)
+            write_parts(row, &BOX_ALL_START, &ty[at..end], &mut *result)
         }
-        Part::Nothing => write_parts(row, &BOX_START, &ANY_TYPE, &mut *result),
+        Part::Nothing => write_parts(row, &BOX_ALL_START, &ANY_TYPE, &mut *result),
     }
 }
 

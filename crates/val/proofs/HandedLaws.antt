@@ -1,12 +1,11 @@
 -- What a call comes to, for each case of the value handed in.
 use Prim.Native.Nat.{ℕ}
 use mathlib.Core.List.{List}
-use mathlib.Core.Path.{_≡_, refl, _∙_, ap}
+use mathlib.Core.Path.{_≡_, refl, sym, _∙_, ap}
 use lib.Ieee.{Float}
 use Rattle.model.specs.Types.{Ty}
 use Rattle.format.specs.Outcome.{Outcome, accepted, refused, mapped, bound, lone}
 use Rattle.record.specs.Answers.{nothing}
-use Rattle.record.proofs.LoneLaws.{passed-accepted, passed-refused}
 use Rattle.val.specs.declared.Value as declared
 use Rattle.val.specs.declared.Value.the-variants.{Num, List as Listed, Of}
 use Rattle.val.specs.Answers.{valueOf}
@@ -22,13 +21,13 @@ module _ {A : Type 0} (f : Value → Outcome A) (list : List Float) (bytes : Lis
   pub for-list : {v : declared.Value} → v ≡ Listed → answer v ≡ f (numbers list)
   for-list e = ap answer e
 
-  -- bytes that are no type
-  pub for-no-type : {v : declared.Value} {k p : ℕ} → v ≡ Of → mapped nothing (lone bytes) ≡ refused k p → answer v ≡ refused k p
-  for-no-type e h = ap answer e ∙ ap (λ o. bound f (mapped typed o)) (passed-refused (lone bytes) h)
-
-  -- a type, of which every one has the same answer
-  pub for-any-type : {v : declared.Value} {a : A} → v ≡ Of → mapped nothing (lone bytes) ≡ accepted 0 → ((t : Ty) → f (typed t) ≡ accepted a) → answer v ≡ accepted a
-  for-any-type e h same = passed-accepted (lone bytes) h λ t g. ap answer e ∙ ap (λ o. bound f (mapped typed o)) g ∙ same t
+  -- a type, of which every one has the same answer, so that it is only asked whether the bytes are one
+  pub for-any-type : {v : declared.Value} {a : A} {read : Outcome ℕ} → v ≡ Of → read ≡ mapped nothing (lone bytes) → ((t : Ty) → f (typed t) ≡ accepted a) → mapped (λ _. a) read ≡ answer v
+  for-any-type {a = a} e h same = ap (mapped (λ _. a)) h ∙ go (lone bytes) ∙ sym (ap answer e)
+    where
+      go : (o : Outcome Ty) → mapped (λ _. a) (mapped nothing o) ≡ bound f (mapped typed o)
+      go (accepted t) = sym (same t)
+      go (refused k p) = refl
 
   -- a type, with an answer of its own
   pub for-type : {v : declared.Value} (g : Ty → A) → v ≡ Of → ((t : Ty) → f (typed t) ≡ accepted (g t)) → answer v ≡ mapped g (lone bytes)

@@ -1,29 +1,42 @@
 -- The scalar of a value, one law for each way out of a function.
-use Prim.Native.Nat.{ℕ}
+use Prim.Native.Nat.{ℕ, _<_}
+use native.Mathlib.Omega.{arith}
 use mathlib.Core.List.{List, [], _∷_}
 use mathlib.Core.Path.{_≡_, refl, sym, _∙_, ap}
 use lib.Ieee.{Float}
-use Rattle.model.specs.Types.{Ty, ty, scalarOf}
-use Rattle.format.specs.Records.{writeScalar}
+use Rattle.model.specs.Types.{Kind, bool, nat, int, num, complex, ascii, char, stream, any, Ty, ty, scalarOf}
+use Rattle.format.specs.Records.{code, writeScalar}
 use Rattle.format.specs.Outcome.{Outcome, accepted, refused, mapped, lone, scalarRecord}
 use Rattle.number.specs.Kind.{kindOf}
 use Rattle.val.specs.declared.Value as declared
 use Rattle.val.specs.declared.Value.the-variants.{Num, List as Listed, Of}
 use Rattle.val.specs.Answers.{valueOf, kindRecord}
-use Rattle.val.specs.Values.{kindFor, numsScalar, valueScalar}
+use Rattle.val.specs.Values.{numsScalar, valueScalar}
 use Rattle.val.proofs.WriteLaws.{write-plain}
-use Rattle.val.proofs.NumberLaws.{code-numbers}
 use Rattle.val.proofs.HandedLaws.{maps-number, maps-list, maps-type}
 
-pub scalar-of-kind : (xs : List Float) {kind : ℕ} → kind ≡ kindOf xs → kindRecord kind ≡ writeScalar (numsScalar xs)
+-- every code is a byte
+pub code-byte : (k : Kind) → code k < 256
+unfolding code
+code-byte bool = omega arith
+code-byte nat = omega arith
+code-byte int = omega arith
+code-byte num = omega arith
+code-byte complex = omega arith
+code-byte ascii = omega arith
+code-byte char = omega arith
+code-byte stream = omega arith
+code-byte any = omega arith
+
+pub scalar-of-kind : (xs : List Float) {kind : ℕ} → kind ≡ code (kindOf xs) → kindRecord kind ≡ writeScalar (numsScalar xs)
 unfolding numsScalar
-scalar-of-kind xs e = ap kindRecord (e ∙ sym (code-numbers xs)) ∙ sym (write-plain (kindFor (kindOf xs)))
+scalar-of-kind xs e = ap kindRecord e ∙ sym (write-plain (kindOf xs))
 
 module _ (list : List Float) (bytes : List ℕ) where
   abbrev answer : declared.Value → Outcome (List ℕ)
   answer v = mapped writeScalar (mapped valueScalar (valueOf v list bytes))
 
-  pub scalar-number : {v : declared.Value} {x : Float} {kind : ℕ} → v ≡ Num x → kind ≡ kindOf (x ∷ []) → answer v ≡ accepted (kindRecord kind)
+  pub scalar-number : {v : declared.Value} {x : Float} {kind : ℕ} → v ≡ Num x → kind ≡ code (kindOf (x ∷ [])) → answer v ≡ accepted (kindRecord kind)
   unfolding valueScalar
   scalar-number {x = x} e k = ap (mapped writeScalar) (maps-number valueScalar list bytes e) ∙ ap accepted (sym (scalar-of-kind (x ∷ []) k))
 

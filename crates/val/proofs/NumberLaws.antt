@@ -1,4 +1,4 @@
--- What the answers of `number` say as sizes of shapes, and its kinds as kinds of scalars.
+-- What the answers of `number` say as sizes of shapes.
 use Prim.Native.Nat.{ℕ, _≤_, _<_}
 use native.Mathlib.Omega.{arith}
 use mathlib.Core.Bool.{Bool, true, false, cond}
@@ -11,17 +11,16 @@ use borrow.Author.Tests.{le-leb, lt-leb, ne-eqb}
 use Rattle.model.specs.Limits.{maxSize, ones}
 use Rattle.model.specs.Refusals.{oversized}
 use Rattle.model.specs.Types.{static, unknown}
-use Rattle.format.specs.Records.{code, dimOf}
+use Rattle.format.specs.Records.{dimOf}
 use Rattle.format.specs.Outcome.{accepted, refused}
 use Rattle.number.specs.declared.Sized.{Sized}
 use Rattle.number.specs.declared.Sized.the-variants.{Size, Refused}
 use Rattle.number.specs.declared.Answer.{Answer}
 use Rattle.number.specs.declared.Answer.the-variants.{Count, Refused as RefusedAt}
 use Rattle.number.specs.Answers.{sizeOutcome, answerOutcome}
-use Rattle.number.specs.Kind.{kindBy, any, notWhole, negative, aboveOne, kindOf}
 use Rattle.number.specs.Size.{SizeOutcome, size, unknown as unknownSize}
 use Rattle.number.specs.Sizes.{SizesOutcome}
-use Rattle.val.specs.Values.{lengthDim, dimAlone, dimsListed, kindFor}
+use Rattle.val.specs.Values.{lengthDim, dimAlone, dimsListed}
 
 -- ---- a size
 
@@ -55,16 +54,3 @@ module _ (xs : List Float) where
   pub length-oversized : maxSize < length xs → lengthDim xs ≡ refused oversized 0
   unfolding lengthDim
   length-oversized h = rw (lt-leb (length xs) maxSize h)
-
--- ---- kinds
-
--- the kinds of numbers have their codes
-pub code-numbers : (xs : List Float) → code (kindFor (kindOf xs)) ≡ kindOf xs
-unfolding code
-code-numbers xs = go (any notWhole xs) (any negative xs) (any aboveOne xs)
-  where
-    go : (p q r : Bool) → code (kindFor (kindBy p q r)) ≡ kindBy p q r
-    go true q r = refl
-    go false true r = refl
-    go false false true = refl
-    go false false false = refl

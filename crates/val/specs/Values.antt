@@ -1,7 +1,7 @@
 -- A value handed in is a number, a list of numbers or a type (document 01, "val.rs", in its order): `ty`, `spec`, `scalar`, `row_count`,
 -- `rank`, `as_dim`, `as_dims` and the three rows. Where the length of a list becomes a size, in `ty` and `row_count`, it is refused 4
 -- above 2^53, at place 0.
-use Prim.Native.Nat.{ℕ, zero, suc}
+use Prim.Native.Nat.{ℕ}
 use mathlib.Core.Bool.{cond}
 use mathlib.Core.List.{List, [], _∷_, map}
 use mathlib.Core.Option.{Option, none, some}
@@ -10,7 +10,7 @@ use lib.Ieee.{Float}
 use lib.ListN.{length}
 use Rattle.model.specs.Limits.{maxSize}
 use Rattle.model.specs.Refusals.{oversized}
-use Rattle.model.specs.Types.{Dim, static, unknown, shape, Kind, bool, nat, int, num, any, Scalar, plain, Ty, ty, shapeOf, scalarOf}
+use Rattle.model.specs.Types.{Dim, static, unknown, shape, num, any, Scalar, plain, Ty, ty, shapeOf, scalarOf}
 use Rattle.format.specs.Records.{dimOf, writeTy}
 use Rattle.format.specs.Outcome.{Outcome, accepted, refused, mapped, Delivery, deliver}
 use Rattle.number.specs.Kind.{kindOf}
@@ -69,15 +69,8 @@ valueSpec (typed t) = accepted t
 
 -- ---- `scalar`
 
--- the kind of numbers by its code, 0 to 3
-abbrev pub kindFor : ℕ → Kind
-kindFor zero = bool
-kindFor (suc zero) = nat
-kindFor (suc (suc zero)) = int
-kindFor (suc (suc (suc n))) = num
-
 unfoldable pub numsScalar : List Float → Scalar
-numsScalar xs = plain (kindFor (kindOf xs))
+numsScalar xs = plain (kindOf xs)
 
 unfoldable pub valueScalar : Value → Scalar
 valueScalar (number x) = numsScalar (x ∷ [])

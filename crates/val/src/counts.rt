@@ -6,6 +6,7 @@ use limits::refusal::OVERSIZED;
 use record::Lone;
 use record::lone_shape;
 use record::read_lone;
+use writer::as_counted;
 ghost use mathlib.Core.Path.{_≡_};
 ghost use Rattle.model.specs.Types.{shapeOf};
 ghost use Rattle.format.specs.Outcome.{mapped, bound, lone};
@@ -40,9 +41,10 @@ pub fn row_count_of_list(list: &[f64]) -> Counted
 fn row_count_of_type(ty: &[u8]) -> Counted
     ensures { λ r. ⌜ countedDim r ≡ mapped (λ t. rowCount (shapeOf t)) (lone (now (ty .entry))) ⌝ }
 {
-    if let Lone::Refused { number, place } = read_lone(ty) {
-        return Counted::Refused { number, place };
-    }
+    let read = read_lone(ty);
+    let Lone::Accepted = read else {
+        return as_counted(read);
+    };
     Counted::Count(shape::row_count(lone_shape(ty)))
 }
 
@@ -59,8 +61,9 @@ pub fn rank(v: Value, list: &[f64], bytes: &[u8]) -> Counted
 fn rank_of_type(ty: &[u8]) -> Counted
     ensures { λ r. ⌜ countedNumber r ≡ mapped (λ t. rank (shapeOf t)) (lone (now (ty .entry))) ⌝ }
 {
-    if let Lone::Refused { number, place } = read_lone(ty) {
-        return Counted::Refused { number, place };
-    }
+    let read = read_lone(ty);
+    let Lone::Accepted = read else {
+        return as_counted(read);
+    };
     Counted::Count(shape::rank(lone_shape(ty)) as u64)
 }

@@ -8,7 +8,6 @@ mod write;
 
 pub use counts::rank;
 pub use counts::row_count;
-pub use lent::Counted;
 pub use parts::nums_scalar;
 pub use parts::scalar;
 pub use parts::spec;

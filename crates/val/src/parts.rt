@@ -30,7 +30,7 @@ pub fn ty(v: Value, list: &[f64], bytes: &[u8], result: &mut [u8]) -> Written
     ensures { λ r. ⌜ delivered r (now (result .exit)) ≡ deliver (mapped writeTy (bound valueTy (valueOf v (now (list .entry)) (now (bytes .entry))))) (now (result .entry)) ⌝ }
 {
     match v {
-        Value::Num(_) => write_closed(no_dims(), NUM, &mut *result),
+        Value::Num(_) => write_closed(no_dims(), NUM as u8, &mut *result),
         Value::List => ty_of_list(list, &mut *result),
         Value::Of => write_same(bytes, &mut *result),
     }
@@ -40,7 +40,7 @@ fn ty_of_list(list: &[f64], result: &mut [u8]) -> Written
     ensures { λ r. ⌜ delivered r (now (result .exit)) ≡ deliver (mapped writeTy (valueTy (numbers (now (list .entry))))) (now (result .entry)) ⌝ }
 {
     match row_count_of_list(list) {
-        Counted::Count(n) => write_closed(one_dim(n), NUM, &mut *result),
+        Counted::Count(n) => write_closed(one_dim(n), NUM as u8, &mut *result),
         Counted::Refused { number, place } => Written::Refused { number, place },
     }
 }
@@ -84,7 +84,7 @@ pub fn scalar(v: Value, list: &[f64], bytes: &[u8], result: &mut [u8]) -> Writte
     ensures { λ r. ⌜ delivered r (now (result .exit)) ≡ deliver (mapped writeScalar (mapped valueScalar (valueOf v (now (list .entry)) (now (bytes .entry))))) (now (result .entry)) ⌝ }
 {
     match v {
-        Value::Num(x) => write_kind(kind_of_number(x), &mut *result),
+        Value::Num(x) => write_kind(kind_of_number(x) as u8, &mut *result),
         Value::List => nums_scalar(list, &mut *result),
         Value::Of => scalar_record(bytes, &mut *result),
     }
@@ -93,5 +93,5 @@ pub fn scalar(v: Value, list: &[f64], bytes: &[u8], result: &mut [u8]) -> Writte
 pub fn nums_scalar(list: &[f64], result: &mut [u8]) -> Written
     ensures { λ r. ⌜ delivered r (now (result .exit)) ≡ deliver (accepted (writeScalar (numsScalar (now (list .entry))))) (now (result .entry)) ⌝ }
 {
-    write_kind(kind_of(list), &mut *result)
+    write_kind(kind_of(list) as u8, &mut *result)
 }

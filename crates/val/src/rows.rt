@@ -51,7 +51,7 @@ fn row_of_list(list: &[f64], result: &mut [u8]) -> Row
     if list.len() == 1 {
         return Row::Number(list[0]);
     }
-    as_row(write_closed(no_dims(), NUM, &mut *result))
+    as_row(write_closed(no_dims(), NUM as u8, &mut *result))
 }
 
 fn first_of_list(list: &[f64], result: &mut [u8]) -> Row

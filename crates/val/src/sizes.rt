@@ -10,9 +10,13 @@ use record::Dims;
 use record::Lone;
 use record::no_dims;
 use record::read_lone;
+ghost use mathlib.Core.List.{List};
+ghost use mathlib.Core.Option.{none};
 ghost use mathlib.Core.Path.{_≡_};
-ghost use Rattle.format.specs.Outcome.{bound};
-ghost use Rattle.val.specs.Answers.{valueOf, maybeDim, dimsAnswered};
+ghost use Rattle.model.specs.Types.{Dim};
+ghost use Rattle.format.specs.Outcome.{mapped, bound};
+ghost use Rattle.record.specs.Answers.{loneOf};
+ghost use Rattle.val.specs.Answers.{valueOf, maybeDim, maybeDims, dimsAnswered};
 ghost use Rattle.val.specs.Values.{number, numbers, valueAsDim, valueAsDims};
 
 // The size that a number stands for: either infinity is unknown.
@@ -22,10 +26,17 @@ pub fn as_dim(v: Value, list: &[f64], bytes: &[u8]) -> MaybeDim
     match v {
         Value::Num(x) => dim_of_number(x),
         Value::List => MaybeDim::Nothing,
-        Value::Of => match read_lone(bytes) {
-            Lone::Accepted => MaybeDim::Nothing,
-            Lone::Refused { number, place } => MaybeDim::Refused { number, place },
-        },
+        Value::Of => as_no_dim(read_lone(bytes)),
+    }
+}
+
+// A reading as an answer: what was refused as it was read stays refused, and a type is no number.
+fn as_no_dim(read: Lone) -> MaybeDim
+    ensures { λ r. ⌜ maybeDim r ≡ mapped (λ _. none) (loneOf read) ⌝ }
+{
+    match read {
+        Lone::Accepted => MaybeDim::Nothing,
+        Lone::Refused { number, place } => MaybeDim::Refused { number, place },
     }
 }
 
@@ -45,10 +56,17 @@ pub fn as_dims(v: Value, list: &[f64], bytes: &[u8]) -> DimsAnswer
     match v {
         Value::Num(_) => without_dims(MaybeDims::Nothing),
         Value::List => dims_of_list(list),
-        Value::Of => match read_lone(bytes) {
-            Lone::Accepted => without_dims(MaybeDims::Nothing),
-            Lone::Refused { number, place } => without_dims(MaybeDims::Refused { number, place }),
-        },
+        Value::Of => without_dims(as_no_dims(read_lone(bytes))),
+    }
+}
+
+// The same of a list's sizes, of which a type has none either.
+fn as_no_dims(read: Lone) -> MaybeDims
+    ensures { λ r. ⌜ ((ds : List Dim) → maybeDims r ds ≡ mapped (λ _. none) (loneOf read)) ⌝ }
+{
+    match read {
+        Lone::Accepted => MaybeDims::Nothing,
+        Lone::Refused { number, place } => MaybeDims::Refused { number, place },
     }
 }
 

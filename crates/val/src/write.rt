@@ -2,12 +2,14 @@
 use lent::Written;
 use lent::hand_over;
 use limits::MAX_SIZES;
+use limits::marks::SCALAR;
 use limits::refusal::TOO_SHORT;
 use record::Dims;
 use record::DynShape;
 use record::Lone;
 use record::no_dims;
 use record::read_lone;
+use writer::as_written;
 use writer::put_shape;
 use writer::shape_length;
 ghost use mathlib.Core.Path.{_≡_};
@@ -60,8 +62,8 @@ fn put_kind(out: &mut [u8], at: usize, kind: u8)
     requires { ⌜ at + 3 ≤ length (now out) ⌝ }
     ensures { λ _. ⌜ now (out .exit) ≡ over (now (out .entry)) at (kindRecord kind) ⌝ }
 {
-    out[at] = 0x53;
-    out[at + 1] = 0x43;
+    out[at] = SCALAR.first;
+    out[at + 1] = SCALAR.second;
     out[at + 2] = kind;
 }
 
@@ -69,10 +71,10 @@ fn put_kind(out: &mut [u8], at: usize, kind: u8)
 pub fn write_same(ty: &[u8], result: &mut [u8]) -> Written
     ensures { λ r. ⌜ delivered r (now (result .exit)) ≡ deliver (mapped writeTy (lone (now (ty .entry)))) (now (result .entry)) ⌝ }
 {
-    let answer = read_lone(ty);
-    if let Lone::Refused { number, place } = answer {
-        return Written::Refused { number, place };
-    }
+    let read = read_lone(ty);
+    let Lone::Accepted = read else {
+        return as_written(read);
+    };
     hand_over(ty, &mut *result)
 }
 

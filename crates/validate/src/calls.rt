@@ -14,6 +14,7 @@ use record::lone_shape;
 use record::read_both;
 use ty::write_parts;
 use walk::shape_at;
+use writer::as_written;
 use writer::put_shape;
 use writer::shape_length;
 ghost use mathlib.Core.Path.{_≡_};
@@ -32,9 +33,9 @@ pub fn check_shape(side: Side, spec: &[u8], ty: &[u8], result: &mut [u8]) -> Wri
     ensures { λ r. ⌜ delivered r (now (result .exit)) ≡ deliver (both (λ s t. mapped writeTy (checkShapeOnly (sideOf side) s t)) (lone (now (spec .entry))) (lone (now (ty .entry)))) (now (result .entry)) ⌝ }
 {
     let read = read_both(spec, ty);
-    if let Lone::Refused { number, place } = read {
-        return Written::Refused { number, place };
-    }
+    let Lone::Accepted = read else {
+        return as_written(read);
+    };
     let checked = check_shapes(side, lone_shape(spec), lone_shape(ty));
     if checked.clash {
         return Written::Refused {
@@ -53,9 +54,9 @@ pub fn validate(side: Side, spec: &[u8], ty: &[u8], result: &mut [u8]) -> Writte
     ensures { λ r. ⌜ delivered r (now (result .exit)) ≡ deliver (both (λ s t. mapped writeTy (validate (sideOf side) s t)) (lone (now (spec .entry))) (lone (now (ty .entry)))) (now (result .entry)) ⌝ }
 {
     let read = read_both(spec, ty);
-    if let Lone::Refused { number, place } = read {
-        return Written::Refused { number, place };
-    }
+    let Lone::Accepted = read else {
+        return as_written(read);
+    };
     let mut out = [0u8; MAX_BYTES];
     let w = validate_known(side, spec, ty, &mut out);
     match w {
@@ -81,9 +82,9 @@ pub fn check_scalar(spec: &[u8], ty: &[u8], result: &mut [u8]) -> Written
     ensures { λ r. ⌜ delivered r (now (result .exit)) ≡ deliver (both (λ s t. mapped writeTy (checkScalarOnly s t)) (lone (now (spec .entry))) (lone (now (ty .entry)))) (now (result .entry)) ⌝ }
 {
     let read = read_both(spec, ty);
-    if let Lone::Refused { number, place } = read {
-        return Written::Refused { number, place };
-    }
+    let Lone::Accepted = read else {
+        return as_written(read);
+    };
     let mut out = [0u8; MAX_BYTES];
     let shape = shape_at(ty, 0);
     let n = shape_length(shape);

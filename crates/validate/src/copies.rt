@@ -5,6 +5,9 @@ use crate::places::next_type;
 use crate::places::scalar_at;
 use crate::places::span_at;
 use lent::lay;
+use limits::BOX;
+use limits::BOX_DEF;
+use limits::marks;
 ghost use mathlib.Core.Path.{_≡_};
 ghost use mathlib.Core.Bool.{cond};
 ghost use mathlib.Core.List.{List};
@@ -84,16 +87,16 @@ pub fn copy_fields(
 }
 
 // A box's record up to its form.
-pub fn put_box(out: &mut [u8], to: usize, form: u8)
-    requires { ⌜ to + 6 ≤ length (now out) ⌝ }
+pub fn put_box(out: &mut [u8], to: usize, form: u64)
+    requires { ⌜ (to + 6 ≤ length (now out)) × (form < 256) ⌝ }
     ensures { λ _. ⌜ now (out .exit) ≡ over (now (out .entry)) to (boxStart form) ⌝ }
 {
-    out[to] = 0x53;
-    out[to + 1] = 0x43;
-    out[to + 2] = 8;
-    out[to + 3] = 0x42;
-    out[to + 4] = 0x58;
-    out[to + 5] = form;
+    out[to] = marks::SCALAR.first;
+    out[to + 1] = marks::SCALAR.second;
+    out[to + 2] = BOX as u8;
+    out[to + 3] = marks::BOX.first;
+    out[to + 4] = marks::BOX.second;
+    out[to + 5] = form as u8;
 }
 
 // A Def's head: its box, the name that stands at `name`, and the count of its fields. Answers the place after it.
@@ -102,7 +105,7 @@ pub fn put_def(s: &[u8], name: usize, count: u8, out: &mut [u8], to: usize) -> u
     ensures { λ r. ⌜ ((label : Option (List ℕ)) → Stands (now (s .entry)) name (countOf label ∷ listOf label) → length (listOf label) ≤ maxName → (r ≡ to + length (defHead label count)) × (r ≤ to + boxBytes) × (now (out .exit) ≡ over (now (out .entry)) to (defHead label count))) ⌝ }
 {
     let end = name + 1 + name_length(s[name]);
-    put_box(&mut *out, to, 2);
+    put_box(&mut *out, to, BOX_DEF);
     lay(&s[name..end], &mut *out, to + 6);
     let last = to + 6 + (end - name);
     out[last] = count;

@@ -15,6 +15,8 @@ use crate::places::span_at;
 use crate::places::types_in;
 use crate::plans::plan_scalar;
 use crate::shapes::check_shapes;
+use limits::BOX_ALL;
+use limits::records::ANY_TYPE;
 use limits::refusal::WRONG_SHAPE;
 use walk::shape_at;
 use writer::put_shape;
@@ -82,7 +84,7 @@ pub fn check_scalar_at(
         Plan::Keep => copy_scalar(ty, j, &mut *out, to),
         Plan::Take => copy_scalar(spec, i, &mut *out, to),
         Plan::Inside { content, other } => {
-            put_box(&mut *out, to, 1);
+            put_box(&mut *out, to, BOX_ALL);
             check_type(
                 Side::Unsided,
                 spec,
@@ -108,13 +110,12 @@ pub fn check_scalar_at(
         } => {
             let start = put_name(spec, ty, borrowed, name, count as u8, &mut *out, to);
             if fresh {
-                let any = [0x53u8, 0x48, 0, 0, 0x53, 0x43, 9];
                 return check_fields(
                     spec,
                     content,
                     limit,
                     moves,
-                    &any,
+                    &ANY_TYPE,
                     other,
                     count,
                     steps,

@@ -22,19 +22,19 @@ pub enum Side {
 }
 
 // Whether a spec's shape clashes with a type's, and the shape that the type has if it does not.
-pub struct Checked {
+struct Checked {
     pub clash: bool,
     pub shape: DynShape,
 }
 
 // How many types a type is, itself counted, and the place after it.
-pub struct Span {
+struct Span {
     pub types: u64,
     pub end: usize,
 }
 
 // What a type's scalar is, and where what it holds begins: an All box's content; a Def's name, its fields and their count.
-pub enum View {
+enum View {
     Plain {
         code: u64,
     },
@@ -52,7 +52,7 @@ pub enum View {
 
 // What a spec's scalar asks of a type's: a refusal; the type's scalar as it is; the spec's; the contents of two All boxes, at
 // their places; or a Def whose fields are those of two lists, pair by pair as far as both go.
-pub enum Plan {
+enum Plan {
     Refuse {
         number: u8,
     },
@@ -78,7 +78,7 @@ pub enum Plan {
 }
 
 // Where the bytes written end and how many types they are, or the number of a refusal.
-pub enum Wrote {
+enum Wrote {
     Done { end: usize, types: u64 },
     Refused { number: u8 },
 }

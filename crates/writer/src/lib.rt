@@ -1,9 +1,15 @@
-// Writing records: a shape by value, and the shape and the scalar of a whole type.
+// Writing records: a shape by value, and the shape and the scalar of a whole type. And a reading as the answer of a call.
+mod readings;
+
 use lent::Written;
 use lent::hand_over;
 use limits::ABSENT;
 use limits::MAX_SIZES;
+use limits::marks::SHAPE;
 use limits::refusal::TOO_SHORT;
+pub use readings::as_counted;
+pub use readings::as_tested;
+pub use readings::as_written;
 use record::Dims;
 use record::DynShape;
 use record::Lone;
@@ -96,8 +102,8 @@ fn put_head(out: &mut [u8], at: usize, opening: u8, closing: u8)
     requires { ⌜ at + 4 ≤ length (now out) ⌝ }
     ensures { λ _. ⌜ now (out .exit) ≡ over (now (out .entry)) at (markBytes shapeMark ++ (opening ∷ closing ∷ [])) ⌝ }
 {
-    out[at] = 0x53;
-    out[at + 1] = 0x48;
+    out[at] = SHAPE.first;
+    out[at + 1] = SHAPE.second;
     out[at + 2] = opening;
     out[at + 3] = closing;
 }
@@ -137,10 +143,10 @@ pub fn write_shape(shape: DynShape, result: &mut [u8]) -> Written
 pub fn shape_record(ty: &[u8], result: &mut [u8]) -> Written
     ensures { λ r. ⌜ delivered r (now (result .exit)) ≡ deliver (mapped shapeRecord (lone (now (ty .entry)))) (now (result .entry)) ⌝ }
 {
-    let answer = read_lone(ty);
-    if let Lone::Refused { number, place } = answer {
-        return Written::Refused { number, place };
-    }
+    let read = read_lone(ty);
+    let Lone::Accepted = read else {
+        return as_written(read);
+    };
     write_shape(lone_shape(ty), &mut *result)
 }
 
@@ -148,10 +154,10 @@ pub fn shape_record(ty: &[u8], result: &mut [u8]) -> Written
 pub fn scalar_record(ty: &[u8], result: &mut [u8]) -> Written
     ensures { λ r. ⌜ delivered r (now (result .exit)) ≡ deliver (mapped scalarRecord (lone (now (ty .entry)))) (now (result .entry)) ⌝ }
 {
-    let answer = read_lone(ty);
-    if let Lone::Refused { number, place } = answer {
-        return Written::Refused { number, place };
-    }
+    let read = read_lone(ty);
+    let Lone::Accepted = read else {
+        return as_written(read);
+    };
     let start = lone_scalar(ty);
     hand_over(&ty[start..], &mut *result)
 }

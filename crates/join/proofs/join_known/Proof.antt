@@ -5,7 +5,7 @@ use Rattle.model.specs.Types.{ty}
 use Rattle.record.specs.Answers.{shapeFor}
 use Rattle.rules.specs.Scalars.{union}
 use Rattle.rules.specs.Types.{joinTypes}
-use Rattle.walk.specs.WholeLaws.{first-good, second-good}
+use Rattle.record.proofs.LoneLaws.{both-passed}
 use Rattle.join.specs.ShapesLaws.{by-scalars}
 use borrow.Author.Needs.{needs}
 use Rattle.join.proofs.join_known.Statement.{statement}
@@ -18,11 +18,17 @@ use Rattle.shape.proofs.join.Reads as join-reads
 
 -- src/lib.rt:41:29
 lone-shape-requires : tie.Need-lone-shape-requires
-lone-shape-requires c κs = first-good _ _ (c .before .before .before .pre)
+lone-shape-requires c κs =
+    let entry = c .before .before .before in
+    let good = both-passed (lone (entry .args .a .now)) (lone (entry .args .b .now)) (entry .pre) in
+    search needs
 
 -- src/lib.rt:41:44
 lone-shape-requires-2 : tie.Need-lone-shape-requires-2
-lone-shape-requires-2 c κs = second-good _ _ (c .before .before .before .before .pre)
+lone-shape-requires-2 c κs =
+    let entry = c .before .before .before .before in
+    let good = both-passed (lone (entry .args .a .now)) (lone (entry .args .b .now)) (entry .pre) in
+    search needs
 
 -- src/lib.rt:41:9
 join-requires : tie.Need-join-requires

@@ -12,151 +12,152 @@ use Rattle.join.proofs.write_union.Statement.{statement}
 use Rattle.join.proofs.write_union.Tie as tie
 use Rattle.join.proofs.write_union.Reads as reads
 use Rattle.join.proofs.write_union.Lts as lts
-use Rattle.record.proofs.lone_scalar.Reads as lone-scalar-reads
-use Rattle.scalar.proofs.unite.Reads as unite-reads
-use Rattle.ty.proofs.write_parts.Reads as write-parts-reads
 
--- src/lib.rt:42:9
 lone-scalar-requires : tie.Need-lone-scalar-requires
-lone-scalar-requires c κs = first-good _ _ (c .before .before .before .pre)
+lone-scalar-requires c κs =
+    let entry = c .before .before .before in
+    first-good _ _ (entry .pre)
 
--- src/lib.rt:43:9
 lone-scalar-requires-2 : tie.Need-lone-scalar-requires-2
-lone-scalar-requires-2 c κs = second-good _ _ (c .before .before .before .before .pre)
+lone-scalar-requires-2 c κs =
+    let entry = c .before .before .before .before in
+    second-good _ _ (entry .pre)
 
--- src/lib.rt:44:29
 sub-unite : tie.Need-sub-unite
 sub-unite c = search needs
 
--- src/lib.rt:44:11
 unite-requires : tie.Need-unite-requires
-unite-requires c κs = has-scalars _ _ (c .before .before .before .before .before .pre) (λ i. omega (arith, c .before .before .before .before .shared-slice-known .given i)) (λ i. omega (arith, c .before .before .before .shared-slice-known2 .given i)) (c .before .lone-scalar .ensures) (c .lone-scalar2 .ensures)
+unite-requires c κs =
+    let entry = c .before .before .before .before .before in
+    let at-shared-slice-known = c .before .before .before .before in
+    let at-shared-slice-known2 = c .before .before .before in
+    has-scalars _ _ (entry .pre) (λ i. omega (arith, at-shared-slice-known .shared-slice-known .given i)) (λ i. omega (arith, at-shared-slice-known2 .shared-slice-known2 .given i)) (c .before .lone-scalar .ensures) (c .lone-scalar2 .ensures)
 
--- src/lib.rt:45:45
 enum-told : tie.Need-enum-told
 enum-told c = search needs
 
--- src/lib.rt:45:45
 slice-aggregate-write-parts : tie.Need-slice-aggregate-write-parts
 slice-aggregate-write-parts c = search needs
 
--- src/lib.rt:45:50
 sub-write-parts : tie.Need-sub-write-parts
 sub-write-parts c = search needs
 
--- src/lib.rt:45:50
 part-write-parts-start : tie.Need-part-write-parts-start
 part-write-parts-start c = search needs
 
--- src/lib.rt:45:50
 part-write-parts-end : tie.Need-part-write-parts-end
 part-write-parts-end c = search needs
 
--- src/lib.rt:45:26
 write-parts-requires : tie.Need-write-parts-requires
 write-parts-requires c κs = search needs
 
--- src/lib.rt:46:46
 enum-told-2 : tie.Need-enum-told-2
 enum-told-2 c = search needs
 
--- src/lib.rt:46:46
 slice-aggregate-write-parts-2 : tie.Need-slice-aggregate-write-parts-2
 slice-aggregate-write-parts-2 c = search needs
 
--- src/lib.rt:46:51
 sub-write-parts-2 : tie.Need-sub-write-parts-2
 sub-write-parts-2 c = search needs
 
--- src/lib.rt:46:51
 part-write-parts-start-2 : tie.Need-part-write-parts-start-2
 part-write-parts-start-2 c = search needs
 
--- src/lib.rt:46:51
 part-write-parts-end-2 : tie.Need-part-write-parts-end-2
 part-write-parts-end-2 c = search needs
 
--- src/lib.rt:46:27
 write-parts-requires-2 : tie.Need-write-parts-requires-2
 write-parts-requires-2 c κs = search needs
 
--- src/lib.rt:48:41
 enum-told-3 : tie.Need-enum-told-3
 enum-told-3 c = search needs
 
--- src/lib.rt:48:41
-cast-t32 : tie.Need-cast-t32
-cast-t32 c = search needs
-
--- src/lib.rt:48:64
-cast-t33 : tie.Need-cast-t33
-cast-t33 c = search needs
-
--- src/lib.rt:49:32
 slice-aggregate-write-parts-3 : tie.Need-slice-aggregate-write-parts-3
 slice-aggregate-write-parts-3 c = search needs
 
--- src/lib.rt:49:37
 slice-aggregate-write-parts-4 : tie.Need-slice-aggregate-write-parts-4
 slice-aggregate-write-parts-4 c = search needs
 
--- src/lib.rt:49:13
 write-parts-requires-3 : tie.Need-write-parts-requires-3
 write-parts-requires-3 c κs = search needs
 
--- src/lib.rt:52:41
 enum-told-4 : tie.Need-enum-told-4
 enum-told-4 c = search needs
 
--- src/lib.rt:52:41
-cast-t40 : tie.Need-cast-t40
-cast-t40 c = search needs
-
--- src/lib.rt:53:32
 slice-aggregate-write-parts-5 : tie.Need-slice-aggregate-write-parts-5
 slice-aggregate-write-parts-5 c = search needs
 
--- src/lib.rt:53:37
 slice-aggregate-write-parts-6 : tie.Need-slice-aggregate-write-parts-6
 slice-aggregate-write-parts-6 c = search needs
 
--- src/lib.rt:53:13
 write-parts-requires-4 : tie.Need-write-parts-requires-4
 write-parts-requires-4 c κs = search needs
 
--- src/lib.rt:38:1
 same-length : tie.Need-same-length
 same-length c = search needs
 
--- src/lib.rt:38:1
 returns : tie.Need-returns
-returns c = c .before .before .write-parts .ensures ∙ (ap (λ w. deliver (accepted (writeShape (shapeFor (c .before .before .before .before .before .before .before .before .before .before .before .before .before .before .args .shape)) ++ ([] ++ w))) (c .before .before .before .before .before .before .before .before .before .before .before .before .before .before .args .result .now)) (rest-is (c .before .before .before .before .before .before .before .before .before .before .before .before .before .before .args .a .now) (c .before .before .before .before .before .before .before .before .before .before .lone-scalar .result)) ∙ ap (λ o. deliver o (c .before .before .before .before .before .before .before .before .before .before .before .before .before .before .args .result .now)) (union-first (shapeFor (c .before .before .before .before .before .before .before .before .before .before .before .before .before .before .args .shape)) _ _ (c .before .before .before .before .before .before .before .before .before .before .before .before .before .before .pre) (λ i. omega (arith, c .before .before .before .before .before .before .before .before .before .before .before .before .before .shared-slice-known .given i)) (λ i. omega (arith, c .before .before .before .before .before .before .before .before .before .before .before .before .shared-slice-known2 .given i)) (c .before .before .before .before .before .before .before .before .before .before .lone-scalar .ensures) (c .before .before .before .before .before .before .before .before .before .lone-scalar2 .ensures) (c .before .before .before .before .before .before .before .before .unite .result) (c .before .before .before .before .before .before .before .before .unite .ensures) (c .before .before .before .before .before .before .enum-told .given .1)))
+returns c =
+    let entry = c .before .before .before .before .before .before .before .before .before .before .before .before .before .before in
+    let at-shared-slice-known = c .before .before .before .before .before .before .before .before .before .before .before .before .before in
+    let at-shared-slice-known2 = c .before .before .before .before .before .before .before .before .before .before .before .before in
+    let at-lone-scalar = c .before .before .before .before .before .before .before .before .before .before in
+    let at-lone-scalar2 = c .before .before .before .before .before .before .before .before .before in
+    let at-unite = c .before .before .before .before .before .before .before .before in
+    let at-enum-told = c .before .before .before .before .before .before in
+    let at-write-parts = c .before .before in
+    let args = entry .args in
+    at-write-parts .write-parts .ensures ∙ (ap (λ w. deliver (accepted (writeShape (shapeFor (args .shape)) ++ ([] ++ w))) (args .result .now)) (rest-is (args .a .now) (at-lone-scalar .lone-scalar .result)) ∙ ap (λ o. deliver o (args .result .now)) (union-first (shapeFor (args .shape)) _ _ (entry .pre) (λ i. omega (arith, at-shared-slice-known .shared-slice-known .given i)) (λ i. omega (arith, at-shared-slice-known2 .shared-slice-known2 .given i)) (at-lone-scalar .lone-scalar .ensures) (at-lone-scalar2 .lone-scalar2 .ensures) (at-unite .unite .result) (at-unite .unite .ensures) (at-enum-told .enum-told .given .1)))
 
--- src/lib.rt:38:1
 same-length-2 : tie.Need-same-length-2
 same-length-2 c = search needs
 
--- src/lib.rt:38:1
 returns-2 : tie.Need-returns-2
-returns-2 c = c .before .before .write-parts2 .ensures ∙ (ap (λ w. deliver (accepted (writeShape (shapeFor (c .before .before .before .before .before .before .before .before .before .before .before .before .before .before .args .shape)) ++ ([] ++ w))) (c .before .before .before .before .before .before .before .before .before .before .before .before .before .before .args .result .now)) (rest-is (c .before .before .before .before .before .before .before .before .before .before .before .before .before .before .args .b .now) (c .before .before .before .before .before .before .before .before .before .lone-scalar2 .result)) ∙ ap (λ o. deliver o (c .before .before .before .before .before .before .before .before .before .before .before .before .before .before .args .result .now)) (union-second (shapeFor (c .before .before .before .before .before .before .before .before .before .before .before .before .before .before .args .shape)) _ _ (c .before .before .before .before .before .before .before .before .before .before .before .before .before .before .pre) (λ i. omega (arith, c .before .before .before .before .before .before .before .before .before .before .before .before .before .shared-slice-known .given i)) (λ i. omega (arith, c .before .before .before .before .before .before .before .before .before .before .before .before .shared-slice-known2 .given i)) (c .before .before .before .before .before .before .before .before .before .before .lone-scalar .ensures) (c .before .before .before .before .before .before .before .before .before .lone-scalar2 .ensures) (c .before .before .before .before .before .before .before .before .unite .result) (c .before .before .before .before .before .before .before .before .unite .ensures) (c .before .before .before .before .before .before .enum-told2 .given .1)))
+returns-2 c =
+    let entry = c .before .before .before .before .before .before .before .before .before .before .before .before .before .before in
+    let at-shared-slice-known = c .before .before .before .before .before .before .before .before .before .before .before .before .before in
+    let at-shared-slice-known2 = c .before .before .before .before .before .before .before .before .before .before .before .before in
+    let at-lone-scalar = c .before .before .before .before .before .before .before .before .before .before in
+    let at-lone-scalar2 = c .before .before .before .before .before .before .before .before .before in
+    let at-unite = c .before .before .before .before .before .before .before .before in
+    let at-enum-told2 = c .before .before .before .before .before .before in
+    let at-write-parts2 = c .before .before in
+    let args = entry .args in
+    at-write-parts2 .write-parts2 .ensures ∙ (ap (λ w. deliver (accepted (writeShape (shapeFor (args .shape)) ++ ([] ++ w))) (args .result .now)) (rest-is (args .b .now) (at-lone-scalar2 .lone-scalar2 .result)) ∙ ap (λ o. deliver o (args .result .now)) (union-second (shapeFor (args .shape)) _ _ (entry .pre) (λ i. omega (arith, at-shared-slice-known .shared-slice-known .given i)) (λ i. omega (arith, at-shared-slice-known2 .shared-slice-known2 .given i)) (at-lone-scalar .lone-scalar .ensures) (at-lone-scalar2 .lone-scalar2 .ensures) (at-unite .unite .result) (at-unite .unite .ensures) (at-enum-told2 .enum-told2 .given .1)))
 
--- src/lib.rt:38:1
 same-length-3 : tie.Need-same-length-3
 same-length-3 c = search needs
 
--- src/lib.rt:38:1
 returns-3 : tie.Need-returns-3
 unfolding writeScalar
-returns-3 c = c .before .before .write-parts3 .ensures ∙ (ap (λ o. deliver o (c .before .before .before .before .before .before .before .before .before .before .before .before .before .before .args .result .now)) (union-box-any (shapeFor (c .before .before .before .before .before .before .before .before .before .before .before .before .before .before .args .shape)) _ _ (c .before .before .before .before .before .before .before .before .before .before .before .before .before .before .pre) (λ i. omega (arith, c .before .before .before .before .before .before .before .before .before .before .before .before .before .shared-slice-known .given i)) (λ i. omega (arith, c .before .before .before .before .before .before .before .before .before .before .before .before .shared-slice-known2 .given i)) (c .before .before .before .before .before .before .before .before .before .before .lone-scalar .ensures) (c .before .before .before .before .before .before .before .before .before .lone-scalar2 .ensures) (c .before .before .before .before .before .before .before .before .unite .result) (c .before .before .before .before .before .before .before .before .unite .ensures) (c .before .before .before .before .before .before .enum-told3 .given .1)))
+returns-3 c =
+    let entry = c .before .before .before .before .before .before .before .before .before .before .before .before .before .before in
+    let at-shared-slice-known = c .before .before .before .before .before .before .before .before .before .before .before .before .before in
+    let at-shared-slice-known2 = c .before .before .before .before .before .before .before .before .before .before .before .before in
+    let at-lone-scalar = c .before .before .before .before .before .before .before .before .before .before in
+    let at-lone-scalar2 = c .before .before .before .before .before .before .before .before .before in
+    let at-unite = c .before .before .before .before .before .before .before .before in
+    let at-enum-told3 = c .before .before .before .before .before .before in
+    let at-write-parts3 = c .before .before in
+    let args = entry .args in
+    at-write-parts3 .write-parts3 .ensures ∙ (ap (λ o. deliver o (args .result .now)) (union-box-any (shapeFor (args .shape)) _ _ (entry .pre) (λ i. omega (arith, at-shared-slice-known .shared-slice-known .given i)) (λ i. omega (arith, at-shared-slice-known2 .shared-slice-known2 .given i)) (at-lone-scalar .lone-scalar .ensures) (at-lone-scalar2 .lone-scalar2 .ensures) (at-unite .unite .result) (at-unite .unite .ensures) (at-enum-told3 .enum-told3 .given .1)))
 
--- src/lib.rt:38:1
 same-length-4 : tie.Need-same-length-4
 same-length-4 c = search needs
 
--- src/lib.rt:38:1
 returns-4 : tie.Need-returns-4
 unfolding writeScalar
-returns-4 c = c .before .before .write-parts4 .ensures ∙ (ap (λ o. deliver o (c .before .before .before .before .before .before .before .before .before .before .before .before .before .before .args .result .now)) (union-any (shapeFor (c .before .before .before .before .before .before .before .before .before .before .before .before .before .before .args .shape)) _ _ (c .before .before .before .before .before .before .before .before .before .before .before .before .before .before .pre) (λ i. omega (arith, c .before .before .before .before .before .before .before .before .before .before .before .before .before .shared-slice-known .given i)) (λ i. omega (arith, c .before .before .before .before .before .before .before .before .before .before .before .before .shared-slice-known2 .given i)) (c .before .before .before .before .before .before .before .before .before .before .lone-scalar .ensures) (c .before .before .before .before .before .before .before .before .before .lone-scalar2 .ensures) (c .before .before .before .before .before .before .before .before .unite .result) (c .before .before .before .before .before .before .before .before .unite .ensures) (c .before .before .before .before .before .before .enum-told4 .given .1)))
+returns-4 c =
+    let entry = c .before .before .before .before .before .before .before .before .before .before .before .before .before .before in
+    let at-shared-slice-known = c .before .before .before .before .before .before .before .before .before .before .before .before .before in
+    let at-shared-slice-known2 = c .before .before .before .before .before .before .before .before .before .before .before .before in
+    let at-lone-scalar = c .before .before .before .before .before .before .before .before .before .before in
+    let at-lone-scalar2 = c .before .before .before .before .before .before .before .before .before in
+    let at-unite = c .before .before .before .before .before .before .before .before in
+    let at-enum-told4 = c .before .before .before .before .before .before in
+    let at-write-parts4 = c .before .before in
+    let args = entry .args in
+    at-write-parts4 .write-parts4 .ensures ∙ (ap (λ o. deliver o (args .result .now)) (union-any (shapeFor (args .shape)) _ _ (entry .pre) (λ i. omega (arith, at-shared-slice-known .shared-slice-known .given i)) (λ i. omega (arith, at-shared-slice-known2 .shared-slice-known2 .given i)) (at-lone-scalar .lone-scalar .ensures) (at-lone-scalar2 .lone-scalar2 .ensures) (at-unite .unite .result) (at-unite .unite .ensures) (at-enum-told4 .enum-told4 .given .1)))
 
 pub write-union-spec : {M : Type 1} → statement M
 write-union-spec =
@@ -179,13 +180,10 @@ write-union-spec =
     part-write-parts-end-2
     write-parts-requires-2
     enum-told-3
-    cast-t32
-    cast-t33
     slice-aggregate-write-parts-3
     slice-aggregate-write-parts-4
     write-parts-requires-3
     enum-told-4
-    cast-t40
     slice-aggregate-write-parts-5
     slice-aggregate-write-parts-6
     write-parts-requires-4

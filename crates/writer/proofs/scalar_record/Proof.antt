@@ -1,6 +1,6 @@
 use mathlib.Core.Path.{sym, ap, _∙_}
 use Rattle.format.specs.Outcome.{accepted, lone, deliver, scalarRecord}
-use Rattle.lent.specs.Delivers.{deliver-refused}
+use Rattle.lent.specs.Delivers.{deliver-handed}
 use Rattle.record.specs.Answers.{loneOf}
 use Rattle.record.proofs.LoneLaws.{passed-refused, mapped-refused}
 use Rattle.format.specs.Views.{rest-is}
@@ -9,24 +9,30 @@ use Rattle.writer.proofs.scalar_record.Statement.{statement}
 use Rattle.writer.proofs.scalar_record.Tie as tie
 use Rattle.writer.proofs.scalar_record.Reads as reads
 use Rattle.writer.proofs.scalar_record.Lts as lts
-use Rattle.lent.proofs.hand_over.Reads as hand-over-reads
-use Rattle.record.proofs.lone_scalar.Reads as lone-scalar-reads
-use Rattle.record.proofs.read_lone.Reads as read-lone-reads
 
 read-lone-requires : tie.Need-read-lone-requires
 read-lone-requires c κs = search needs
 
-enum-known-answer : tie.Need-enum-known-answer
-enum-known-answer c = search needs
-
-returns : tie.Need-returns
-returns c = sym (deliver-refused _ (mapped-refused scalarRecord (passed-refused (lone (c .before .before .before .before .before .before .args .ty .now)) (sym (c .before .before .before .read-lone .ensures) ∙ ap loneOf (c .before .answer .given .1)))))
-
 enum-told : tie.Need-enum-told
 enum-told c = search needs
 
+enum-told-2 : tie.Need-enum-told-2
+enum-told-2 c = search needs
+
+as-written-requires : tie.Need-as-written-requires
+as-written-requires c κs = search needs
+
+returns : tie.Need-returns
+returns c =
+    let entry = c .before .before .before .before .before .before in
+    let at-read-lone = c .before .before .before in
+    let told = ap loneOf (c .before .enum-told2 .given .1) in
+    deliver-handed _ (c .as-written .result) (c .as-written .ensures ∙ told) (mapped-refused scalarRecord (passed-refused (lone (entry .args .ty .now)) (sym (at-read-lone .read-lone .ensures) ∙ told)))
+
 lone-scalar-requires : tie.Need-lone-scalar-requires
-lone-scalar-requires c κs = (sym (c .before .before .read-lone .ensures) ∙ ap loneOf (c .enum-told .given .1))
+lone-scalar-requires c κs =
+    let at-read-lone = c .before .before in
+    (sym (at-read-lone .read-lone .ensures) ∙ ap loneOf (c .enum-told .given .1))
 
 sub-hand-over : tie.Need-sub-hand-over
 sub-hand-over c = search needs
@@ -44,16 +50,22 @@ same-length : tie.Need-same-length
 same-length c = search needs
 
 returns-2 : tie.Need-returns-2
-returns-2 c = c .before .before .hand-over .ensures ∙ (ap (λ w. deliver (accepted w) (c .before .before .before .before .before .before .before .before .before .before .before .args .result .now)) (rest-is (c .before .before .before .before .before .before .before .before .before .before .before .args .ty .now) (c .before .before .before .before .before .lone-scalar .result)) ∙ ap (λ o. deliver o (c .before .before .before .before .before .before .before .before .before .before .before .args .result .now)) (sym (c .before .before .before .before .before .lone-scalar .ensures .0)))
+returns-2 c =
+    let entry = c .before .before .before .before .before .before .before .before .before .before .before in
+    let at-lone-scalar = c .before .before .before .before .before in
+    let at-hand-over = c .before .before in
+    let args = entry .args in
+    at-hand-over .hand-over .ensures ∙ (ap (λ w. deliver (accepted w) (args .result .now)) (rest-is (args .ty .now) (at-lone-scalar .lone-scalar .result)) ∙ ap (λ o. deliver o (args .result .now)) (sym (at-lone-scalar .lone-scalar .ensures .0)))
 
 pub scalar-record-spec : {M : Type 1} → statement M
 scalar-record-spec =
     tie.close
     (tie.spec
     read-lone-requires
-    enum-known-answer
-    returns
     enum-told
+    enum-told-2
+    as-written-requires
+    returns
     lone-scalar-requires
     sub-hand-over
     part-hand-over-start

@@ -1,6 +1,6 @@
 use mathlib.Core.Path.{sym, ap, _∙_}
 use Rattle.format.specs.Outcome.{lone, deliver, shapeRecord}
-use Rattle.lent.specs.Delivers.{deliver-refused}
+use Rattle.lent.specs.Delivers.{deliver-handed}
 use Rattle.record.specs.Answers.{loneOf}
 use Rattle.record.proofs.LoneLaws.{passed-refused, mapped-refused}
 use Rattle.writer.proofs.Records.{shape-record-is}
@@ -9,24 +9,30 @@ use Rattle.writer.proofs.shape_record.Statement.{statement}
 use Rattle.writer.proofs.shape_record.Tie as tie
 use Rattle.writer.proofs.shape_record.Reads as reads
 use Rattle.writer.proofs.shape_record.Lts as lts
-use Rattle.record.proofs.lone_shape.Reads as lone-shape-reads
-use Rattle.record.proofs.read_lone.Reads as read-lone-reads
-use Rattle.writer.proofs.write_shape.Reads as write-shape-reads
 
 read-lone-requires : tie.Need-read-lone-requires
 read-lone-requires c κs = search needs
 
-enum-known-answer : tie.Need-enum-known-answer
-enum-known-answer c = search needs
-
-returns : tie.Need-returns
-returns c = sym (deliver-refused _ (mapped-refused shapeRecord (passed-refused (lone (c .before .before .before .before .before .before .args .ty .now)) (sym (c .before .before .before .read-lone .ensures) ∙ ap loneOf (c .before .answer .given .1)))))
-
 enum-told : tie.Need-enum-told
 enum-told c = search needs
 
+enum-told-2 : tie.Need-enum-told-2
+enum-told-2 c = search needs
+
+as-written-requires : tie.Need-as-written-requires
+as-written-requires c κs = search needs
+
+returns : tie.Need-returns
+returns c =
+    let entry = c .before .before .before .before .before .before in
+    let at-read-lone = c .before .before .before in
+    let told = ap loneOf (c .before .enum-told2 .given .1) in
+    deliver-handed _ (c .as-written .result) (c .as-written .ensures ∙ told) (mapped-refused shapeRecord (passed-refused (lone (entry .args .ty .now)) (sym (at-read-lone .read-lone .ensures) ∙ told)))
+
 lone-shape-requires : tie.Need-lone-shape-requires
-lone-shape-requires c κs = (sym (c .before .before .read-lone .ensures) ∙ ap loneOf (c .enum-told .given .1))
+lone-shape-requires c κs =
+    let at-read-lone = c .before .before in
+    (sym (at-read-lone .read-lone .ensures) ∙ ap loneOf (c .enum-told .given .1))
 
 write-shape-requires : tie.Need-write-shape-requires
 write-shape-requires c κs = search needs
@@ -35,16 +41,22 @@ same-length : tie.Need-same-length
 same-length c = search needs
 
 returns-2 : tie.Need-returns-2
-returns-2 c = c .before .before .write-shape .ensures ∙ ap (λ o. deliver o (c .before .before .before .before .before .before .before .before .before .before .args .result .now)) (sym (shape-record-is (lone (c .before .before .before .before .before .before .before .before .before .before .args .ty .now)) (c .before .before .before .before .lone-shape .ensures)))
+returns-2 c =
+    let entry = c .before .before .before .before .before .before .before .before .before .before in
+    let at-lone-shape = c .before .before .before .before in
+    let at-write-shape = c .before .before in
+    let args = entry .args in
+    at-write-shape .write-shape .ensures ∙ ap (λ o. deliver o (args .result .now)) (sym (shape-record-is (lone (args .ty .now)) (at-lone-shape .lone-shape .ensures)))
 
 pub shape-record-spec : {M : Type 1} → statement M
 shape-record-spec =
     tie.close
     (tie.spec
     read-lone-requires
-    enum-known-answer
-    returns
     enum-told
+    enum-told-2
+    as-written-requires
+    returns
     lone-shape-requires
     write-shape-requires
     same-length

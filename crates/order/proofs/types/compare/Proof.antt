@@ -1,6 +1,7 @@
 use mathlib.Core.Path.{sym, ap, _∙_}
 use native.Mathlib.Omega.{arith}
-use Rattle.format.specs.Outcome.{accepted, lone}
+use Rattle.rules.specs.Sizes.{same}
+use Rattle.format.specs.Outcome.{accepted, lone, mapped}
 use Rattle.rules.specs.Order.{compare}
 use Rattle.record.specs.Answers.{loneOf}
 use Rattle.record.proofs.LoneLaws.{both-refused}
@@ -11,26 +12,33 @@ use Rattle.order.proofs.types.compare.Statement.{statement}
 use Rattle.order.proofs.types.compare.Tie as tie
 use Rattle.order.proofs.types.compare.Reads as reads
 use Rattle.order.proofs.types.compare.Lts as lts
-use Rattle.order.proofs.types.compare_types.Reads as compare-types-reads
-use Rattle.record.proofs.read_both.Reads as read-both-reads
 
 read-both-requires : tie.Need-read-both-requires
 read-both-requires c κs = search needs
 
-enum-known-read : tie.Need-enum-known-read
-enum-known-read c = search needs
-
-returns : tie.Need-returns
-returns c = sym (both-refused (lone (c .before .before .before .before .before .before .args .a .now)) (lone (c .before .before .before .before .before .before .args .b .now)) (λ t u. accepted (compare t u)) (sym (c .before .before .before .read-both .ensures) ∙ ap loneOf (c .before .read .given .1)))
-
 enum-told : tie.Need-enum-told
 enum-told c = search needs
 
-compare-types-requires : tie.Need-compare-types-requires
-compare-types-requires c κs = has-types _ _ (sym (c .before .before .read-both .ensures) ∙ ap loneOf (c .enum-told .given .1)) (λ i. omega (arith, c .before .before .before .before .shared-slice-known .given i)) (λ i. omega (arith, c .before .before .before .shared-slice-known2 .given i))
-
 enum-told-2 : tie.Need-enum-told-2
 enum-told-2 c = search needs
+
+as-comparison-requires : tie.Need-as-comparison-requires
+as-comparison-requires c κs = search needs
+
+returns : tie.Need-returns
+returns c =
+    let entry = c .before .before .before .before .before .before in
+    let at-read-both = c .before .before .before in
+    let args = entry .args in
+    let told = ap loneOf (c .before .enum-told2 .given .1) in
+    c .as-comparison .ensures ∙ (ap (mapped (λ _. same)) told ∙ sym (both-refused (lone (args .a .now)) (lone (args .b .now)) (λ t u. accepted (compare t u)) (sym (at-read-both .read-both .ensures) ∙ told)))
+
+compare-types-requires : tie.Need-compare-types-requires
+compare-types-requires c κs =
+    let at-shared-slice-known = c .before .before .before .before in
+    let at-shared-slice-known2 = c .before .before .before in
+    let at-read-both = c .before .before in
+    has-types _ _ (sym (at-read-both .read-both .ensures) ∙ ap loneOf (c .enum-told .given .1)) (λ i. omega (arith, at-shared-slice-known .shared-slice-known .given i)) (λ i. omega (arith, at-shared-slice-known2 .shared-slice-known2 .given i))
 
 enum-told-3 : tie.Need-enum-told-3
 enum-told-3 c = search needs
@@ -38,27 +46,49 @@ enum-told-3 c = search needs
 enum-told-4 : tie.Need-enum-told-4
 enum-told-4 c = search needs
 
+enum-told-5 : tie.Need-enum-told-5
+enum-told-5 c = search needs
+
 returns-2 : tie.Need-returns-2
-returns-2 c = whole-less _ _ (sym (c .before .before .before .before .before .read-both .ensures) ∙ ap loneOf (c .before .before .before .enum-told .given .1)) (λ i. omega (arith, c .before .before .before .before .before .before .before .shared-slice-known .given i)) (λ i. omega (arith, c .before .before .before .before .before .before .shared-slice-known2 .given i)) (c .before .before .compare-types .ensures) (c .enum-told2 .given .1)
+returns-2 c =
+    let at-shared-slice-known = c .before .before .before .before .before .before .before in
+    let at-shared-slice-known2 = c .before .before .before .before .before .before in
+    let at-read-both = c .before .before .before .before .before in
+    let at-enum-told = c .before .before .before in
+    let at-compare-types = c .before .before in
+    whole-less _ _ (sym (at-read-both .read-both .ensures) ∙ ap loneOf (at-enum-told .enum-told .given .1)) (λ i. omega (arith, at-shared-slice-known .shared-slice-known .given i)) (λ i. omega (arith, at-shared-slice-known2 .shared-slice-known2 .given i)) (at-compare-types .compare-types .ensures) (c .enum-told3 .given .1)
 
 returns-3 : tie.Need-returns-3
-returns-3 c = whole-same _ _ (sym (c .before .before .before .before .before .read-both .ensures) ∙ ap loneOf (c .before .before .before .enum-told .given .1)) (λ i. omega (arith, c .before .before .before .before .before .before .before .shared-slice-known .given i)) (λ i. omega (arith, c .before .before .before .before .before .before .shared-slice-known2 .given i)) (c .before .before .compare-types .ensures) (c .enum-told3 .given .1)
+returns-3 c =
+    let at-shared-slice-known = c .before .before .before .before .before .before .before in
+    let at-shared-slice-known2 = c .before .before .before .before .before .before in
+    let at-read-both = c .before .before .before .before .before in
+    let at-enum-told = c .before .before .before in
+    let at-compare-types = c .before .before in
+    whole-same _ _ (sym (at-read-both .read-both .ensures) ∙ ap loneOf (at-enum-told .enum-told .given .1)) (λ i. omega (arith, at-shared-slice-known .shared-slice-known .given i)) (λ i. omega (arith, at-shared-slice-known2 .shared-slice-known2 .given i)) (at-compare-types .compare-types .ensures) (c .enum-told4 .given .1)
 
 returns-4 : tie.Need-returns-4
-returns-4 c = whole-more _ _ (sym (c .before .before .before .before .before .read-both .ensures) ∙ ap loneOf (c .before .before .before .enum-told .given .1)) (λ i. omega (arith, c .before .before .before .before .before .before .before .shared-slice-known .given i)) (λ i. omega (arith, c .before .before .before .before .before .before .shared-slice-known2 .given i)) (c .before .before .compare-types .ensures) (c .enum-told4 .given .1)
+returns-4 c =
+    let at-shared-slice-known = c .before .before .before .before .before .before .before in
+    let at-shared-slice-known2 = c .before .before .before .before .before .before in
+    let at-read-both = c .before .before .before .before .before in
+    let at-enum-told = c .before .before .before in
+    let at-compare-types = c .before .before in
+    whole-more _ _ (sym (at-read-both .read-both .ensures) ∙ ap loneOf (at-enum-told .enum-told .given .1)) (λ i. omega (arith, at-shared-slice-known .shared-slice-known .given i)) (λ i. omega (arith, at-shared-slice-known2 .shared-slice-known2 .given i)) (at-compare-types .compare-types .ensures) (c .enum-told5 .given .1)
 
 pub compare-spec : {M : Type 1} → statement M
 compare-spec =
     tie.close
     (tie.spec
     read-both-requires
-    enum-known-read
-    returns
     enum-told
-    compare-types-requires
     enum-told-2
+    as-comparison-requires
+    returns
+    compare-types-requires
     enum-told-3
     enum-told-4
+    enum-told-5
     returns-2
     returns-3
     returns-4)

@@ -6,7 +6,6 @@ use Rattle.record.proofs.bytes.read_mark.Statement.{statement}
 use Rattle.record.proofs.bytes.read_mark.Tie as tie
 use Rattle.record.proofs.bytes.read_mark.Reads as reads
 use Rattle.record.proofs.bytes.read_mark.Lts as lts
-use Rattle.record.proofs.bytes.read_byte.Reads as read-byte-reads
 
 read-byte-requires : tie.Need-read-byte-requires
 read-byte-requires c κs = search needs
@@ -18,7 +17,9 @@ enum-told : tie.Need-enum-told
 enum-told c = search needs
 
 returns : tie.Need-returns
-returns c = c .before .before .read-byte .ensures ∙ ((told (c .before .before .read-byte .ensures) (c .enum-told .given .1)) ∙ sym (mark-first _ _ _ _ _ (told (c .before .before .read-byte .ensures) (c .enum-told .given .1))))
+returns c =
+    let at-read-byte = c .before .before in
+    at-read-byte .read-byte .ensures ∙ ((told (at-read-byte .read-byte .ensures) (c .enum-told .given .1)) ∙ sym (mark-first _ _ _ _ _ (told (at-read-byte .read-byte .ensures) (c .enum-told .given .1))))
 
 read-byte-requires-2 : tie.Need-read-byte-requires-2
 read-byte-requires-2 c κs = search needs
@@ -30,16 +31,45 @@ enum-told-2 : tie.Need-enum-told-2
 enum-told-2 c = search needs
 
 returns-2 : tie.Need-returns-2
-returns-2 c = c .before .before .read-byte2 .ensures ∙ ((told (c .before .before .read-byte2 .ensures) (c .enum-told2 .given .1)) ∙ sym (mark-second _ _ _ _ _ (known (c .before .before .before .before .before .before .read-byte .ensures) (c .before .before .before .before .a .given .1)) (told (c .before .before .read-byte2 .ensures) (c .enum-told2 .given .1))))
+returns-2 c =
+    let at-read-byte = c .before .before .before .before .before .before in
+    let at-a = c .before .before .before .before in
+    let at-read-byte2 = c .before .before in
+    at-read-byte2 .read-byte2 .ensures ∙ ((told (at-read-byte2 .read-byte2 .ensures) (c .enum-told2 .given .1)) ∙ sym (mark-second _ _ _ _ _ (known (at-read-byte .read-byte .ensures) (at-a .a .given .1)) (told (at-read-byte2 .read-byte2 .ensures) (c .enum-told2 .given .1))))
+
+wide-requires : tie.Need-wide-requires
+wide-requires c κs = search needs
+
+wide-requires-2 : tie.Need-wide-requires-2
+wide-requires-2 c κs = search needs
 
 returns-3 : tie.Need-returns-3
-returns-3 c = sym (mark-is _ _ _ _ _ (known (c .before .before .before .before .before .before .before .before .before .read-byte .ensures) (c .before .before .before .before .before .before .before .a .given .1)) (known (c .before .before .before .before .before .read-byte2 .ensures) (c .before .before .before .b .given .1)) (c .before .if1 .taken) (c .if2 .taken))
+returns-3 c =
+    let at-read-byte = c .before .before .before .before .before .before .before .before .before .before .before in
+    let at-a = c .before .before .before .before .before .before .before .before .before in
+    let at-read-byte2 = c .before .before .before .before .before .before .before in
+    let at-b = c .before .before .before .before .before in
+    let at-wide = c .before .before .before in
+    let at-if1 = c .before .before in
+    sym (mark-is _ _ _ _ _ (known (at-read-byte .read-byte .ensures) (at-a .a .given .1)) (known (at-read-byte2 .read-byte2 .ensures) (at-b .b .given .1)) (at-if1 .if1 .taken ∙ at-wide .wide .ensures .0) (c .if2 .taken ∙ c .before .wide2 .ensures .0))
 
 returns-4 : tie.Need-returns-4
-returns-4 c = sym (mark-not-second _ _ _ _ _ (known (c .before .before .before .before .before .before .before .before .before .read-byte .ensures) (c .before .before .before .before .before .before .before .a .given .1)) (known (c .before .before .before .before .before .read-byte2 .ensures) (c .before .before .before .b .given .1)) (c .before .if1 .taken) (c .if2 .left))
+returns-4 c =
+    let at-read-byte = c .before .before .before .before .before .before .before .before .before .before .before in
+    let at-a = c .before .before .before .before .before .before .before .before .before in
+    let at-read-byte2 = c .before .before .before .before .before .before .before in
+    let at-b = c .before .before .before .before .before in
+    let at-wide = c .before .before .before in
+    let at-if1 = c .before .before in
+    sym (mark-not-second _ _ _ _ _ (known (at-read-byte .read-byte .ensures) (at-a .a .given .1)) (known (at-read-byte2 .read-byte2 .ensures) (at-b .b .given .1)) (at-if1 .if1 .taken ∙ at-wide .wide .ensures .0) (λ e. c .if2 .left (e ∙ sym (c .before .wide2 .ensures .0))))
 
 returns-5 : tie.Need-returns-5
-returns-5 c = sym (mark-not-first _ _ _ _ _ (known (c .before .before .before .before .before .before .before .before .read-byte .ensures) (c .before .before .before .before .before .before .a .given .1)) (known (c .before .before .before .before .read-byte2 .ensures) (c .before .before .b .given .1)) (c .if1 .left))
+returns-5 c =
+    let at-read-byte = c .before .before .before .before .before .before .before .before .before in
+    let at-a = c .before .before .before .before .before .before .before in
+    let at-read-byte2 = c .before .before .before .before .before in
+    let at-b = c .before .before .before in
+    sym (mark-not-first _ _ _ _ _ (known (at-read-byte .read-byte .ensures) (at-a .a .given .1)) (known (at-read-byte2 .read-byte2 .ensures) (at-b .b .given .1)) (λ e. c .if1 .left (e ∙ sym (c .before .wide .ensures .0))))
 
 pub read-mark-spec : {M : Type 1} → statement M
 read-mark-spec =
@@ -53,6 +83,8 @@ read-mark-spec =
     enum-known-b
     enum-told-2
     returns-2
+    wide-requires
+    wide-requires-2
     returns-3
     returns-4
     returns-5)

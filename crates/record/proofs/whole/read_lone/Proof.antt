@@ -1,4 +1,5 @@
-use mathlib.Core.Path.{sym}
+use Rattle.record.specs.Answers.{answerOf, passed}
+use mathlib.Core.Path.{sym, ap, _∙_}
 use Rattle.record.proofs.Known.{known, told}
 use Rattle.record.proofs.LoneLaws.{lone-trailing, lone-whole, lone-stopped}
 use borrow.Author.Needs.{needs}
@@ -6,7 +7,6 @@ use Rattle.record.proofs.whole.read_lone.Statement.{statement}
 use Rattle.record.proofs.whole.read_lone.Tie as tie
 use Rattle.record.proofs.whole.read_lone.Reads as reads
 use Rattle.record.proofs.whole.read_lone.Lts as lts
-use Rattle.record.proofs.types.read_type.Reads as read-type-reads
 
 read-type-requires : tie.Need-read-type-requires
 read-type-requires c κs = search needs
@@ -14,19 +14,37 @@ read-type-requires c κs = search needs
 enum-known-answer : tie.Need-enum-known-answer
 enum-known-answer c = search needs
 
-returns : tie.Need-returns
-returns c = sym (lone-trailing _ _ (known (c .before .before .before .before .read-type .ensures) (c .before .before .answer .given .1)) (c .if1 .taken))
+enum-told : tie.Need-enum-told
+enum-told c = search needs
 
-enum-known-answer-2 : tie.Need-enum-known-answer-2
-enum-known-answer-2 c = search needs
+as-lone-requires : tie.Need-as-lone-requires
+as-lone-requires c κs = search needs
+
+returns : tie.Need-returns
+returns c =
+    let at-read-type = c .before .before .before in
+    c .as-lone .ensures ∙ ap (λ a. passed (answerOf a)) (c .before .enum-told .given .1) ∙ sym (lone-stopped _ _ (told (at-read-type .read-type .ensures) (c .before .enum-told .given .1)))
 
 returns-2 : tie.Need-returns-2
-returns-2 c = sym (lone-whole _ _ (known (c .before .before .before .before .read-type .ensures) (c .before .before .answer .given .1)) (c .if1 .left))
+returns-2 c =
+    let at-read-type = c .before .before .before .before in
+    let at-answer = c .before .before in
+    sym (lone-trailing _ _ (known (at-read-type .read-type .ensures) (at-answer .answer .given .1)) (c .if1 .taken))
 
 returns-3 : tie.Need-returns-3
-returns-3 c = sym (lone-stopped _ _ (told (c .before .before .before .read-type .ensures) (c .before .answer2 .given .1)))
+returns-3 c =
+    let at-read-type = c .before .before .before .before in
+    let at-answer = c .before .before in
+    sym (lone-whole _ _ (known (at-read-type .read-type .ensures) (at-answer .answer .given .1)) (c .if1 .left))
 
 pub read-lone-spec : {M : Type 1} → statement M
 read-lone-spec =
     tie.close
-    (tie.spec read-type-requires enum-known-answer returns enum-known-answer-2 returns-2 returns-3)
+    (tie.spec
+    read-type-requires
+    enum-known-answer
+    enum-told
+    as-lone-requires
+    returns
+    returns-2
+    returns-3)

@@ -5,12 +5,6 @@ use Rattle.scalar.proofs.refinement.unrefine_kind.Tie as tie
 use Rattle.scalar.proofs.refinement.unrefine_kind.Reads as reads
 use Rattle.scalar.proofs.refinement.unrefine_kind.Lts as lts
 
-cast-if1 : tie.Need-cast-if1
-cast-if1 c = search needs
-
-cast-result : tie.Need-cast-result
-cast-result c = search needs
-
 returns : tie.Need-returns
 returns c = kind-number (c .if1 .taken)
 
@@ -21,4 +15,4 @@ returns-3 : tie.Need-returns-3
 returns-3 c = kind-stays (c .before .if1 .left) (c .if2 .left)
 
 pub unrefine-kind-spec : {M : Type 1} → statement M
-unrefine-kind-spec = tie.close (tie.spec cast-if1 cast-result returns returns-2 returns-3)
+unrefine-kind-spec = tie.close (tie.spec returns returns-2 returns-3)

@@ -4,10 +4,6 @@ use Rattle.scalar.proofs.unions.hand_any.Statement.{statement}
 use Rattle.scalar.proofs.unions.hand_any.Tie as tie
 use Rattle.scalar.proofs.unions.hand_any.Reads as reads
 use Rattle.scalar.proofs.unions.hand_any.Lts as lts
-use Rattle.lent.proofs.hand_over.Reads as hand-over-reads
-
-cast-t3 : tie.Need-cast-t3
-cast-t3 c = search needs
 
 slice-aggregate-hand-over : tie.Need-slice-aggregate-hand-over
 slice-aggregate-hand-over c = search needs
@@ -20,8 +16,10 @@ same-length c = search needs
 
 returns : tie.Need-returns
 unfolding writeScalar code
-returns c = c .before .before .hand-over .ensures
+returns c =
+    let at-hand-over = c .before .before in
+    at-hand-over .hand-over .ensures
 
 pub hand-any-spec : {M : Type 1} → statement M
 hand-any-spec =
-    tie.close (tie.spec cast-t3 slice-aggregate-hand-over hand-over-requires same-length returns)
+    tie.close (tie.spec slice-aggregate-hand-over hand-over-requires same-length returns)

@@ -4,13 +4,6 @@ use Rattle.scalar.proofs.unions.hand_box_any.Statement.{statement}
 use Rattle.scalar.proofs.unions.hand_box_any.Tie as tie
 use Rattle.scalar.proofs.unions.hand_box_any.Reads as reads
 use Rattle.scalar.proofs.unions.hand_box_any.Lts as lts
-use Rattle.lent.proofs.hand_over.Reads as hand-over-reads
-
-cast-t3 : tie.Need-cast-t3
-cast-t3 c = search needs
-
-cast-t4 : tie.Need-cast-t4
-cast-t4 c = search needs
 
 slice-aggregate-hand-over : tie.Need-slice-aggregate-hand-over
 slice-aggregate-hand-over c = search needs
@@ -23,9 +16,10 @@ same-length c = search needs
 
 returns : tie.Need-returns
 unfolding writeScalar code
-returns c = c .before .before .hand-over .ensures
+returns c =
+    let at-hand-over = c .before .before in
+    at-hand-over .hand-over .ensures
 
 pub hand-box-any-spec : {M : Type 1} → statement M
 hand-box-any-spec =
-    tie.close
-    (tie.spec cast-t3 cast-t4 slice-aggregate-hand-over hand-over-requires same-length returns)
+    tie.close (tie.spec slice-aggregate-hand-over hand-over-requires same-length returns)

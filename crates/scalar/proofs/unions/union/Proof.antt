@@ -3,7 +3,7 @@ use native.Mathlib.Omega.{arith}
 use Rattle.model.specs.Types.{scalarOf}
 use Rattle.format.specs.Records.{writeScalar}
 use Rattle.format.specs.Outcome.{accepted, lone, deliver}
-use Rattle.lent.specs.Delivers.{deliver-refused}
+use Rattle.lent.specs.Delivers.{deliver-handed}
 use Rattle.rules.specs.Scalars.{union}
 use Rattle.record.specs.Answers.{loneOf}
 use Rattle.record.proofs.LoneLaws.{both-refused}
@@ -15,39 +15,50 @@ use Rattle.scalar.proofs.unions.union.Statement.{statement}
 use Rattle.scalar.proofs.unions.union.Tie as tie
 use Rattle.scalar.proofs.unions.union.Reads as reads
 use Rattle.scalar.proofs.unions.union.Lts as lts
-use Rattle.lent.proofs.hand_over.Reads as hand-over-reads
-use Rattle.record.proofs.lone_scalar.Reads as lone-scalar-reads
-use Rattle.record.proofs.read_both.Reads as read-both-reads
-use Rattle.scalar.proofs.unions.hand_any.Reads as hand-any-reads
-use Rattle.scalar.proofs.unions.hand_box_any.Reads as hand-box-any-reads
-use Rattle.scalar.proofs.unions.unite.Reads as unite-reads
 
 read-both-requires : tie.Need-read-both-requires
 read-both-requires c κs = search needs
 
-enum-known-read : tie.Need-enum-known-read
-enum-known-read c = search needs
-
-returns : tie.Need-returns
-returns c = sym (deliver-refused _ (both-refused (lone (c .before .before .before .before .before .before .before .args .a .now)) (lone (c .before .before .before .before .before .before .before .args .b .now)) (λ t u. accepted (writeScalar (union (scalarOf t) (scalarOf u)))) (sym (c .before .before .before .read-both .ensures) ∙ ap loneOf (c .before .read .given .1))))
-
 enum-told : tie.Need-enum-told
 enum-told c = search needs
 
+enum-told-2 : tie.Need-enum-told-2
+enum-told-2 c = search needs
+
+as-written-requires : tie.Need-as-written-requires
+as-written-requires c κs = search needs
+
+returns : tie.Need-returns
+returns c =
+    let entry = c .before .before .before .before .before .before .before in
+    let at-read-both = c .before .before .before in
+    let args = entry .args in
+    let told = ap loneOf (c .before .enum-told2 .given .1) in
+    deliver-handed _ (c .as-written .result) (c .as-written .ensures ∙ told) (both-refused (lone (args .a .now)) (lone (args .b .now)) (λ t u. accepted (writeScalar (union (scalarOf t) (scalarOf u)))) (sym (at-read-both .read-both .ensures) ∙ told))
+
 lone-scalar-requires : tie.Need-lone-scalar-requires
-lone-scalar-requires c κs = first-good _ _ (sym (c .before .before .read-both .ensures) ∙ ap loneOf (c .enum-told .given .1))
+lone-scalar-requires c κs =
+    let at-read-both = c .before .before in
+    first-good _ _ (sym (at-read-both .read-both .ensures) ∙ ap loneOf (c .enum-told .given .1))
 
 lone-scalar-requires-2 : tie.Need-lone-scalar-requires-2
-lone-scalar-requires-2 c κs = second-good _ _ (sym (c .before .before .before .read-both .ensures) ∙ ap loneOf (c .before .enum-told .given .1))
+lone-scalar-requires-2 c κs =
+    let at-read-both = c .before .before .before in
+    second-good _ _ (sym (at-read-both .read-both .ensures) ∙ ap loneOf (c .before .enum-told .given .1))
 
 sub-unite : tie.Need-sub-unite
 sub-unite c = search needs
 
 unite-requires : tie.Need-unite-requires
-unite-requires c κs = has-scalars _ _ (sym (c .before .before .before .before .read-both .ensures) ∙ ap loneOf (c .before .before .enum-told .given .1)) (λ i. omega (arith, c .before .before .before .before .before .before .before .shared-slice-known .given i)) (λ i. omega (arith, c .before .before .before .before .before .before .shared-slice-known2 .given i)) (c .before .lone-scalar .ensures) (c .lone-scalar2 .ensures)
+unite-requires c κs =
+    let at-shared-slice-known = c .before .before .before .before .before .before .before in
+    let at-shared-slice-known2 = c .before .before .before .before .before .before in
+    let at-read-both = c .before .before .before .before in
+    let at-enum-told = c .before .before in
+    has-scalars _ _ (sym (at-read-both .read-both .ensures) ∙ ap loneOf (at-enum-told .enum-told .given .1)) (λ i. omega (arith, at-shared-slice-known .shared-slice-known .given i)) (λ i. omega (arith, at-shared-slice-known2 .shared-slice-known2 .given i)) (c .before .lone-scalar .ensures) (c .lone-scalar2 .ensures)
 
-enum-told-2 : tie.Need-enum-told-2
-enum-told-2 c = search needs
+enum-told-3 : tie.Need-enum-told-3
+enum-told-3 c = search needs
 
 sub-hand-over : tie.Need-sub-hand-over
 sub-hand-over c = search needs
@@ -61,8 +72,8 @@ part-hand-over-end c = search needs
 hand-over-requires : tie.Need-hand-over-requires
 hand-over-requires c κs = search needs
 
-enum-told-3 : tie.Need-enum-told-3
-enum-told-3 c = search needs
+enum-told-4 : tie.Need-enum-told-4
+enum-told-4 c = search needs
 
 sub-hand-over-2 : tie.Need-sub-hand-over-2
 sub-hand-over-2 c = search needs
@@ -76,14 +87,14 @@ part-hand-over-end-2 c = search needs
 hand-over-requires-2 : tie.Need-hand-over-requires-2
 hand-over-requires-2 c κs = search needs
 
-enum-told-4 : tie.Need-enum-told-4
-enum-told-4 c = search needs
+enum-told-5 : tie.Need-enum-told-5
+enum-told-5 c = search needs
 
 hand-box-any-requires : tie.Need-hand-box-any-requires
 hand-box-any-requires c κs = search needs
 
-enum-told-5 : tie.Need-enum-told-5
-enum-told-5 c = search needs
+enum-told-6 : tie.Need-enum-told-6
+enum-told-6 c = search needs
 
 hand-any-requires : tie.Need-hand-any-requires
 hand-any-requires c κs = search needs
@@ -92,51 +103,98 @@ same-length : tie.Need-same-length
 same-length c = search needs
 
 returns-2 : tie.Need-returns-2
-returns-2 c = c .before .before .hand-over .ensures ∙ (ap (λ w. deliver (accepted w) (c .before .before .before .before .before .before .before .before .before .before .before .before .before .before .before .before .args .result .now)) (rest-is (c .before .before .before .before .before .before .before .before .before .before .before .before .before .before .before .before .args .a .now) (c .before .before .before .before .before .before .before .before .before .lone-scalar .result)) ∙ ap (λ o. deliver o (c .before .before .before .before .before .before .before .before .before .before .before .before .before .before .before .before .args .result .now)) (union-first _ _ (sym (c .before .before .before .before .before .before .before .before .before .before .before .before .read-both .ensures) ∙ ap loneOf (c .before .before .before .before .before .before .before .before .before .before .enum-told .given .1)) (λ i. omega (arith, c .before .before .before .before .before .before .before .before .before .before .before .before .before .before .before .shared-slice-known .given i)) (λ i. omega (arith, c .before .before .before .before .before .before .before .before .before .before .before .before .before .before .shared-slice-known2 .given i)) (c .before .before .before .before .before .before .before .before .before .lone-scalar .ensures) (c .before .before .before .before .before .before .before .before .lone-scalar2 .ensures) (c .before .before .before .before .before .before .before .unite .result) (c .before .before .before .before .before .before .before .unite .ensures) (c .before .before .before .before .before .enum-told2 .given .1)))
+returns-2 c =
+    let entry = c .before .before .before .before .before .before .before .before .before .before .before .before .before .before .before .before in
+    let at-shared-slice-known = c .before .before .before .before .before .before .before .before .before .before .before .before .before .before .before in
+    let at-shared-slice-known2 = c .before .before .before .before .before .before .before .before .before .before .before .before .before .before in
+    let at-read-both = c .before .before .before .before .before .before .before .before .before .before .before .before in
+    let at-enum-told = c .before .before .before .before .before .before .before .before .before .before in
+    let at-lone-scalar = c .before .before .before .before .before .before .before .before .before in
+    let at-lone-scalar2 = c .before .before .before .before .before .before .before .before in
+    let at-unite = c .before .before .before .before .before .before .before in
+    let at-enum-told3 = c .before .before .before .before .before in
+    let at-hand-over = c .before .before in
+    let args = entry .args in
+    at-hand-over .hand-over .ensures ∙ (ap (λ w. deliver (accepted w) (args .result .now)) (rest-is (args .a .now) (at-lone-scalar .lone-scalar .result)) ∙ ap (λ o. deliver o (args .result .now)) (union-first _ _ (sym (at-read-both .read-both .ensures) ∙ ap loneOf (at-enum-told .enum-told .given .1)) (λ i. omega (arith, at-shared-slice-known .shared-slice-known .given i)) (λ i. omega (arith, at-shared-slice-known2 .shared-slice-known2 .given i)) (at-lone-scalar .lone-scalar .ensures) (at-lone-scalar2 .lone-scalar2 .ensures) (at-unite .unite .result) (at-unite .unite .ensures) (at-enum-told3 .enum-told3 .given .1)))
 
 same-length-2 : tie.Need-same-length-2
 same-length-2 c = search needs
 
 returns-3 : tie.Need-returns-3
-returns-3 c = c .before .before .hand-over2 .ensures ∙ (ap (λ w. deliver (accepted w) (c .before .before .before .before .before .before .before .before .before .before .before .before .before .before .before .before .args .result .now)) (rest-is (c .before .before .before .before .before .before .before .before .before .before .before .before .before .before .before .before .args .b .now) (c .before .before .before .before .before .before .before .before .lone-scalar2 .result)) ∙ ap (λ o. deliver o (c .before .before .before .before .before .before .before .before .before .before .before .before .before .before .before .before .args .result .now)) (union-second _ _ (sym (c .before .before .before .before .before .before .before .before .before .before .before .before .read-both .ensures) ∙ ap loneOf (c .before .before .before .before .before .before .before .before .before .before .enum-told .given .1)) (λ i. omega (arith, c .before .before .before .before .before .before .before .before .before .before .before .before .before .before .before .shared-slice-known .given i)) (λ i. omega (arith, c .before .before .before .before .before .before .before .before .before .before .before .before .before .before .shared-slice-known2 .given i)) (c .before .before .before .before .before .before .before .before .before .lone-scalar .ensures) (c .before .before .before .before .before .before .before .before .lone-scalar2 .ensures) (c .before .before .before .before .before .before .before .unite .result) (c .before .before .before .before .before .before .before .unite .ensures) (c .before .before .before .before .before .enum-told3 .given .1)))
+returns-3 c =
+    let entry = c .before .before .before .before .before .before .before .before .before .before .before .before .before .before .before .before in
+    let at-shared-slice-known = c .before .before .before .before .before .before .before .before .before .before .before .before .before .before .before in
+    let at-shared-slice-known2 = c .before .before .before .before .before .before .before .before .before .before .before .before .before .before in
+    let at-read-both = c .before .before .before .before .before .before .before .before .before .before .before .before in
+    let at-enum-told = c .before .before .before .before .before .before .before .before .before .before in
+    let at-lone-scalar = c .before .before .before .before .before .before .before .before .before in
+    let at-lone-scalar2 = c .before .before .before .before .before .before .before .before in
+    let at-unite = c .before .before .before .before .before .before .before in
+    let at-enum-told4 = c .before .before .before .before .before in
+    let at-hand-over2 = c .before .before in
+    let args = entry .args in
+    at-hand-over2 .hand-over2 .ensures ∙ (ap (λ w. deliver (accepted w) (args .result .now)) (rest-is (args .b .now) (at-lone-scalar2 .lone-scalar2 .result)) ∙ ap (λ o. deliver o (args .result .now)) (union-second _ _ (sym (at-read-both .read-both .ensures) ∙ ap loneOf (at-enum-told .enum-told .given .1)) (λ i. omega (arith, at-shared-slice-known .shared-slice-known .given i)) (λ i. omega (arith, at-shared-slice-known2 .shared-slice-known2 .given i)) (at-lone-scalar .lone-scalar .ensures) (at-lone-scalar2 .lone-scalar2 .ensures) (at-unite .unite .result) (at-unite .unite .ensures) (at-enum-told4 .enum-told4 .given .1)))
 
 same-length-3 : tie.Need-same-length-3
 same-length-3 c = search needs
 
 returns-4 : tie.Need-returns-4
-returns-4 c = c .before .before .hand-box-any .ensures ∙ ap (λ o. deliver o (c .before .before .before .before .before .before .before .before .before .before .before .before .before .before .before .args .result .now)) (union-box-any _ _ (sym (c .before .before .before .before .before .before .before .before .before .before .before .read-both .ensures) ∙ ap loneOf (c .before .before .before .before .before .before .before .before .before .enum-told .given .1)) (λ i. omega (arith, c .before .before .before .before .before .before .before .before .before .before .before .before .before .before .shared-slice-known .given i)) (λ i. omega (arith, c .before .before .before .before .before .before .before .before .before .before .before .before .before .shared-slice-known2 .given i)) (c .before .before .before .before .before .before .before .before .lone-scalar .ensures) (c .before .before .before .before .before .before .before .lone-scalar2 .ensures) (c .before .before .before .before .before .before .unite .result) (c .before .before .before .before .before .before .unite .ensures) (c .before .before .before .before .enum-told4 .given .1))
+returns-4 c =
+    let entry = c .before .before .before .before .before .before .before .before .before .before .before .before .before .before .before in
+    let at-shared-slice-known = c .before .before .before .before .before .before .before .before .before .before .before .before .before .before in
+    let at-shared-slice-known2 = c .before .before .before .before .before .before .before .before .before .before .before .before .before in
+    let at-read-both = c .before .before .before .before .before .before .before .before .before .before .before in
+    let at-enum-told = c .before .before .before .before .before .before .before .before .before in
+    let at-lone-scalar = c .before .before .before .before .before .before .before .before in
+    let at-lone-scalar2 = c .before .before .before .before .before .before .before in
+    let at-unite = c .before .before .before .before .before .before in
+    let at-enum-told5 = c .before .before .before .before in
+    let at-hand-box-any = c .before .before in
+    at-hand-box-any .hand-box-any .ensures ∙ ap (λ o. deliver o (entry .args .result .now)) (union-box-any _ _ (sym (at-read-both .read-both .ensures) ∙ ap loneOf (at-enum-told .enum-told .given .1)) (λ i. omega (arith, at-shared-slice-known .shared-slice-known .given i)) (λ i. omega (arith, at-shared-slice-known2 .shared-slice-known2 .given i)) (at-lone-scalar .lone-scalar .ensures) (at-lone-scalar2 .lone-scalar2 .ensures) (at-unite .unite .result) (at-unite .unite .ensures) (at-enum-told5 .enum-told5 .given .1))
 
 same-length-4 : tie.Need-same-length-4
 same-length-4 c = search needs
 
 returns-5 : tie.Need-returns-5
-returns-5 c = c .before .before .hand-any .ensures ∙ ap (λ o. deliver o (c .before .before .before .before .before .before .before .before .before .before .before .before .before .before .before .args .result .now)) (union-any _ _ (sym (c .before .before .before .before .before .before .before .before .before .before .before .read-both .ensures) ∙ ap loneOf (c .before .before .before .before .before .before .before .before .before .enum-told .given .1)) (λ i. omega (arith, c .before .before .before .before .before .before .before .before .before .before .before .before .before .before .shared-slice-known .given i)) (λ i. omega (arith, c .before .before .before .before .before .before .before .before .before .before .before .before .before .shared-slice-known2 .given i)) (c .before .before .before .before .before .before .before .before .lone-scalar .ensures) (c .before .before .before .before .before .before .before .lone-scalar2 .ensures) (c .before .before .before .before .before .before .unite .result) (c .before .before .before .before .before .before .unite .ensures) (c .before .before .before .before .enum-told5 .given .1))
+returns-5 c =
+    let entry = c .before .before .before .before .before .before .before .before .before .before .before .before .before .before .before in
+    let at-shared-slice-known = c .before .before .before .before .before .before .before .before .before .before .before .before .before .before in
+    let at-shared-slice-known2 = c .before .before .before .before .before .before .before .before .before .before .before .before .before in
+    let at-read-both = c .before .before .before .before .before .before .before .before .before .before .before in
+    let at-enum-told = c .before .before .before .before .before .before .before .before .before in
+    let at-lone-scalar = c .before .before .before .before .before .before .before .before in
+    let at-lone-scalar2 = c .before .before .before .before .before .before .before in
+    let at-unite = c .before .before .before .before .before .before in
+    let at-enum-told6 = c .before .before .before .before in
+    let at-hand-any = c .before .before in
+    at-hand-any .hand-any .ensures ∙ ap (λ o. deliver o (entry .args .result .now)) (union-any _ _ (sym (at-read-both .read-both .ensures) ∙ ap loneOf (at-enum-told .enum-told .given .1)) (λ i. omega (arith, at-shared-slice-known .shared-slice-known .given i)) (λ i. omega (arith, at-shared-slice-known2 .shared-slice-known2 .given i)) (at-lone-scalar .lone-scalar .ensures) (at-lone-scalar2 .lone-scalar2 .ensures) (at-unite .unite .result) (at-unite .unite .ensures) (at-enum-told6 .enum-told6 .given .1))
 
 pub union-spec : {M : Type 1} → statement M
 union-spec =
     tie.close
     (tie.spec
     read-both-requires
-    enum-known-read
-    returns
     enum-told
+    enum-told-2
+    as-written-requires
+    returns
     lone-scalar-requires
     lone-scalar-requires-2
     sub-unite
     unite-requires
-    enum-told-2
+    enum-told-3
     sub-hand-over
     part-hand-over-start
     part-hand-over-end
     hand-over-requires
-    enum-told-3
+    enum-told-4
     sub-hand-over-2
     part-hand-over-start-2
     part-hand-over-end-2
     hand-over-requires-2
-    enum-told-4
-    hand-box-any-requires
     enum-told-5
+    hand-box-any-requires
+    enum-told-6
     hand-any-requires
     same-length
     returns-2

@@ -1,41 +1,56 @@
 use mathlib.Core.Path.{sym, ap, _∙_}
+use Rattle.format.specs.Records.{dimOf}
 use Rattle.record.specs.Answers.{loneOf}
 use Rattle.rules.specs.Shapes.{rowCount}
-use Rattle.format.specs.Outcome.{accepted}
+use Rattle.format.specs.Outcome.{accepted, mapped}
 use Rattle.shape_calls.proofs.CallLaws.{shape-told, shape-is}
 use borrow.Author.Needs.{needs}
 use Rattle.shape_calls.proofs.bytes.count_rows.Statement.{statement}
 use Rattle.shape_calls.proofs.bytes.count_rows.Tie as tie
+use Rattle.shape_calls.proofs.bytes.count_rows.Reads as reads
+use Rattle.shape_calls.proofs.bytes.count_rows.Lts as lts
 
 read-lone-requires : tie.Need-read-lone-requires
 read-lone-requires c κs = search needs
 
-enum-known-answer : tie.Need-enum-known-answer
-enum-known-answer c = search needs
-
-returns : tie.Need-returns
-returns c = sym (shape-told (λ s. accepted (rowCount s)) (c .before .before .before .before .before .args .a .now) (sym (c .before .before .before .read-lone .ensures) ∙ ap loneOf (c .before .answer .given .1)))
-
 enum-told : tie.Need-enum-told
 enum-told c = search needs
 
+enum-told-2 : tie.Need-enum-told-2
+enum-told-2 c = search needs
+
+as-counted-requires : tie.Need-as-counted-requires
+as-counted-requires c κs = search needs
+
+returns : tie.Need-returns
+returns c =
+    let entry = c .before .before .before .before .before in
+    let at-read-lone = c .before .before .before in
+    let told = ap loneOf (c .before .enum-told2 .given .1) in
+    c .as-counted .ensures .1 ∙ (ap (mapped dimOf) told ∙ sym (shape-told (λ s. accepted (rowCount s)) (entry .args .a .now) (sym (at-read-lone .read-lone .ensures) ∙ told)))
+
 lone-shape-requires : tie.Need-lone-shape-requires
-lone-shape-requires c κs = (sym (c .before .before .read-lone .ensures) ∙ ap loneOf (c .enum-told .given .1))
+lone-shape-requires c κs =
+    let at-read-lone = c .before .before in
+    (sym (at-read-lone .read-lone .ensures) ∙ ap loneOf (c .enum-told .given .1))
 
 row-count-requires : tie.Need-row-count-requires
 row-count-requires c κs = search needs
 
 returns-2 : tie.Need-returns-2
-returns-2 c = ap accepted (c .row-count .ensures) ∙ sym (shape-is (λ s. accepted (rowCount s)) (c .before .before .before .before .before .before .args .a .now) (c .before .lone-shape .ensures))
+returns-2 c =
+    let entry = c .before .before .before .before .before .before in
+    ap accepted (c .row-count .ensures) ∙ sym (shape-is (λ s. accepted (rowCount s)) (entry .args .a .now) (c .before .lone-shape .ensures))
 
 pub count-rows-spec : {M : Type 1} → statement M
 count-rows-spec =
     tie.close
     (tie.spec
     read-lone-requires
-    enum-known-answer
-    returns
     enum-told
+    enum-told-2
+    as-counted-requires
+    returns
     lone-shape-requires
     row-count-requires
     returns-2)

@@ -2,7 +2,7 @@ use mathlib.Core.Path.{sym, ap, _∙_}
 use native.Mathlib.Omega.{arith}
 use Rattle.format.specs.Outcome.{lone, deliver}
 use Rattle.record.specs.Answers.{loneOf}
-use Rattle.lent.specs.Delivers.{deliver-refused}
+use Rattle.lent.specs.Delivers.{deliver-handed}
 use Rattle.record.proofs.LoneLaws.{passed-refused, mapped-refused}
 use Rattle.format.specs.Records.{writeTy}
 use Rattle.rules.specs.Types.{unboxed}
@@ -12,38 +12,52 @@ use Rattle.ty.proofs.content.unboxed.Statement.{statement}
 use Rattle.ty.proofs.content.unboxed.Tie as tie
 use Rattle.ty.proofs.content.unboxed.Reads as reads
 use Rattle.ty.proofs.content.unboxed.Lts as lts
-use Rattle.lent.proofs.hand_over.Reads as hand-over-reads
-use Rattle.record.proofs.lone_shape.Reads as lone-shape-reads
-use Rattle.record.proofs.read_lone.Reads as read-lone-reads
-use Rattle.shape.proofs.is_scalar.Reads as is-scalar-reads
-use Rattle.ty.proofs.content.write_content.Reads as write-content-reads
 
 read-lone-requires : tie.Need-read-lone-requires
 read-lone-requires c κs = search needs
 
-enum-known-answer : tie.Need-enum-known-answer
-enum-known-answer c = search needs
-
-returns : tie.Need-returns
-returns c = sym (deliver-refused _ (mapped-refused (λ t. writeTy (unboxed t)) (passed-refused (lone (c .before .before .before .before .before .before .args .ty .now)) (sym (c .before .before .before .read-lone .ensures) ∙ ap loneOf (c .before .answer .given .1)))))
-
 enum-told : tie.Need-enum-told
 enum-told c = search needs
 
+enum-told-2 : tie.Need-enum-told-2
+enum-told-2 c = search needs
+
+as-written-requires : tie.Need-as-written-requires
+as-written-requires c κs = search needs
+
+returns : tie.Need-returns
+returns c =
+    let entry = c .before .before .before .before .before .before in
+    let at-read-lone = c .before .before .before in
+    let told = ap loneOf (c .before .enum-told2 .given .1) in
+    deliver-handed _ (c .as-written .result) (c .as-written .ensures ∙ told) (mapped-refused (λ t. writeTy (unboxed t)) (passed-refused (lone (entry .args .ty .now)) (sym (at-read-lone .read-lone .ensures) ∙ told)))
+
 lone-shape-requires : tie.Need-lone-shape-requires
-lone-shape-requires c κs = (sym (c .before .before .read-lone .ensures) ∙ ap loneOf (c .enum-told .given .1))
+lone-shape-requires c κs =
+    let at-read-lone = c .before .before in
+    (sym (at-read-lone .read-lone .ensures) ∙ ap loneOf (c .enum-told .given .1))
 
 is-scalar-requires : tie.Need-is-scalar-requires
 is-scalar-requires c κs = search needs
 
 write-content-requires : tie.Need-write-content-requires
-write-content-requires c κs = (sym (c .before .before .before .before .before .before .read-lone .ensures) ∙ ap loneOf (c .before .before .before .before .enum-told .given .1))
+write-content-requires c κs =
+    let at-read-lone = c .before .before .before .before .before .before in
+    let at-enum-told = c .before .before .before .before in
+    (sym (at-read-lone .read-lone .ensures) ∙ ap loneOf (at-enum-told .enum-told .given .1))
 
 same-length : tie.Need-same-length
 same-length c = search needs
 
 returns-2 : tie.Need-returns-2
-returns-2 c = c .before .before .write-content .ensures ∙ ap (λ o. deliver o (c .before .before .before .before .before .before .before .before .before .before .before .before .args .result .now)) (sym (unboxed-in (c .before .before .before .before .before .before .before .before .before .before .before .before .args .ty .now) (c .before .before .before .before .before .before .lone-shape .ensures) (sym (c .before .before .before .before .before .is-scalar .ensures) ∙ c .before .before .before .before .if1 .taken)))
+returns-2 c =
+    let entry = c .before .before .before .before .before .before .before .before .before .before .before .before in
+    let at-lone-shape = c .before .before .before .before .before .before in
+    let at-is-scalar = c .before .before .before .before .before in
+    let at-if1 = c .before .before .before .before in
+    let at-write-content = c .before .before in
+    let args = entry .args in
+    at-write-content .write-content .ensures ∙ ap (λ o. deliver o (args .result .now)) (sym (unboxed-in (args .ty .now) (at-lone-shape .lone-shape .ensures) (sym (at-is-scalar .is-scalar .ensures) ∙ at-if1 .if1 .taken)))
 
 hand-over-requires : tie.Need-hand-over-requires
 hand-over-requires c κs = search needs
@@ -52,16 +66,25 @@ same-length-2 : tie.Need-same-length-2
 same-length-2 c = search needs
 
 returns-3 : tie.Need-returns-3
-returns-3 c = c .before .before .hand-over .ensures ∙ ap (λ o. deliver o (c .before .before .before .before .before .before .before .before .before .before .before .before .args .result .now)) (sym (unboxed-out (c .before .before .before .before .before .before .before .before .before .before .before .before .args .ty .now) (c .before .before .before .before .before .before .lone-shape .ensures) (λ i. omega (arith, c .before .before .before .before .before .before .before .before .before .before .before .shared-slice-known .given i)) (sym (c .before .before .before .before .before .is-scalar .ensures) ∙ c .before .before .before .before .if1 .left)))
+returns-3 c =
+    let entry = c .before .before .before .before .before .before .before .before .before .before .before .before in
+    let at-shared-slice-known = c .before .before .before .before .before .before .before .before .before .before .before in
+    let at-lone-shape = c .before .before .before .before .before .before in
+    let at-is-scalar = c .before .before .before .before .before in
+    let at-if1 = c .before .before .before .before in
+    let at-hand-over = c .before .before in
+    let args = entry .args in
+    at-hand-over .hand-over .ensures ∙ ap (λ o. deliver o (args .result .now)) (sym (unboxed-out (args .ty .now) (at-lone-shape .lone-shape .ensures) (λ i. omega (arith, at-shared-slice-known .shared-slice-known .given i)) (sym (at-is-scalar .is-scalar .ensures) ∙ at-if1 .if1 .left)))
 
 pub unboxed-spec : {M : Type 1} → statement M
 unboxed-spec =
     tie.close
     (tie.spec
     read-lone-requires
-    enum-known-answer
-    returns
     enum-told
+    enum-told-2
+    as-written-requires
+    returns
     lone-shape-requires
     is-scalar-requires
     write-content-requires

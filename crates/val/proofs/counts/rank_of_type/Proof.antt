@@ -7,40 +7,50 @@ use Rattle.val.proofs.CountLaws.{asked-shape}
 use borrow.Author.Needs.{needs}
 use Rattle.val.proofs.counts.rank_of_type.Statement.{statement}
 use Rattle.val.proofs.counts.rank_of_type.Tie as tie
+use Rattle.val.proofs.counts.rank_of_type.Reads as reads
+use Rattle.val.proofs.counts.rank_of_type.Lts as lts
 
 read-lone-requires : tie.Need-read-lone-requires
 read-lone-requires c κs = search needs
 
-enum-known-number : tie.Need-enum-known-number
-enum-known-number c = search needs
-
-returns : tie.Need-returns
-returns c =
-    let s = c .before .before .before .before .before in
-    sym (mapped-refused _ (passed-refused (lone (s .args .ty .now)) (sym (c .before .before .before .read-lone .ensures) ∙ ap loneOf (c .before .number .given .1))))
-
 enum-told : tie.Need-enum-told
 enum-told c = search needs
 
+enum-told-2 : tie.Need-enum-told-2
+enum-told-2 c = search needs
+
+as-counted-requires : tie.Need-as-counted-requires
+as-counted-requires c κs = search needs
+
+returns : tie.Need-returns
+returns c =
+    let entry = c .before .before .before .before .before in
+    let at-read-lone = c .before .before .before in
+    let told = ap loneOf (c .before .enum-told2 .given .1) in
+    c .as-counted .ensures .0 ∙ (told ∙ sym (mapped-refused _ (passed-refused (lone (entry .args .ty .now)) (sym (at-read-lone .read-lone .ensures) ∙ told))))
+
 lone-shape-requires : tie.Need-lone-shape-requires
-lone-shape-requires c κs = (sym (c .before .before .read-lone .ensures) ∙ ap loneOf (c .enum-told .given .1))
+lone-shape-requires c κs =
+    let at-read-lone = c .before .before in
+    (sym (at-read-lone .read-lone .ensures) ∙ ap loneOf (c .enum-told .given .1))
 
 rank-requires : tie.Need-rank-requires
 rank-requires c κs = search needs
 
 returns-2 : tie.Need-returns-2
 returns-2 c =
-    let s = c .before .before .before .before .before .before in
-    ap accepted (c .rank .ensures .0) ∙ sym (asked-shape rank (lone (s .args .ty .now)) (c .before .lone-shape .ensures))
+    let entry = c .before .before .before .before .before .before in
+    ap accepted (c .rank .ensures .0) ∙ sym (asked-shape rank (lone (entry .args .ty .now)) (c .before .lone-shape .ensures))
 
 pub rank-of-type-spec : {M : Type 1} → statement M
 rank-of-type-spec =
     tie.close
     (tie.spec
     read-lone-requires
-    enum-known-number
-    returns
     enum-told
+    enum-told-2
+    as-counted-requires
+    returns
     lone-shape-requires
     rank-requires
     returns-2)

@@ -5,6 +5,8 @@ use Rattle.val.proofs.PartLaws.{ty-counted, ty-uncounted}
 use borrow.Author.Needs.{needs}
 use Rattle.val.proofs.parts.ty_of_list.Statement.{statement}
 use Rattle.val.proofs.parts.ty_of_list.Tie as tie
+use Rattle.val.proofs.parts.ty_of_list.Reads as reads
+use Rattle.val.proofs.parts.ty_of_list.Lts as lts
 
 row-count-of-list-requires : tie.Need-row-count-of-list-requires
 row-count-of-list-requires c κs = search needs
@@ -14,6 +16,9 @@ enum-known-n c = search needs
 
 one-dim-requires : tie.Need-one-dim-requires
 one-dim-requires c κs = search needs
+
+cast-write-closed : tie.Need-cast-write-closed
+cast-write-closed c = search needs
 
 write-closed-requires : tie.Need-write-closed-requires
 write-closed-requires c κs = search needs
@@ -26,13 +31,19 @@ same-length c = search needs
 
 returns : tie.Need-returns
 returns c =
-    let s = c .before .before .before .before .before .before .before .before .before .before .before in
-    c .before .before .write-closed .ensures ∙ ap (λ o. deliver o (s .args .result .now)) (sym (ty-counted (s .args .list .now) (c .before .before .before .before .before .before .before .before .row-count-of-list .ensures) (c .before .before .before .before .before .before .n .given .1) (c .before .before .before .before .one-dim .ensures)))
+    let entry = c .before .before .before .before .before .before .before .before .before .before .before in
+    let at-row-count-of-list = c .before .before .before .before .before .before .before .before in
+    let at-n = c .before .before .before .before .before .before in
+    let at-one-dim = c .before .before .before .before in
+    let at-write-closed = c .before .before in
+    let args = entry .args in
+    at-write-closed .write-closed .ensures ∙ ap (λ o. deliver o (args .result .now)) (sym (ty-counted (args .list .now) (at-row-count-of-list .row-count-of-list .ensures) (at-n .n .given .1) (at-one-dim .one-dim .ensures)))
 
 returns-2 : tie.Need-returns-2
 returns-2 c =
-    let s = c .before .before .before .before .before .before in
-    sym (deliver-refused _ (ty-uncounted (s .args .list .now) (c .before .before .before .row-count-of-list .ensures) (c .before .number .given .1)))
+    let entry = c .before .before .before .before .before .before in
+    let at-row-count-of-list = c .before .before .before in
+    sym (deliver-refused _ (ty-uncounted (entry .args .list .now) (at-row-count-of-list .row-count-of-list .ensures) (c .before .number .given .1)))
 
 pub ty-of-list-spec : {M : Type 1} → statement M
 ty-of-list-spec =
@@ -41,6 +52,7 @@ ty-of-list-spec =
     row-count-of-list-requires
     enum-known-n
     one-dim-requires
+    cast-write-closed
     write-closed-requires
     enum-known-number
     same-length

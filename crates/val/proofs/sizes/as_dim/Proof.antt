@@ -1,10 +1,11 @@
 use mathlib.Core.Path.{refl, sym, ap, _∙_}
-use Rattle.record.specs.Answers.{loneOf}
 use Rattle.val.specs.Values.{valueAsDim}
-use Rattle.val.proofs.HandedLaws.{for-number, for-list, for-no-type, for-any-type}
+use Rattle.val.proofs.HandedLaws.{for-number, for-list, for-any-type}
 use borrow.Author.Needs.{needs}
 use Rattle.val.proofs.sizes.as_dim.Statement.{statement}
 use Rattle.val.proofs.sizes.as_dim.Tie as tie
+use Rattle.val.proofs.sizes.as_dim.Reads as reads
+use Rattle.val.proofs.sizes.as_dim.Lts as lts
 
 enum-known-v : tie.Need-enum-known-v
 enum-known-v c = search needs
@@ -21,33 +22,31 @@ enum-told-2 c = search needs
 read-lone-requires : tie.Need-read-lone-requires
 read-lone-requires c κs = search needs
 
-enum-told-3 : tie.Need-enum-told-3
-enum-told-3 c = search needs
-
-enum-known-number : tie.Need-enum-known-number
-enum-known-number c = search needs
+as-no-dim-requires : tie.Need-as-no-dim-requires
+as-no-dim-requires c κs = search needs
 
 returns : tie.Need-returns
 returns c =
-    let s = c .before .before .before .before .before .before in
-    c .dim-of-number .ensures ∙ sym (for-number valueAsDim (s .args .list .now) (s .args .bytes .now) (c .before .before .v .given .1))
+    let entry = c .before .before .before .before .before .before in
+    let at-v = c .before .before in
+    let args = entry .args in
+    c .dim-of-number .ensures ∙ sym (for-number valueAsDim (args .list .now) (args .bytes .now) (at-v .v .given .1))
 
 returns-2 : tie.Need-returns-2
 unfolding valueAsDim
 returns-2 c =
-    let s = c .before .before .before .before in
-    sym (for-list valueAsDim (s .args .list .now) (s .args .bytes .now) (c .enum-told .given .1))
+    let entry = c .before .before .before .before in
+    let args = entry .args in
+    sym (for-list valueAsDim (args .list .now) (args .bytes .now) (c .enum-told .given .1))
 
 returns-3 : tie.Need-returns-3
 unfolding valueAsDim
 returns-3 c =
-    let s = c .before .before .before .before .before .before .before in
-    sym (for-any-type valueAsDim (s .args .list .now) (s .args .bytes .now) (c .before .before .before .enum-told2 .given .1) (sym (c .before .before .read-lone .ensures) ∙ ap loneOf (c .enum-told3 .given .1)) λ _. refl)
-
-returns-4 : tie.Need-returns-4
-returns-4 c =
-    let s = c .before .before .before .before .before .before .before .before in
-    sym (for-no-type valueAsDim (s .args .list .now) (s .args .bytes .now) (c .before .before .before .before .enum-told2 .given .1) (sym (c .before .before .before .read-lone .ensures) ∙ ap loneOf (c .before .number .given .1)))
+    let entry = c .before .before .before .before .before .before in
+    let at-enum-told2 = c .before .before in
+    let args = entry .args in
+    c .as-no-dim .ensures ∙ for-any-type valueAsDim (args .list .now) (args .bytes .now) (at-enum-told2 .enum-told2 .given .1) (c .before .read-lone .ensures) λ _.
+    refl
 
 pub as-dim-spec : {M : Type 1} → statement M
 as-dim-spec =
@@ -58,9 +57,7 @@ as-dim-spec =
     enum-told
     enum-told-2
     read-lone-requires
-    enum-told-3
-    enum-known-number
+    as-no-dim-requires
     returns
     returns-2
-    returns-3
-    returns-4)
+    returns-3)

@@ -1,4 +1,3 @@
-use borrow.Author.Needs.{needs}
 use native.Mathlib.Omega.{arith}
 use mathlib.Core.Path.{sym, ap, _∙_}
 use Prim.Native.Nat.{_+_}
@@ -8,7 +7,7 @@ use Rattle.model.specs.Limits.{maxDepth}
 use Rattle.model.specs.Types.{ty}
 use Rattle.format.specs.Records.{writeShape}
 use Rattle.format.specs.Outcome.{lone, deliver}
-use Rattle.lent.specs.Delivers.{deliver-refused}
+use Rattle.lent.specs.Delivers.{deliver-refused, deliver-handed}
 use Rattle.record.specs.Answers.{loneOf, shapeFor}
 use Rattle.validate.specs.Plans.{scalarOf}
 use Rattle.record.proofs.LoneLaws.{both-refused}
@@ -20,27 +19,35 @@ use Rattle.validate.proofs.calls.check_scalar.Statement.{statement}
 use Rattle.validate.proofs.calls.check_scalar.Tie as tie
 use Rattle.validate.proofs.calls.check_scalar.Reads as reads
 use Rattle.validate.proofs.calls.check_scalar.Lts as lts
-use Rattle.lent.proofs.hand_over.Reads as hand-over-reads
-use Rattle.record.proofs.read_both.Reads as read-both-reads
-use Rattle.walk.proofs.shape_at.Reads as shape-at-reads
-use Rattle.validate.proofs.descent.check_scalar_at.Reads as check-scalar-at-reads
-use Rattle.writer.proofs.put_shape.Reads as put-shape-reads
-use Rattle.writer.proofs.shape_length.Reads as shape-length-reads
 
 read-both-requires : tie.Need-read-both-requires
 read-both-requires c κs = search needs
 
-enum-known-read : tie.Need-enum-known-read
-enum-known-read c = search needs
-
-returns : tie.Need-returns
-returns c = sym (deliver-refused _ (both-refused (lone (c .before .before .before .before .before .before .before .args .spec .now)) (lone (c .before .before .before .before .before .before .before .args .ty .now)) _ (sym (c .before .before .before .read-both .ensures) ∙ ap loneOf (c .before .read .given .1))))
-
 enum-told : tie.Need-enum-told
 enum-told c = search needs
 
+enum-told-2 : tie.Need-enum-told-2
+enum-told-2 c = search needs
+
+as-written-requires : tie.Need-as-written-requires
+as-written-requires c κs = search needs
+
+returns : tie.Need-returns
+returns c =
+    let entry = c .before .before .before .before .before .before .before in
+    let at-read-both = c .before .before .before in
+    let args = entry .args in
+    let told = ap loneOf (c .before .enum-told2 .given .1) in
+    deliver-handed _ (c .as-written .result) (c .as-written .ensures ∙ told) (both-refused (lone (args .spec .now)) (lone (args .ty .now)) _ (sym (at-read-both .read-both .ensures) ∙ told))
+
 shape-at-requires : tie.Need-shape-at-requires
-shape-at-requires c κs = has-type ((lones (c .before .before .before .before .before .before .args .spec .now) (c .before .before .before .before .before .before .args .ty .now) (λ i. omega (arith, c .before .before .before .before .before .shared-slice-known .given i)) (λ i. omega (arith, c .before .before .before .before .shared-slice-known2 .given i)) (sym (c .before .before .read-both .ensures) ∙ ap loneOf (c .enum-told .given .1))) .pair .type-placed)
+shape-at-requires c κs =
+    let entry = c .before .before .before .before .before .before in
+    let at-shared-slice-known = c .before .before .before .before .before in
+    let at-shared-slice-known2 = c .before .before .before .before in
+    let at-read-both = c .before .before in
+    let args = entry .args in
+    has-type ((lones (args .spec .now) (args .ty .now) (λ i. omega (arith, at-shared-slice-known .shared-slice-known .given i)) (λ i. omega (arith, at-shared-slice-known2 .shared-slice-known2 .given i)) (sym (at-read-both .read-both .ensures) ∙ ap loneOf (c .enum-told .given .1))) .pair .type-placed)
 
 shape-length-requires : tie.Need-shape-length-requires
 shape-length-requires c κs = search needs
@@ -55,7 +62,16 @@ slice-aggregate-check-scalar-at : tie.Need-slice-aggregate-check-scalar-at
 slice-aggregate-check-scalar-at c = search needs
 
 check-scalar-at-requires : tie.Need-check-scalar-at-requires
-check-scalar-at-requires c κs = (((lones (c .before .before .before .before .before .before .before .before .before .before .before .before .args .spec .now) (c .before .before .before .before .before .before .before .before .before .before .before .before .args .ty .now) (λ i. omega (arith, c .before .before .before .before .before .before .before .before .before .before .before .shared-slice-known .given i)) (λ i. omega (arith, c .before .before .before .before .before .before .before .before .before .before .shared-slice-known2 .given i)) (sym (c .before .before .before .before .before .before .before .before .read-both .ensures) ∙ ap loneOf (c .before .before .before .before .before .before .enum-told .given .1))) .pair), omega (arith, c .before .before .before .before .shape-length .ensures .0, c .before .before .before .before .shape-length .ensures .1, c .before .before .put-shape .kept .0))
+check-scalar-at-requires c κs =
+    let entry = c .before .before .before .before .before .before .before .before .before .before .before .before in
+    let at-shared-slice-known = c .before .before .before .before .before .before .before .before .before .before .before in
+    let at-shared-slice-known2 = c .before .before .before .before .before .before .before .before .before .before in
+    let at-read-both = c .before .before .before .before .before .before .before .before in
+    let at-enum-told = c .before .before .before .before .before .before in
+    let at-shape-length = c .before .before .before .before in
+    let at-put-shape = c .before .before in
+    let args = entry .args in
+    (((lones (args .spec .now) (args .ty .now) (λ i. omega (arith, at-shared-slice-known .shared-slice-known .given i)) (λ i. omega (arith, at-shared-slice-known2 .shared-slice-known2 .given i)) (sym (at-read-both .read-both .ensures) ∙ ap loneOf (at-enum-told .enum-told .given .1))) .pair), omega (arith, at-shape-length .shape-length .ensures .0, at-shape-length .shape-length .ensures .1, at-put-shape .put-shape .kept .0))
 
 enum-known-w : tie.Need-enum-known-w
 enum-known-w c = search needs
@@ -64,7 +80,18 @@ array-share-prefix-out : tie.Need-array-share-prefix-out
 array-share-prefix-out c = omega (arith, c .before .before .before .before .before .before .before .before .before .shape-length .ensures .0, c .before .before .before .before .before .before .before .before .before .shape-length .ensures .1, roomy-done (c .before .before .before .before .before .before .before .before .before .shape-length .result + 24) (c .before .w .given .1) (c .before .before .before .before .check-scalar-at .ensures ((lones (c .before .before .before .before .before .before .before .before .before .before .before .before .before .before .before .before .before .args .spec .now) (c .before .before .before .before .before .before .before .before .before .before .before .before .before .before .before .before .before .args .ty .now) (λ i. omega (arith, c .before .before .before .before .before .before .before .before .before .before .before .before .before .before .before .before .shared-slice-known .given i)) (λ i. omega (arith, c .before .before .before .before .before .before .before .before .before .before .before .before .before .before .before .shared-slice-known2 .given i)) (sym (c .before .before .before .before .before .before .before .before .before .before .before .before .before .read-both .ensures) ∙ ap loneOf (c .before .before .before .before .before .before .before .before .before .before .before .enum-told .given .1))) .pair) .1), scalar-few ((lones (c .before .before .before .before .before .before .before .before .before .before .before .before .before .before .before .before .before .args .spec .now) (c .before .before .before .before .before .before .before .before .before .before .before .before .before .before .before .before .before .args .ty .now) (λ i. omega (arith, c .before .before .before .before .before .before .before .before .before .before .before .before .before .before .before .before .shared-slice-known .given i)) (λ i. omega (arith, c .before .before .before .before .before .before .before .before .before .before .before .before .before .before .before .shared-slice-known2 .given i)) (sym (c .before .before .before .before .before .before .before .before .before .before .before .before .before .read-both .ensures) ∙ ap loneOf (c .before .before .before .before .before .before .before .before .before .before .before .enum-told .given .1))) .pair) (c .before .before .before .before .check-scalar-at .last .1 .1 .1 .1 .1 .1 .0) (take (c .before .before .before .before .before .before .before .before .before .shape-length .result) (c .before .before .before .before .before .before .before .put-shape .last .0)) (c .before .w .given .1) (c .before .before .before .before .check-scalar-at .ensures ((lones (c .before .before .before .before .before .before .before .before .before .before .before .before .before .before .before .before .before .args .spec .now) (c .before .before .before .before .before .before .before .before .before .before .before .before .before .before .before .before .before .args .ty .now) (λ i. omega (arith, c .before .before .before .before .before .before .before .before .before .before .before .before .before .before .before .before .shared-slice-known .given i)) (λ i. omega (arith, c .before .before .before .before .before .before .before .before .before .before .before .before .before .before .before .shared-slice-known2 .given i)) (sym (c .before .before .before .before .before .before .before .before .before .before .before .before .before .read-both .ensures) ∙ ap loneOf (c .before .before .before .before .before .before .before .before .before .before .before .enum-told .given .1))) .pair) .0))
 
 slice-aggregate-hand-over : tie.Need-slice-aggregate-hand-over
-slice-aggregate-hand-over c = sym (length-take-le _ _ (omega (arith, c .before .before .before .before .before .before .before .before .before .before .shape-length .ensures .0, c .before .before .before .before .before .before .before .before .before .before .shape-length .ensures .1, roomy-done (c .before .before .before .before .before .before .before .before .before .before .shape-length .result + 24) (c .before .before .w .given .1) (c .before .before .before .before .before .check-scalar-at .ensures ((lones (c .before .before .before .before .before .before .before .before .before .before .before .before .before .before .before .before .before .before .args .spec .now) (c .before .before .before .before .before .before .before .before .before .before .before .before .before .before .before .before .before .before .args .ty .now) (λ i. omega (arith, c .before .before .before .before .before .before .before .before .before .before .before .before .before .before .before .before .before .shared-slice-known .given i)) (λ i. omega (arith, c .before .before .before .before .before .before .before .before .before .before .before .before .before .before .before .before .shared-slice-known2 .given i)) (sym (c .before .before .before .before .before .before .before .before .before .before .before .before .before .before .read-both .ensures) ∙ ap loneOf (c .before .before .before .before .before .before .before .before .before .before .before .before .enum-told .given .1))) .pair) .1), scalar-few ((lones (c .before .before .before .before .before .before .before .before .before .before .before .before .before .before .before .before .before .before .args .spec .now) (c .before .before .before .before .before .before .before .before .before .before .before .before .before .before .before .before .before .before .args .ty .now) (λ i. omega (arith, c .before .before .before .before .before .before .before .before .before .before .before .before .before .before .before .before .before .shared-slice-known .given i)) (λ i. omega (arith, c .before .before .before .before .before .before .before .before .before .before .before .before .before .before .before .before .shared-slice-known2 .given i)) (sym (c .before .before .before .before .before .before .before .before .before .before .before .before .before .before .read-both .ensures) ∙ ap loneOf (c .before .before .before .before .before .before .before .before .before .before .before .before .enum-told .given .1))) .pair) (c .before .before .before .before .before .check-scalar-at .last .1 .1 .1 .1 .1 .1 .0) (take (c .before .before .before .before .before .before .before .before .before .before .shape-length .result) (c .before .before .before .before .before .before .before .before .put-shape .last .0)) (c .before .before .w .given .1) (c .before .before .before .before .before .check-scalar-at .ensures ((lones (c .before .before .before .before .before .before .before .before .before .before .before .before .before .before .before .before .before .before .args .spec .now) (c .before .before .before .before .before .before .before .before .before .before .before .before .before .before .before .before .before .before .args .ty .now) (λ i. omega (arith, c .before .before .before .before .before .before .before .before .before .before .before .before .before .before .before .before .before .shared-slice-known .given i)) (λ i. omega (arith, c .before .before .before .before .before .before .before .before .before .before .before .before .before .before .before .before .shared-slice-known2 .given i)) (sym (c .before .before .before .before .before .before .before .before .before .before .before .before .before .before .read-both .ensures) ∙ ap loneOf (c .before .before .before .before .before .before .before .before .before .before .before .before .enum-told .given .1))) .pair) .0), c .before .before .before .before .before .check-scalar-at .kept .1 .1 .1 .1 .1 .1 .0, c .before .before .before .before .before .before .before .before .put-shape .kept .0)))
+slice-aggregate-hand-over c =
+    let entry = c .before .before .before .before .before .before .before .before .before .before .before .before .before .before .before .before .before .before in
+    let at-shared-slice-known = c .before .before .before .before .before .before .before .before .before .before .before .before .before .before .before .before .before in
+    let at-shared-slice-known2 = c .before .before .before .before .before .before .before .before .before .before .before .before .before .before .before .before in
+    let at-read-both = c .before .before .before .before .before .before .before .before .before .before .before .before .before .before in
+    let at-enum-told = c .before .before .before .before .before .before .before .before .before .before .before .before in
+    let at-shape-length = c .before .before .before .before .before .before .before .before .before .before in
+    let at-put-shape = c .before .before .before .before .before .before .before .before in
+    let at-check-scalar-at = c .before .before .before .before .before in
+    let at-w = c .before .before in
+    let args = entry .args in
+    sym (length-take-le _ _ (omega (arith, at-shape-length .shape-length .ensures .0, at-shape-length .shape-length .ensures .1, roomy-done (at-shape-length .shape-length .result + 24) (at-w .w .given .1) (at-check-scalar-at .check-scalar-at .ensures ((lones (args .spec .now) (args .ty .now) (λ i. omega (arith, at-shared-slice-known .shared-slice-known .given i)) (λ i. omega (arith, at-shared-slice-known2 .shared-slice-known2 .given i)) (sym (at-read-both .read-both .ensures) ∙ ap loneOf (at-enum-told .enum-told .given .1))) .pair) .1), scalar-few ((lones (args .spec .now) (args .ty .now) (λ i. omega (arith, at-shared-slice-known .shared-slice-known .given i)) (λ i. omega (arith, at-shared-slice-known2 .shared-slice-known2 .given i)) (sym (at-read-both .read-both .ensures) ∙ ap loneOf (at-enum-told .enum-told .given .1))) .pair) (at-check-scalar-at .check-scalar-at .last .1 .1 .1 .1 .1 .1 .0) (take (at-shape-length .shape-length .result) (at-put-shape .put-shape .last .0)) (at-w .w .given .1) (at-check-scalar-at .check-scalar-at .ensures ((lones (args .spec .now) (args .ty .now) (λ i. omega (arith, at-shared-slice-known .shared-slice-known .given i)) (λ i. omega (arith, at-shared-slice-known2 .shared-slice-known2 .given i)) (sym (at-read-both .read-both .ensures) ∙ ap loneOf (at-enum-told .enum-told .given .1))) .pair) .0), at-check-scalar-at .check-scalar-at .kept .1 .1 .1 .1 .1 .1 .0, at-put-shape .put-shape .kept .0)))
 
 hand-over-requires : tie.Need-hand-over-requires
 hand-over-requires c κs = search needs
@@ -76,19 +103,44 @@ same-length : tie.Need-same-length
 same-length c = search needs
 
 returns-2 : tie.Need-returns-2
-returns-2 c = c .before .before .hand-over .ensures ∙ sym (ap (λ o. deliver o (c .before .before .before .before .before .before .before .before .before .before .before .before .before .before .before .before .before .before .before .before .before .before .args .result .now)) (scalar-checked (lones (c .before .before .before .before .before .before .before .before .before .before .before .before .before .before .before .before .before .before .before .before .before .before .args .spec .now) (c .before .before .before .before .before .before .before .before .before .before .before .before .before .before .before .before .before .before .before .before .before .before .args .ty .now) (λ i. omega (arith, c .before .before .before .before .before .before .before .before .before .before .before .before .before .before .before .before .before .before .before .before .before .shared-slice-known .given i)) (λ i. omega (arith, c .before .before .before .before .before .before .before .before .before .before .before .before .before .before .before .before .before .before .before .before .shared-slice-known2 .given i)) (sym (c .before .before .before .before .before .before .before .before .before .before .before .before .before .before .before .before .before .before .read-both .ensures) ∙ ap loneOf (c .before .before .before .before .before .before .before .before .before .before .before .before .before .before .before .before .enum-told .given .1))) ∙ scalar-written (((lones (c .before .before .before .before .before .before .before .before .before .before .before .before .before .before .before .before .before .before .before .before .before .before .args .spec .now) (c .before .before .before .before .before .before .before .before .before .before .before .before .before .before .before .before .before .before .before .before .before .before .args .ty .now) (λ i. omega (arith, c .before .before .before .before .before .before .before .before .before .before .before .before .before .before .before .before .before .before .before .before .before .shared-slice-known .given i)) (λ i. omega (arith, c .before .before .before .before .before .before .before .before .before .before .before .before .before .before .before .before .before .before .before .before .shared-slice-known2 .given i)) (sym (c .before .before .before .before .before .before .before .before .before .before .before .before .before .before .before .before .before .before .read-both .ensures) ∙ ap loneOf (c .before .before .before .before .before .before .before .before .before .before .before .before .before .before .before .before .enum-told .given .1))) .pair) .type-shape) (take (c .before .before .before .before .before .before .before .before .before .before .before .before .before .before .shape-length .result) (c .before .before .before .before .before .before .before .before .before .before .before .before .put-shape .last .0)) (laid-behind _ (writeShape (shapeFor (c .before .before .before .before .before .before .before .before .before .before .before .before .before .before .before .shape-at .result))) 0 {end = c .before .before .before .before .before .before .before .before .before .before .before .before .before .before .shape-length .result} (omega (arith, c .before .before .before .before .before .before .before .before .before .before .before .before .before .before .shape-length .ensures .0, c .before .before .before .before .before .before .before .before .before .before .before .before .before .before .shape-length .ensures .1)) (omega (arith, c .before .before .before .before .before .before .before .before .before .before .before .before .before .before .shape-length .ensures .0, c .before .before .before .before .before .before .before .before .before .before .before .before .before .before .shape-length .ensures .1)) (c .before .before .before .before .before .before .before .before .before .before .before .before .put-shape .ensures .1) ∙ ap writeShape (c .before .before .before .before .before .before .before .before .before .before .before .before .before .before .before .shape-at .ensures maxDepth (ty (((lones (c .before .before .before .before .before .before .before .before .before .before .before .before .before .before .before .before .before .before .before .before .before .before .args .spec .now) (c .before .before .before .before .before .before .before .before .before .before .before .before .before .before .before .before .before .before .before .before .before .before .args .ty .now) (λ i. omega (arith, c .before .before .before .before .before .before .before .before .before .before .before .before .before .before .before .before .before .before .before .before .before .shared-slice-known .given i)) (λ i. omega (arith, c .before .before .before .before .before .before .before .before .before .before .before .before .before .before .before .before .before .before .before .before .shared-slice-known2 .given i)) (sym (c .before .before .before .before .before .before .before .before .before .before .before .before .before .before .before .before .before .before .read-both .ensures) ∙ ap loneOf (c .before .before .before .before .before .before .before .before .before .before .before .before .before .before .before .before .enum-told .given .1))) .pair) .type-shape) (((lones (c .before .before .before .before .before .before .before .before .before .before .before .before .before .before .before .before .before .before .before .before .before .before .args .spec .now) (c .before .before .before .before .before .before .before .before .before .before .before .before .before .before .before .before .before .before .before .before .before .before .args .ty .now) (λ i. omega (arith, c .before .before .before .before .before .before .before .before .before .before .before .before .before .before .before .before .before .before .before .before .before .shared-slice-known .given i)) (λ i. omega (arith, c .before .before .before .before .before .before .before .before .before .before .before .before .before .before .before .before .before .before .before .before .shared-slice-known2 .given i)) (sym (c .before .before .before .before .before .before .before .before .before .before .before .before .before .before .before .before .before .before .read-both .ensures) ∙ ap loneOf (c .before .before .before .before .before .before .before .before .before .before .before .before .before .before .before .before .enum-told .given .1))) .pair) .type-scalar)) (type-at (((lones (c .before .before .before .before .before .before .before .before .before .before .before .before .before .before .before .before .before .before .before .before .before .before .args .spec .now) (c .before .before .before .before .before .before .before .before .before .before .before .before .before .before .before .before .before .before .before .before .before .before .args .ty .now) (λ i. omega (arith, c .before .before .before .before .before .before .before .before .before .before .before .before .before .before .before .before .before .before .before .before .before .shared-slice-known .given i)) (λ i. omega (arith, c .before .before .before .before .before .before .before .before .before .before .before .before .before .before .before .before .before .before .before .before .shared-slice-known2 .given i)) (sym (c .before .before .before .before .before .before .before .before .before .before .before .before .before .before .before .before .before .before .read-both .ensures) ∙ ap loneOf (c .before .before .before .before .before .before .before .before .before .before .before .before .before .before .before .before .enum-told .given .1))) .pair) .type-placed)))) (scalarOf 0 0 ((lones (c .before .before .before .before .before .before .before .before .before .before .before .before .before .before .before .before .before .before .before .before .before .before .args .spec .now) (c .before .before .before .before .before .before .before .before .before .before .before .before .before .before .before .before .before .before .before .before .before .before .args .ty .now) (λ i. omega (arith, c .before .before .before .before .before .before .before .before .before .before .before .before .before .before .before .before .before .before .before .before .before .shared-slice-known .given i)) (λ i. omega (arith, c .before .before .before .before .before .before .before .before .before .before .before .before .before .before .before .before .before .before .before .before .shared-slice-known2 .given i)) (sym (c .before .before .before .before .before .before .before .before .before .before .before .before .before .before .before .before .before .before .read-both .ensures) ∙ ap loneOf (c .before .before .before .before .before .before .before .before .before .before .before .before .before .before .before .before .enum-told .given .1))) .pair)) (c .before .before .before .before .before .before .before .before .before .check-scalar-at .last .1 .1 .1 .1 .1 .1 .0) (c .before .before .before .before .before .before .before .before .before .check-scalar-at .ensures ((lones (c .before .before .before .before .before .before .before .before .before .before .before .before .before .before .before .before .before .before .before .before .before .before .args .spec .now) (c .before .before .before .before .before .before .before .before .before .before .before .before .before .before .before .before .before .before .before .before .before .before .args .ty .now) (λ i. omega (arith, c .before .before .before .before .before .before .before .before .before .before .before .before .before .before .before .before .before .before .before .before .before .shared-slice-known .given i)) (λ i. omega (arith, c .before .before .before .before .before .before .before .before .before .before .before .before .before .before .before .before .before .before .before .before .shared-slice-known2 .given i)) (sym (c .before .before .before .before .before .before .before .before .before .before .before .before .before .before .before .before .before .before .read-both .ensures) ∙ ap loneOf (c .before .before .before .before .before .before .before .before .before .before .before .before .before .before .before .before .enum-told .given .1))) .pair) .0) (c .before .before .before .before .before .before .w .given .1)))
+returns-2 c =
+    let entry = c .before .before .before .before .before .before .before .before .before .before .before .before .before .before .before .before .before .before .before .before .before .before in
+    let at-shared-slice-known = c .before .before .before .before .before .before .before .before .before .before .before .before .before .before .before .before .before .before .before .before .before in
+    let at-shared-slice-known2 = c .before .before .before .before .before .before .before .before .before .before .before .before .before .before .before .before .before .before .before .before in
+    let at-read-both = c .before .before .before .before .before .before .before .before .before .before .before .before .before .before .before .before .before .before in
+    let at-enum-told = c .before .before .before .before .before .before .before .before .before .before .before .before .before .before .before .before in
+    let at-shape-at = c .before .before .before .before .before .before .before .before .before .before .before .before .before .before .before in
+    let at-shape-length = c .before .before .before .before .before .before .before .before .before .before .before .before .before .before in
+    let at-put-shape = c .before .before .before .before .before .before .before .before .before .before .before .before in
+    let at-check-scalar-at = c .before .before .before .before .before .before .before .before .before in
+    let at-w = c .before .before .before .before .before .before in
+    let at-hand-over = c .before .before in
+    let args = entry .args in
+    at-hand-over .hand-over .ensures ∙ sym (ap (λ o. deliver o (args .result .now)) (scalar-checked (lones (args .spec .now) (args .ty .now) (λ i. omega (arith, at-shared-slice-known .shared-slice-known .given i)) (λ i. omega (arith, at-shared-slice-known2 .shared-slice-known2 .given i)) (sym (at-read-both .read-both .ensures) ∙ ap loneOf (at-enum-told .enum-told .given .1))) ∙ scalar-written (((lones (args .spec .now) (args .ty .now) (λ i. omega (arith, at-shared-slice-known .shared-slice-known .given i)) (λ i. omega (arith, at-shared-slice-known2 .shared-slice-known2 .given i)) (sym (at-read-both .read-both .ensures) ∙ ap loneOf (at-enum-told .enum-told .given .1))) .pair) .type-shape) (take (at-shape-length .shape-length .result) (at-put-shape .put-shape .last .0)) (laid-behind _ (writeShape (shapeFor (at-shape-at .shape-at .result))) 0 {end = at-shape-length .shape-length .result} (omega (arith, at-shape-length .shape-length .ensures .0, at-shape-length .shape-length .ensures .1)) (omega (arith, at-shape-length .shape-length .ensures .0, at-shape-length .shape-length .ensures .1)) (at-put-shape .put-shape .ensures .1) ∙ ap writeShape (at-shape-at .shape-at .ensures maxDepth (ty (((lones (args .spec .now) (args .ty .now) (λ i. omega (arith, at-shared-slice-known .shared-slice-known .given i)) (λ i. omega (arith, at-shared-slice-known2 .shared-slice-known2 .given i)) (sym (at-read-both .read-both .ensures) ∙ ap loneOf (at-enum-told .enum-told .given .1))) .pair) .type-shape) (((lones (args .spec .now) (args .ty .now) (λ i. omega (arith, at-shared-slice-known .shared-slice-known .given i)) (λ i. omega (arith, at-shared-slice-known2 .shared-slice-known2 .given i)) (sym (at-read-both .read-both .ensures) ∙ ap loneOf (at-enum-told .enum-told .given .1))) .pair) .type-scalar)) (type-at (((lones (args .spec .now) (args .ty .now) (λ i. omega (arith, at-shared-slice-known .shared-slice-known .given i)) (λ i. omega (arith, at-shared-slice-known2 .shared-slice-known2 .given i)) (sym (at-read-both .read-both .ensures) ∙ ap loneOf (at-enum-told .enum-told .given .1))) .pair) .type-placed)))) (scalarOf 0 0 ((lones (args .spec .now) (args .ty .now) (λ i. omega (arith, at-shared-slice-known .shared-slice-known .given i)) (λ i. omega (arith, at-shared-slice-known2 .shared-slice-known2 .given i)) (sym (at-read-both .read-both .ensures) ∙ ap loneOf (at-enum-told .enum-told .given .1))) .pair)) (at-check-scalar-at .check-scalar-at .last .1 .1 .1 .1 .1 .1 .0) (at-check-scalar-at .check-scalar-at .ensures ((lones (args .spec .now) (args .ty .now) (λ i. omega (arith, at-shared-slice-known .shared-slice-known .given i)) (λ i. omega (arith, at-shared-slice-known2 .shared-slice-known2 .given i)) (sym (at-read-both .read-both .ensures) ∙ ap loneOf (at-enum-told .enum-told .given .1))) .pair) .0) (at-w .w .given .1)))
 
 returns-3 : tie.Need-returns-3
-returns-3 c = sym (deliver-refused _ (scalar-checked (lones (c .before .before .before .before .before .before .before .before .before .before .before .before .before .before .before .before .before .args .spec .now) (c .before .before .before .before .before .before .before .before .before .before .before .before .before .before .before .before .before .args .ty .now) (λ i. omega (arith, c .before .before .before .before .before .before .before .before .before .before .before .before .before .before .before .before .shared-slice-known .given i)) (λ i. omega (arith, c .before .before .before .before .before .before .before .before .before .before .before .before .before .before .before .shared-slice-known2 .given i)) (sym (c .before .before .before .before .before .before .before .before .before .before .before .before .before .read-both .ensures) ∙ ap loneOf (c .before .before .before .before .before .before .before .before .before .before .before .enum-told .given .1))) ∙ scalar-not (((lones (c .before .before .before .before .before .before .before .before .before .before .before .before .before .before .before .before .before .args .spec .now) (c .before .before .before .before .before .before .before .before .before .before .before .before .before .before .before .before .before .args .ty .now) (λ i. omega (arith, c .before .before .before .before .before .before .before .before .before .before .before .before .before .before .before .before .shared-slice-known .given i)) (λ i. omega (arith, c .before .before .before .before .before .before .before .before .before .before .before .before .before .before .before .shared-slice-known2 .given i)) (sym (c .before .before .before .before .before .before .before .before .before .before .before .before .before .read-both .ensures) ∙ ap loneOf (c .before .before .before .before .before .before .before .before .before .before .before .enum-told .given .1))) .pair) .type-shape) (take (c .before .before .before .before .before .before .before .before .before .shape-length .result) (c .before .before .before .before .before .before .before .put-shape .last .0)) (laid-behind _ (writeShape (shapeFor (c .before .before .before .before .before .before .before .before .before .before .shape-at .result))) 0 {end = c .before .before .before .before .before .before .before .before .before .shape-length .result} (omega (arith, c .before .before .before .before .before .before .before .before .before .shape-length .ensures .0, c .before .before .before .before .before .before .before .before .before .shape-length .ensures .1)) (omega (arith, c .before .before .before .before .before .before .before .before .before .shape-length .ensures .0, c .before .before .before .before .before .before .before .before .before .shape-length .ensures .1)) (c .before .before .before .before .before .before .before .put-shape .ensures .1) ∙ ap writeShape (c .before .before .before .before .before .before .before .before .before .before .shape-at .ensures maxDepth (ty (((lones (c .before .before .before .before .before .before .before .before .before .before .before .before .before .before .before .before .before .args .spec .now) (c .before .before .before .before .before .before .before .before .before .before .before .before .before .before .before .before .before .args .ty .now) (λ i. omega (arith, c .before .before .before .before .before .before .before .before .before .before .before .before .before .before .before .before .shared-slice-known .given i)) (λ i. omega (arith, c .before .before .before .before .before .before .before .before .before .before .before .before .before .before .before .shared-slice-known2 .given i)) (sym (c .before .before .before .before .before .before .before .before .before .before .before .before .before .read-both .ensures) ∙ ap loneOf (c .before .before .before .before .before .before .before .before .before .before .before .enum-told .given .1))) .pair) .type-shape) (((lones (c .before .before .before .before .before .before .before .before .before .before .before .before .before .before .before .before .before .args .spec .now) (c .before .before .before .before .before .before .before .before .before .before .before .before .before .before .before .before .before .args .ty .now) (λ i. omega (arith, c .before .before .before .before .before .before .before .before .before .before .before .before .before .before .before .before .shared-slice-known .given i)) (λ i. omega (arith, c .before .before .before .before .before .before .before .before .before .before .before .before .before .before .before .shared-slice-known2 .given i)) (sym (c .before .before .before .before .before .before .before .before .before .before .before .before .before .read-both .ensures) ∙ ap loneOf (c .before .before .before .before .before .before .before .before .before .before .before .enum-told .given .1))) .pair) .type-scalar)) (type-at (((lones (c .before .before .before .before .before .before .before .before .before .before .before .before .before .before .before .before .before .args .spec .now) (c .before .before .before .before .before .before .before .before .before .before .before .before .before .before .before .before .before .args .ty .now) (λ i. omega (arith, c .before .before .before .before .before .before .before .before .before .before .before .before .before .before .before .before .shared-slice-known .given i)) (λ i. omega (arith, c .before .before .before .before .before .before .before .before .before .before .before .before .before .before .before .shared-slice-known2 .given i)) (sym (c .before .before .before .before .before .before .before .before .before .before .before .before .before .read-both .ensures) ∙ ap loneOf (c .before .before .before .before .before .before .before .before .before .before .before .enum-told .given .1))) .pair) .type-placed)))) (scalarOf 0 0 ((lones (c .before .before .before .before .before .before .before .before .before .before .before .before .before .before .before .before .before .args .spec .now) (c .before .before .before .before .before .before .before .before .before .before .before .before .before .before .before .before .before .args .ty .now) (λ i. omega (arith, c .before .before .before .before .before .before .before .before .before .before .before .before .before .before .before .before .shared-slice-known .given i)) (λ i. omega (arith, c .before .before .before .before .before .before .before .before .before .before .before .before .before .before .before .shared-slice-known2 .given i)) (sym (c .before .before .before .before .before .before .before .before .before .before .before .before .before .read-both .ensures) ∙ ap loneOf (c .before .before .before .before .before .before .before .before .before .before .before .enum-told .given .1))) .pair)) (c .before .before .before .before .check-scalar-at .last .1 .1 .1 .1 .1 .1 .0) (c .before .before .before .before .check-scalar-at .ensures ((lones (c .before .before .before .before .before .before .before .before .before .before .before .before .before .before .before .before .before .args .spec .now) (c .before .before .before .before .before .before .before .before .before .before .before .before .before .before .before .before .before .args .ty .now) (λ i. omega (arith, c .before .before .before .before .before .before .before .before .before .before .before .before .before .before .before .before .shared-slice-known .given i)) (λ i. omega (arith, c .before .before .before .before .before .before .before .before .before .before .before .before .before .before .before .shared-slice-known2 .given i)) (sym (c .before .before .before .before .before .before .before .before .before .before .before .before .before .read-both .ensures) ∙ ap loneOf (c .before .before .before .before .before .before .before .before .before .before .before .enum-told .given .1))) .pair) .0) (c .before .w2 .given .1)))
+returns-3 c =
+    let entry = c .before .before .before .before .before .before .before .before .before .before .before .before .before .before .before .before .before in
+    let at-shared-slice-known = c .before .before .before .before .before .before .before .before .before .before .before .before .before .before .before .before in
+    let at-shared-slice-known2 = c .before .before .before .before .before .before .before .before .before .before .before .before .before .before .before in
+    let at-read-both = c .before .before .before .before .before .before .before .before .before .before .before .before .before in
+    let at-enum-told = c .before .before .before .before .before .before .before .before .before .before .before in
+    let at-shape-at = c .before .before .before .before .before .before .before .before .before .before in
+    let at-shape-length = c .before .before .before .before .before .before .before .before .before in
+    let at-put-shape = c .before .before .before .before .before .before .before in
+    let at-check-scalar-at = c .before .before .before .before in
+    let args = entry .args in
+    sym (deliver-refused _ (scalar-checked (lones (args .spec .now) (args .ty .now) (λ i. omega (arith, at-shared-slice-known .shared-slice-known .given i)) (λ i. omega (arith, at-shared-slice-known2 .shared-slice-known2 .given i)) (sym (at-read-both .read-both .ensures) ∙ ap loneOf (at-enum-told .enum-told .given .1))) ∙ scalar-not (((lones (args .spec .now) (args .ty .now) (λ i. omega (arith, at-shared-slice-known .shared-slice-known .given i)) (λ i. omega (arith, at-shared-slice-known2 .shared-slice-known2 .given i)) (sym (at-read-both .read-both .ensures) ∙ ap loneOf (at-enum-told .enum-told .given .1))) .pair) .type-shape) (take (at-shape-length .shape-length .result) (at-put-shape .put-shape .last .0)) (laid-behind _ (writeShape (shapeFor (at-shape-at .shape-at .result))) 0 {end = at-shape-length .shape-length .result} (omega (arith, at-shape-length .shape-length .ensures .0, at-shape-length .shape-length .ensures .1)) (omega (arith, at-shape-length .shape-length .ensures .0, at-shape-length .shape-length .ensures .1)) (at-put-shape .put-shape .ensures .1) ∙ ap writeShape (at-shape-at .shape-at .ensures maxDepth (ty (((lones (args .spec .now) (args .ty .now) (λ i. omega (arith, at-shared-slice-known .shared-slice-known .given i)) (λ i. omega (arith, at-shared-slice-known2 .shared-slice-known2 .given i)) (sym (at-read-both .read-both .ensures) ∙ ap loneOf (at-enum-told .enum-told .given .1))) .pair) .type-shape) (((lones (args .spec .now) (args .ty .now) (λ i. omega (arith, at-shared-slice-known .shared-slice-known .given i)) (λ i. omega (arith, at-shared-slice-known2 .shared-slice-known2 .given i)) (sym (at-read-both .read-both .ensures) ∙ ap loneOf (at-enum-told .enum-told .given .1))) .pair) .type-scalar)) (type-at (((lones (args .spec .now) (args .ty .now) (λ i. omega (arith, at-shared-slice-known .shared-slice-known .given i)) (λ i. omega (arith, at-shared-slice-known2 .shared-slice-known2 .given i)) (sym (at-read-both .read-both .ensures) ∙ ap loneOf (at-enum-told .enum-told .given .1))) .pair) .type-placed)))) (scalarOf 0 0 ((lones (args .spec .now) (args .ty .now) (λ i. omega (arith, at-shared-slice-known .shared-slice-known .given i)) (λ i. omega (arith, at-shared-slice-known2 .shared-slice-known2 .given i)) (sym (at-read-both .read-both .ensures) ∙ ap loneOf (at-enum-told .enum-told .given .1))) .pair)) (at-check-scalar-at .check-scalar-at .last .1 .1 .1 .1 .1 .1 .0) (at-check-scalar-at .check-scalar-at .ensures ((lones (args .spec .now) (args .ty .now) (λ i. omega (arith, at-shared-slice-known .shared-slice-known .given i)) (λ i. omega (arith, at-shared-slice-known2 .shared-slice-known2 .given i)) (sym (at-read-both .read-both .ensures) ∙ ap loneOf (at-enum-told .enum-told .given .1))) .pair) .0) (c .before .w2 .given .1)))
 
 pub check-scalar-spec : {M : Type 1} → statement M
 check-scalar-spec =
     tie.close
     (tie.spec
     read-both-requires
-    enum-known-read
-    returns
     enum-told
+    enum-told-2
+    as-written-requires
+    returns
     shape-at-requires
     shape-length-requires
     slice-aggregate-put-shape

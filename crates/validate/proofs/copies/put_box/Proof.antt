@@ -1,4 +1,3 @@
-use borrow.Author.Needs.{needs}
 use native.Mathlib.Omega.{arith}
 use lib.ListN.{length-set}
 use Rattle.validate.proofs.CopyLaws.{six-stores}
@@ -16,6 +15,9 @@ add-out c = search needs
 
 slice-write-out-2 : tie.Need-slice-write-out-2
 slice-write-out-2 c = simp length-set (omega arith)
+
+cast-out : tie.Need-cast-out
+cast-out c = search needs
 
 add-out-2 : tie.Need-add-out-2
 add-out-2 c = search needs
@@ -35,6 +37,9 @@ add-out-4 c = search needs
 slice-write-out-5 : tie.Need-slice-write-out-5
 slice-write-out-5 c = simp length-set (omega arith)
 
+cast-out-2 : tie.Need-cast-out-2
+cast-out-2 c = search needs
+
 add-out-5 : tie.Need-add-out-5
 add-out-5 c = search needs
 
@@ -45,7 +50,7 @@ same-length : tie.Need-same-length
 same-length c = search needs
 
 returns : tie.Need-returns
-returns c = six-stores _ _ _ (c .pre)
+returns c = six-stores _ _ _ (c .pre .0)
 
 pub put-box-spec : {M : Type 1} → statement M
 put-box-spec =
@@ -54,12 +59,14 @@ put-box-spec =
     slice-write-out
     add-out
     slice-write-out-2
+    cast-out
     add-out-2
     slice-write-out-3
     add-out-3
     slice-write-out-4
     add-out-4
     slice-write-out-5
+    cast-out-2
     add-out-5
     slice-write-out-6
     same-length

@@ -43,6 +43,13 @@ among-more (n ∷ ns) ms h k e = go (eqb k n) refl e (λ f. among-more ns ms (h 
     go true x e rest = rw (eqb-true k n x) (h .0)
     go false x e rest = rest e
 
+module _ {A : Type 0} {ns : List ℕ} where
+  pub accepted-with : {a : A} → RefusedWith ns (accepted a)
+  accepted-with = record { number-is = λ k p e. let z : _≡_ {A = ℕ} 0 1 = cc in absurd (omega arith) }
+
+  pub refused-with : {j q : ℕ} → Among ns j → RefusedWith {A = A} ns (refused j q)
+  refused-with {j} h = record { number-is = λ k p e. let w : j ≡ k = cc in rw (← w) h }
+
 -- ---- readers
 
 -- Where the reader stops, it does so with a number of these. A record, so that the reader can be read off a goal.
@@ -183,9 +190,9 @@ lone-number : {A : Type 0} (size : ℕ) (r : Read A) → ((k p : ℕ) → r ≡ 
 lone-number {A} size (got a next) h = go (ltb next size)
   where
     go : (t : Bool) → RefusedWith {A = A} ofLone (cond t (refused trailing next) (accepted a))
-    go true = refl
-    go false = tt
-lone-number size (stopped j q) h = among-more ofRecords ofLone (refl, (refl, (refl, (refl, (refl, tt))))) j (h j q refl)
+    go true = refused-with refl
+    go false = accepted-with
+lone-number size (stopped j q) h = refused-with (among-more ofRecords ofLone (refl, (refl, (refl, (refl, (refl, tt))))) j (h j q refl))
 
 -- "A type handed in, of any bytes, gets its result or one of thirteen numbered refusals": 1 to 6.
 pub lone-numbered : (s : List ℕ) → RefusedWith ofLone (lone s)
@@ -235,8 +242,8 @@ module _ (s : List ℕ) where
       stops-give)
 
 outcome-number : {A : Type 0} (ns : List ℕ) (r : Read A) → ((k p : ℕ) → r ≡ stopped k p → Among ns k) → RefusedWith ns (outcomeOf r)
-outcome-number ns (got a next) h = tt
-outcome-number ns (stopped j q) h = h j q refl
+outcome-number ns (got a next) h = accepted-with
+outcome-number ns (stopped j q) h = refused-with (h j q refl)
 
 -- "Read to the end, rule refusals passed over", a sheet meets no refusal but "1 to 5, 11 and 12".
 pub skim-numbered : (s : List ℕ) → RefusedWith ofReading (skim s)
@@ -250,7 +257,7 @@ well-formed-or-refused s result scratch r c = go (skim s) refl
   where
     go : (o : Outcome (List Step)) → skim s ≡ o → ((xs : List Step) × WellFormed s result scratch xs) ⊎ ((k : ℕ) × (p : ℕ) × (skim s ≡ refused k p) × Among ofReading k)
     go (accepted xs) e = inl (xs, record { read = e; result-holds = r; scratch-holds = c })
-    go (refused k p) e = inr (k, p, e, rw e at (skim-numbered s))
+    go (refused k p) e = inr (k, p, e, skim-numbered s .number-is k p e)
 
 -- ---- the rules: 5, 8, 9 and 10
 
@@ -308,25 +315,25 @@ module _ (s : List ℕ) where
   stops-sheet zero st = stops-toEnd s st (stops-here (stop overflow) λ p. stops-stop refl)
   stops-sheet (suc n) st = stops-toEnd s st (stops-bind _ (stops-here (workFrom s st) (stops-work st)) λ st₁. stops-sheet n st₁)
 
-pub mapped-numbered : {A B : Type 0} (ns : List ℕ) (f : A → B) (o : Outcome A) → RefusedWith ns o → RefusedWith ns (mapped f o)
-mapped-numbered ns f (accepted a) h = tt
-mapped-numbered ns f (refused k p) h = h
+pub mapped-numbered : {A B : Type 0} {ns : List ℕ} (f : A → B) (o : Outcome A) → RefusedWith ns o → RefusedWith ns (mapped f o)
+mapped-numbered f (accepted a) h = accepted-with
+mapped-numbered f (refused k p) h = refused-with (h .number-is k p refl)
 
 -- The run of a sheet, of any bytes.
 pub run-numbered : (s : List ℕ) → RefusedWith ofSheet (sheetRun s)
 unfolding sheetRun
-run-numbered s = mapped-numbered ofSheet reverse (outcomeOf (sheetFrom s maxSteps [] 0)) (outcome-number ofSheet (sheetFrom s maxSteps [] 0) (stops-sheet s maxSteps [] .number-is 0))
+run-numbered s = mapped-numbered reverse (outcomeOf (sheetFrom s maxSteps [] 0)) (outcome-number ofSheet (sheetFrom s maxSteps [] 0) (stops-sheet s maxSteps [] .number-is 0))
 
 -- ---- the sheet call: 1 to 5 and 7 to 12
 
 handed-numbered : (size : ℕ) (o : Outcome (List Ty)) (result scratch : List ℕ) → RefusedWith ofSheet o → RefusedWith ofSheetCall (answerIn (handOver size o result scratch))
 unfolding handOver
-handed-numbered size (refused k p) result scratch h = among-more ofSheet ofSheetCall (refl, (refl, (refl, (refl, (refl, (refl, (refl, (refl, (refl, (refl, tt)))))))))) k h
+handed-numbered size (refused k p) result scratch h = refused-with (among-more ofSheet ofSheetCall (refl, (refl, (refl, (refl, (refl, (refl, (refl, (refl, (refl, (refl, tt)))))))))) k (h .number-is k p refl))
 handed-numbered size (accepted ts) result scratch h = go (leb (length (writeTypes ts)) (length result))
   where
     go : (t : Bool) → RefusedWith ofSheetCall (answerIn (cond t (called (accepted (tally (length ts) (length (writeTypes ts)))) (atFront (writeTypes ts) result) scratch) (called (refused tooShort size) result scratch)))
-    go true = tt
-    go false = refl
+    go true = accepted-with
+    go false = refused-with refl
 
 -- "A sheet handed in, of any bytes, gets its result or one of thirteen numbered refusals": with any two buffers, 1 to 5 and 7 to 12.
 pub call-numbered : (s result scratch : List ℕ) → RefusedWith ofSheetCall (answerIn (sheetCall s result scratch))
@@ -334,5 +341,5 @@ unfolding sheetCall
 call-numbered s result scratch = go (ltb (length scratch) scratchBytes)
   where
     go : (t : Bool) → RefusedWith ofSheetCall (answerIn (cond t (called (refused tooShort 0) result scratch) (handOver (length s) (sheetRun s) result (zeroed scratch))))
-    go true = refl
+    go true = refused-with refl
     go false = handed-numbered (length s) (sheetRun s) result (zeroed scratch) (run-numbered s)

@@ -2,8 +2,9 @@
 -- have, as lists of their names.
 use Prim.Native.Nat.{ℕ}
 use mathlib.Core.List.{List, [], _∷_}
+use mathlib.Core.Path.{_≡_}
 use Rattle.model.specs.Refusals.{ended, unmarked, outOfRange, oversized, tooMany, trailing, tooShort, unpervaded, wrongScalar, wrongShape, underflow, overflow, Among}
-use Rattle.format.specs.Outcome.{Outcome, accepted, refused}
+use Rattle.format.specs.Outcome.{Outcome, refused}
 use Rattle.machine.specs.Call.{Tally, Called, called}
 
 -- "for 1 to 5 while reading": those of a record or a type
@@ -26,10 +27,9 @@ ofSheet = ended ∷ unmarked ∷ outOfRange ∷ oversized ∷ tooMany ∷ unperv
 abbrev pub ofSheetCall : List ℕ
 ofSheetCall = ended ∷ unmarked ∷ outOfRange ∷ oversized ∷ tooMany ∷ tooShort ∷ unpervaded ∷ wrongScalar ∷ wrongShape ∷ underflow ∷ overflow ∷ []
 
--- An outcome is accepted, or refused with one of these.
-abbrev pub RefusedWith : {A : Type 0} → List ℕ → Outcome A → Type 0
-RefusedWith ns (accepted a) = Unit {0}
-RefusedWith ns (refused k p) = Among ns k
+-- An outcome that is refused is refused with one of these. A record, so that the outcome can be read off a goal.
+pub record RefusedWith {A : Type 0} (ns : List ℕ) (o : Outcome A) : Type 0 where
+  pub number-is : (k p : ℕ) → o ≡ refused k p → Among ns k
 
 -- the answer of the sheet call, its buffers aside
 abbrev pub answerIn : Called → Outcome Tally

@@ -1,0 +1,87 @@
+-- The numbers of the table occur: for each of its lists a call that is refused with each number that the list has and the reading of a
+-- type does not give it already. Each holds by computation.
+use Prim.Native.Nat.{ℕ, zero, suc, _^_}
+use mathlib.Core.List.{List, [], _∷_, _++_}
+use mathlib.Core.Path.{_≡_, refl}
+use lib.Ieee.{nan}
+use Rattle.model.specs.Refusals.{ended, unmarked, outOfRange, oversized, tooMany, trailing, tooShort, unpervaded, wrongScalar, wrongShape, notASize}
+use Rattle.model.specs.Types.{inside, below}
+use Rattle.model.specs.Within.{All}
+use Rattle.format.specs.Reader.{byte, judged, number, bytesOf}
+use Rattle.format.specs.Records.{code, kindOf, writeShape, writeScalar, readMark, readDim, readDims, shapeFrom, boxFrom, scalarFrom, readTy}
+use Rattle.format.specs.Outcome.{lone, deliver}
+use Rattle.rules.specs.Sizes.{cmpDim, compatible}
+use Rattle.rules.specs.Shapes.{isAny, rowCount}
+use Rattle.rules.specs.Order.{codeOf}
+use Rattle.rules.specs.Scalars.{supersetCodes, supersetOf}
+use Rattle.rules.specs.Pervade.{together, pervadeDims, pervadeClosing, pervade}
+use Rattle.rules.specs.Types.{whollyAny, copiesFor, asBoxes}
+use Rattle.validation.specs.CheckShape.{agree, mismatch, shapeMismatch, checkShape}
+use Rattle.validation.specs.CheckScalar.{checkScalar}
+use Rattle.validation.specs.Validate.{validate, checkShapeOnly}
+use Rattle.machine.specs.Call.{sheetCall}
+use Rattle.number.specs.Sizes.{sizesFrom}
+use Rattle.number.specs.Examples.{half, one, eightOnes}
+use Rattle.ty.specs.Calls.{deliverBoxes}
+use Rattle.val.specs.Values.{valueSpec, numsScalar, valueAsDim, valueAsDims}
+use Rattle.velgrodis.specs.Answers.{no, deliverSizes}
+use Rattle.numbered.specs.Calls.{Call, vg-dim-cmp, vg-read, vg-shape-record, vg-as-boxes, vg-pervade, vg-check-shape, vg-validate, vg-val-spec, vg-as-dim, vg-as-dims, vg-nums-scalar, vg-check-sheet, answerOf}
+
+-- a call, with the number and the place that it is refused with
+pub data Example : Type 0 where
+  theRefusal : Call → ℕ → ℕ → Example
+
+abbrev pub Holds : Example → Type 0
+Holds (theRefusal c k p) = answerOf c ≡ no k p
+
+-- a kind under [], and under [n]
+abbrev scalar : ℕ → List ℕ
+scalar kind = 0x53 ∷ 0x48 ∷ 0 ∷ 255 ∷ 0x53 ∷ 0x43 ∷ kind ∷ []
+
+abbrev sized : ℕ → ℕ → List ℕ
+sized n kind = 0x53 ∷ 0x48 ∷ 1 ∷ 255 ∷ n ∷ 0 ∷ 0 ∷ 0 ∷ 0 ∷ 0 ∷ 0 ∷ 0 ∷ 0x53 ∷ 0x43 ∷ kind ∷ []
+
+-- n times [] of an All box, and nothing in the last
+abbrev boxes : ℕ → List ℕ
+boxes zero = []
+boxes (suc n) = 0x53 ∷ 0x48 ∷ 0 ∷ 255 ∷ 0x53 ∷ 0x43 ∷ 8 ∷ 0x42 ∷ 0x58 ∷ 1 ∷ boxes n
+
+unfoldable pub examples : List Example
+examples =
+    -- 2^60 as a size, the second of two
+    theRefusal (vg-dim-cmp 3 (2 ^ 60)) oversized 1
+    -- a type's reading: 1 to 6
+    ∷ theRefusal (vg-read (0x53 ∷ 0x48 ∷ 1 ∷ [])) ended 0
+    ∷ theRefusal (vg-read (0x58 ∷ 0x58 ∷ [])) unmarked 0
+    ∷ theRefusal (vg-read (0x53 ∷ 0x48 ∷ 9 ∷ [])) outOfRange 0
+    ∷ theRefusal (vg-read (0x53 ∷ 0x48 ∷ 1 ∷ 255 ∷ 0 ∷ 0 ∷ 0 ∷ 0 ∷ 0 ∷ 0 ∷ 0 ∷ 0x10 ∷ [])) oversized 0
+    ∷ theRefusal (vg-read (boxes 8)) tooMany 80
+    ∷ theRefusal (vg-read (scalar 3 ++ (0 ∷ []))) trailing 7
+    -- a result too short; a 32nd copy
+    ∷ theRefusal (vg-shape-record (scalar 3) (0 ∷ 0 ∷ 0 ∷ [])) tooShort 0
+    ∷ theRefusal (vg-as-boxes (0x53 ∷ 0x48 ∷ 1 ∷ 255 ∷ 32 ∷ 0 ∷ 0 ∷ 0 ∷ 0 ∷ 0 ∷ 0 ∷ 0 ∷ 0x53 ∷ 0x43 ∷ 8 ∷ 0x42 ∷ 0x58 ∷ 0 ∷ []) []) tooMany 0
+    -- a flag and a side that are none, before anything is read; [3] with [4]; [2] on [3]; Num on Char
+    ∷ theRefusal (vg-pervade 4 [] [] []) outOfRange 0
+    ∷ theRefusal (vg-pervade 0 (sized 3 3) (sized 4 3) []) unpervaded 0
+    ∷ theRefusal (vg-check-shape 3 [] [] []) outOfRange 0
+    ∷ theRefusal (vg-check-shape 0 (sized 2 3) (sized 3 3) []) wrongShape 0
+    ∷ theRefusal (vg-validate 0 (scalar 3) (scalar 6) []) wrongScalar 0
+    ∷ theRefusal (vg-validate 0 (sized 2 3) (sized 3 3) []) wrongShape 0
+    -- a kind of value that is none; a fraction as a size; more than eight numbers; a NaN among them; no room for their sizes
+    ∷ theRefusal (vg-as-dim 3 half [] []) outOfRange 0
+    ∷ theRefusal (vg-as-dim 0 half [] []) notASize 0
+    ∷ theRefusal (vg-as-dims 1 half (one ∷ eightOnes) [] []) outOfRange 0
+    ∷ theRefusal (vg-as-dims 1 half (one ∷ nan ∷ []) [] []) notASize 1
+    ∷ theRefusal (vg-as-dims 1 half (one ∷ []) [] []) tooShort 0
+    ∷ theRefusal (vg-val-spec 0 half [] [] []) notASize 0
+    ∷ theRefusal (vg-nums-scalar [] []) tooShort 0
+    -- a sheet without scratch
+    ∷ theRefusal (vg-check-sheet [] [] []) tooShort 0
+    ∷ []
+
+pub examples-hold : All Holds examples
+unfolding examples answerOf lone deliver readTy shapeFrom scalarFrom boxFrom readMark readDims readDim judged byte number bytesOf code kindOf writeShape writeScalar
+    cmpDim compatible isAny rowCount codeOf supersetCodes supersetOf together pervadeDims pervadeClosing pervade whollyAny copiesFor asBoxes agree
+    mismatch shapeMismatch checkShape checkScalar validate checkShapeOnly sheetCall sizesFrom deliverBoxes valueSpec numsScalar valueAsDim valueAsDims
+    deliverSizes inside below
+examples-hold = (refl, (refl, (refl, (refl, (refl, (refl, (refl, (refl, (refl, (refl, (refl, (refl, (refl, (refl, (refl, (refl, (refl, (refl, (refl, (refl, (refl, (refl, (refl, tt)))))))))))))))))))))))

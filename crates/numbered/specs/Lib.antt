@@ -1,0 +1,5 @@
+pub mod Calls
+pub mod CallLaws
+pub mod ValueLaws
+pub mod Numbered
+pub mod Examples

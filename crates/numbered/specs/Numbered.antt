@@ -1,0 +1,315 @@
+-- Demand 1, of every public call: whatever is handed in and lent, an answer that is a refusal has one of the numbers that the table
+-- says of the call, and these are of the thirteen.
+use Prim.Native.Nat.{ℕ, zero, suc}
+use native.Mathlib.Omega.{arith}
+use mathlib.Core.Bool.{Bool}
+use mathlib.Core.List.{List}
+use mathlib.Core.Option.{Option, none, some}
+use mathlib.Core.Path.{refl}
+use lib.Dec.{leb}
+use Rattle.model.specs.Limits.{maxFields}
+use Rattle.model.specs.Refusals.{thirteen, Among}
+use Rattle.model.specs.Types.{Dim, static, unknown, Shape, plain, boxAny, boxAll, boxDef, Ty, ty, shapeOf, scalarOf}
+use Rattle.model.specs.Within.{All}
+use Rattle.format.specs.Records.{writeShape, writeScalar, writeTy}
+use Rattle.format.specs.Outcome.{Outcome, accepted, refused, mapped, bound, both, lone, shapeRecord, scalarRecord}
+use Rattle.rules.specs.Sizes.{Order, less, same, more, cmpDim, cmpDefined, larger, joinDim, compatible, rowCompatible}
+use Rattle.rules.specs.Shapes.{isScalar, isAny, rowCount, rank, rowShape, compatibleShapes, mergeFrom, joinShapes}
+use Rattle.rules.specs.Order.{compare}
+use Rattle.rules.specs.Scalars.{supersetOf, compatibleScalars, compatibleWithBoxes, union, unrefine}
+use Rattle.rules.specs.Pervade.{pervade}
+use Rattle.rules.specs.Types.{anyTy, joinTypes, intoRow, intoFirstRow, intoLastRow, intoNthRow, unboxed, copiesFor, asBoxes, Stretch, stretch, fieldPlace}
+use Rattle.validation.specs.CheckShape.{Side, shapeMismatch, checkShape}
+use Rattle.validation.specs.Validate.{validate, checkScalarOnly, checkShapeOnly}
+use Rattle.validation.specs.Claims.{ofValidation, Listed}
+use Rattle.validation.specs.RefusalsLaws.{validate-listed, checkScalarOnly-listed}
+use Rattle.machine.specs.Call.{sheetCall}
+use Rattle.machine.specs.Steps.{maxFlag, fillsTop, fillsBelow}
+use Rattle.record.specs.Answers.{nothing}
+use Rattle.walk.specs.Whole.{ofTypes, ofScalars, ofScalar}
+use Rattle.shape_calls.specs.Calls.{isSize, sizeAt, onSizes, cmpCall, cmpDefinedCall, maxCall, joinSizesCall, compatibleCall, rowCompatibleCall, onShape}
+use Rattle.shape_calls.specs.Calls.{onShapes, mergeCall, joinCall, rowCall, pervaded, pervadeCall, compatibleShapesCall, isAnyCall, isScalarCall, rowCountCall, rankCall}
+use Rattle.join.specs.Calls.{joinCall as joinTypesCall}
+use Rattle.val.specs.Values.{valueTy, valueSpec, valueScalar, numsScalar, valueRowCount, valueRank, valueAsDim, valueAsDims, valueRow, valueFirstRow, valueLastRow}
+use Rattle.velgrodis.specs.declared.Answer.{Answer}
+use Rattle.velgrodis.specs.Answers.{orNothing, numbered, counted, told, tested, dimmed, sized, sizedOrNone, ordered, compared, stretched, found}
+use Rattle.velgrodis.specs.Codes.{pervadeFlagged, sideFor, sided, handedIn}
+use Rattle.demand.specs.Numbers.{ofLone, ofSheetCall, RefusedWith}
+use Rattle.demand.specs.Numbered.{among-more, accepted-with, refused-with, lone-numbered, mapped-numbered, call-numbered}
+use Rattle.numbered.specs.Calls.{Call, answerOf, ofSizes, ofWritten, ofPervaded, ofShapeChecked, ofValidated, ofSize, ofSizesWritten, ofResult, numbersOf, Told}
+use Rattle.numbered.specs.Calls.{vg-dim-cmp, vg-dim-cmp-defined, vg-dim-max, vg-dim-join, vg-dim-compatible, vg-dim-row-compatible, vg-merge, vg-join-shapes, vg-compatible-shapes, vg-row-shape, vg-shape-is-any}
+use Rattle.numbered.specs.Calls.{vg-shape-is-scalar, vg-row-count, vg-rank, vg-pervade, vg-union, vg-unrefine, vg-superset, vg-compatible-scalars, vg-compatible-with-boxes, vg-compare, vg-read, vg-shape-record}
+use Rattle.numbered.specs.Calls.{vg-scalar-record, vg-row, vg-first-row, vg-last-row, vg-unboxed, vg-as-boxes, vg-nth-row, vg-field, vg-join, vg-validate, vg-check-shape, vg-check-scalar, vg-val-ty, vg-val-spec}
+use Rattle.numbered.specs.Calls.{vg-val-scalar, vg-as-dims, vg-val-row-count, vg-val-rank, vg-as-dim, vg-val-row, vg-val-first-row, vg-val-last-row, vg-nums-scalar, vg-check-sheet}
+use Rattle.numbered.specs.CallLaws.{more-numbered, either-numbered, bound-numbered, both-numbered, Given, answered-told, written-told, boxes-told, sizes-told, row-told, sheet-told}
+use Rattle.numbered.specs.ValueLaws.{ty-with, row-count-with, spec-with, as-dim-with, as-dims-with, handed-with}
+
+-- ---- answers alone are no refusals
+
+ordered-given : (o : Order) → Given (ordered o)
+ordered-given less = λ e. absurd (omega arith)
+ordered-given same = λ e. absurd (omega arith)
+ordered-given more = λ e. absurd (omega arith)
+
+orNothing-given : {A : Type 0} (f : A → Answer) → ((a : A) → Given (f a)) → (o : Option A) → Given (orNothing f o)
+orNothing-given f g none = λ e. absurd (omega arith)
+orNothing-given f g (some a) = g a
+
+stretched-given : (s : Stretch) → Given (stretched s)
+stretched-given (stretch start length) = λ e. absurd (omega arith)
+
+module _ (ns : List ℕ) where
+  counted-told : (o : Outcome ℕ) → RefusedWith ns o → Told ns (counted o)
+  counted-told o h = answered-told ns numbered (λ n e. absurd (omega arith)) o h
+
+  tested-told : (o : Outcome Bool) → RefusedWith ns o → Told ns (tested o)
+  tested-told o h = answered-told ns told (λ t e. absurd (omega arith)) o h
+
+  sized-told : (o : Outcome Dim) → RefusedWith ns o → Told ns (sized o)
+  sized-told o h = answered-told ns dimmed (λ d e. absurd (omega arith)) o h
+
+  sizedOrNone-told : (o : Outcome (Option Dim)) → RefusedWith ns o → Told ns (sizedOrNone o)
+  sizedOrNone-told o h = answered-told ns (orNothing dimmed) (orNothing-given dimmed (λ d e. absurd (omega arith))) o h
+
+  compared-told : (o : Outcome Order) → RefusedWith ns o → Told ns (compared o)
+  compared-told o h = answered-told ns ordered ordered-given o h
+
+  found-told : (o : Outcome (Option Stretch)) → RefusedWith ns o → Told ns (found o)
+  found-told o h = answered-told ns (orNothing stretched) (orNothing-given stretched stretched-given) o h
+
+-- ---- the numbers of a type that is read are among those of each call on types
+
+lone-lone : All (Among ofLone) ofLone
+lone-lone = (refl, (refl, (refl, (refl, (refl, (refl, tt))))))
+
+lone-written : All (Among ofWritten) ofLone
+lone-written = (refl, (refl, (refl, (refl, (refl, (refl, tt))))))
+
+lone-pervaded : All (Among ofPervaded) ofLone
+lone-pervaded = (refl, (refl, (refl, (refl, (refl, (refl, tt))))))
+
+lone-shape-checked : All (Among ofShapeChecked) ofLone
+lone-shape-checked = (refl, (refl, (refl, (refl, (refl, (refl, tt))))))
+
+lone-validated : All (Among ofValidated) ofLone
+lone-validated = (refl, (refl, (refl, (refl, (refl, (refl, tt))))))
+
+lone-size : All (Among ofSize) ofLone
+lone-size = (refl, (refl, (refl, (refl, (refl, (refl, tt))))))
+
+lone-sizes-written : All (Among ofSizesWritten) ofLone
+lone-sizes-written = (refl, (refl, (refl, (refl, (refl, (refl, tt))))))
+
+-- ---- sizes and types that are read
+
+size-with : (p n : ℕ) → RefusedWith ofSizes (sizeAt p n)
+size-with p n = either-numbered (isSize n) accepted-with (refused-with refl)
+
+sizes-with : {C : Type 0} (f : Dim → Dim → C) (a b : ℕ) → RefusedWith ofSizes (onSizes f a b)
+sizes-with f a b = both-numbered (λ d e. accepted (f d e)) (sizeAt 0 a) (sizeAt 1 b) (size-with 0 a) (size-with 1 b) (λ d e. accepted-with)
+
+module _ {ns : List ℕ} (all : All (Among ns) ofLone) where
+  lone-with : (s : List ℕ) → RefusedWith ns (lone s)
+  lone-with s = more-numbered ofLone all (lone-numbered s)
+
+  of-one : {C : Type 0} (f : Ty → C) (s : List ℕ) → RefusedWith ns (mapped f (lone s))
+  of-one f s = mapped-numbered f (lone s) (lone-with s)
+
+  from-one : {C : Type 0} (f : Ty → Outcome C) → ((t : Ty) → RefusedWith ns (f t)) → (s : List ℕ) → RefusedWith ns (bound f (lone s))
+  from-one f h s = bound-numbered f (lone s) (lone-with s) h
+
+  from-two : {C : Type 0} (f : Ty → Ty → Outcome C) → ((t u : Ty) → RefusedWith ns (f t u)) → (a b : List ℕ) → RefusedWith ns (both f (lone a) (lone b))
+  from-two f h a b = both-numbered f (lone a) (lone b) (lone-with a) (lone-with b) h
+
+  -- what a rule that refuses nothing says of one type or two
+  of-shape : {C : Type 0} (f : Shape → C) (s : List ℕ) → RefusedWith ns (onShape (λ x. accepted (f x)) s)
+  of-shape f s = from-one (λ t. accepted (f (shapeOf t))) (λ t. accepted-with) s
+
+  of-shapes : {C : Type 0} (f : Shape → Shape → C) (a b : List ℕ) → RefusedWith ns (onShapes (λ x y. accepted (f x y)) a b)
+  of-shapes f a b = from-two (λ t u. accepted (f (shapeOf t) (shapeOf u))) (λ t u. accepted-with) a b
+
+  of-types : {C : Type 0} (f : Ty → Ty → C) (a b : List ℕ) → RefusedWith ns (ofTypes f a b)
+  of-types f a b = from-two (λ t u. accepted (f t u)) (λ t u. accepted-with) a b
+
+  -- a side that is none is 3
+  side-with : (n : ℕ) → RefusedWith ns (sideFor n)
+  side-with zero = accepted-with
+  side-with (suc zero) = accepted-with
+  side-with (suc (suc zero)) = accepted-with
+  side-with (suc (suc (suc n))) = refused-with (all .1 .1 .0)
+
+  sided-with : (f : Side → Ty → Ty → Outcome Ty) → ((side : Side) (s t : Ty) → RefusedWith ns (f side s t)) → (n : ℕ) (spec t : List ℕ) → RefusedWith ns (sided f n spec t)
+  sided-with f h n spec t =
+      bound-numbered (λ side. both (λ s u. mapped writeTy (f side s u)) (lone spec) (lone t)) (sideFor n) (side-with n) λ side.
+      from-two (λ s u. mapped writeTy (f side s u)) (λ s u. mapped-numbered writeTy (f side s u) (h side s u)) spec t
+
+-- ---- the rules
+
+pervaded-with : (o : Option Shape) → RefusedWith ofPervaded (pervaded o)
+pervaded-with none = refused-with refl
+pervaded-with (some s) = accepted-with
+
+pervade-with : (f g : Bool) (a b : List ℕ) → RefusedWith ofPervaded (pervadeCall f g a b)
+pervade-with f g a b = from-two lone-pervaded (λ t u. pervaded (pervade f g (shapeOf t) (shapeOf u))) (λ t u. pervaded-with (pervade f g (shapeOf t) (shapeOf u))) a b
+
+flagged-with : (flag : ℕ) (a b : List ℕ) → RefusedWith ofPervaded (pervadeFlagged flag a b)
+flagged-with flag a b = either-numbered (leb flag maxFlag) (pervade-with (fillsTop flag) (fillsBelow flag) a b) (refused-with refl)
+
+copies-with : (d : Dim) (t : Ty) → RefusedWith ofWritten (copiesFor d t)
+unfolding copiesFor
+copies-with unknown t = accepted-with
+copies-with (static n) t = either-numbered (leb n maxFields) accepted-with (refused-with refl)
+
+boxes-with : (t : Ty) → RefusedWith ofWritten (asBoxes t)
+unfolding asBoxes
+boxes-with (ty s (plain k)) = accepted-with
+boxes-with (ty s boxAny) = copies-with (rowCount s) anyTy
+boxes-with (ty s (boxAll t k)) = copies-with (rowCount s) (ty t k)
+boxes-with (ty s (boxDef n f)) = accepted-with
+
+listed-with : {A : Type 0} (o : Outcome A) → Listed o → RefusedWith ofValidated o
+listed-with (accepted a) h = accepted-with
+listed-with (refused n p) h = refused-with (among-more ofValidation ofValidated (refl, (refl, (refl, tt))) n (h .0))
+
+validate-with : (side : Side) (s t : Ty) → RefusedWith ofValidated (validate side s t)
+validate-with side s t = listed-with (validate side s t) (validate-listed side s t)
+
+scalar-with : (s t : Ty) → RefusedWith ofValidated (mapped writeTy (checkScalarOnly s t))
+scalar-with s t = mapped-numbered writeTy (checkScalarOnly s t) (listed-with (checkScalarOnly s t) (checkScalarOnly-listed s t))
+
+shape-with : (side : Side) (s t : Ty) → RefusedWith ofShapeChecked (checkShapeOnly side s t)
+unfolding checkShape checkShapeOnly
+shape-with side (ty s k) (ty t l) = mapped-numbered (λ u. ty u l) (checkShape side s t) (either-numbered (shapeMismatch side s t) (refused-with refl) accepted-with)
+
+-- ---- every call
+
+-- "Gets its result or one of thirteen numbered refusals": each call, one of its own.
+pub call-told : (c : Call) → Told (numbersOf c) (answerOf c)
+unfolding answerOf
+call-told (vg-dim-cmp a b) = compared-told ofSizes (cmpCall a b) (sizes-with cmpDim a b)
+call-told (vg-dim-cmp-defined a b) = compared-told ofSizes (cmpDefinedCall a b) (sizes-with cmpDefined a b)
+call-told (vg-dim-max a b) = sized-told ofSizes (maxCall a b) (sizes-with larger a b)
+call-told (vg-dim-join a b) = sized-told ofSizes (joinSizesCall a b) (sizes-with joinDim a b)
+call-told (vg-dim-compatible a b) = tested-told ofSizes (compatibleCall a b) (sizes-with compatible a b)
+call-told (vg-dim-row-compatible a b) = tested-told ofSizes (rowCompatibleCall a b) (sizes-with rowCompatible a b)
+call-told (vg-merge a b result) = written-told ofWritten refl (mergeCall a b) result (of-shapes lone-written (λ s t. writeShape (mergeFrom s t)) a b)
+call-told (vg-join-shapes a b result) = written-told ofWritten refl (joinCall a b) result (of-shapes lone-written (λ s t. writeShape (joinShapes s t)) a b)
+call-told (vg-compatible-shapes a b) = tested-told ofLone (compatibleShapesCall a b) (of-shapes lone-lone compatibleShapes a b)
+call-told (vg-row-shape t result) = written-told ofWritten refl (rowCall t) result (of-shape lone-written (λ s. writeShape (rowShape s)) t)
+call-told (vg-shape-is-any t) = tested-told ofLone (isAnyCall t) (of-shape lone-lone isAny t)
+call-told (vg-shape-is-scalar t) = tested-told ofLone (isScalarCall t) (of-shape lone-lone isScalar t)
+call-told (vg-row-count t) = sized-told ofLone (rowCountCall t) (of-shape lone-lone rowCount t)
+call-told (vg-rank t) = counted-told ofLone (rankCall t) (of-shape lone-lone rank t)
+call-told (vg-pervade flag a b result) = written-told ofPervaded refl (pervadeFlagged flag a b) result (flagged-with flag a b)
+call-told (vg-union a b result) =
+    written-told ofWritten refl (ofScalars (λ k l. writeScalar (union k l)) a b) result
+    (of-types lone-written (λ t u. writeScalar (union (scalarOf t) (scalarOf u))) a b)
+call-told (vg-unrefine t result) = written-told ofWritten refl (ofScalar (λ k. writeScalar (unrefine k)) t) result (of-one lone-written (λ u. writeScalar (unrefine (scalarOf u))) t)
+call-told (vg-superset a b) = tested-told ofLone (ofScalars supersetOf a b) (of-types lone-lone (λ t u. supersetOf (scalarOf t) (scalarOf u)) a b)
+call-told (vg-compatible-scalars a b) = tested-told ofLone (ofScalars compatibleScalars a b) (of-types lone-lone (λ t u. compatibleScalars (scalarOf t) (scalarOf u)) a b)
+call-told (vg-compatible-with-boxes a b) = tested-told ofLone (ofScalars compatibleWithBoxes a b) (of-types lone-lone (λ t u. compatibleWithBoxes (scalarOf t) (scalarOf u)) a b)
+call-told (vg-compare a b) = compared-told ofLone (ofTypes compare a b) (of-types lone-lone compare a b)
+call-told (vg-read t) = counted-told ofLone (mapped nothing (lone t)) (of-one lone-lone nothing t)
+call-told (vg-shape-record t result) = written-told ofWritten refl (mapped shapeRecord (lone t)) result (of-one lone-written shapeRecord t)
+call-told (vg-scalar-record t result) = written-told ofWritten refl (mapped scalarRecord (lone t)) result (of-one lone-written scalarRecord t)
+call-told (vg-row t result) = written-told ofWritten refl (mapped (λ u. writeTy (intoRow u)) (lone t)) result (of-one lone-written (λ u. writeTy (intoRow u)) t)
+call-told (vg-first-row t result) = written-told ofWritten refl (mapped (λ u. writeTy (intoFirstRow u)) (lone t)) result (of-one lone-written (λ u. writeTy (intoFirstRow u)) t)
+call-told (vg-last-row t result) = written-told ofWritten refl (mapped (λ u. writeTy (intoLastRow u)) (lone t)) result (of-one lone-written (λ u. writeTy (intoLastRow u)) t)
+call-told (vg-nth-row t n result) = written-told ofWritten refl (mapped (λ u. writeTy (intoNthRow n u)) (lone t)) result (of-one lone-written (λ u. writeTy (intoNthRow n u)) t)
+call-told (vg-unboxed t result) = written-told ofWritten refl (mapped (λ u. writeTy (unboxed u)) (lone t)) result (of-one lone-written (λ u. writeTy (unboxed u)) t)
+call-told (vg-as-boxes t result) = boxes-told ofWritten refl (bound asBoxes (lone t)) result (from-one lone-written asBoxes boxes-with t)
+call-told (vg-field t n) = found-told ofLone (mapped (fieldPlace n) (lone t)) (of-one lone-lone (fieldPlace n) t)
+call-told (vg-join a b result) = written-told ofWritten refl (joinTypesCall a b) result (of-types lone-written (λ t u. writeTy (joinTypes t u)) a b)
+call-told (vg-validate side spec t result) = written-told ofValidated refl (sided validate side spec t) result (sided-with lone-validated validate validate-with side spec t)
+call-told (vg-check-shape side spec t result) =
+    written-told ofShapeChecked refl (sided checkShapeOnly side spec t) result
+    (sided-with lone-shape-checked checkShapeOnly shape-with side spec t)
+call-told (vg-check-scalar spec t result) =
+    written-told ofValidated refl (both (λ s u. mapped writeTy (checkScalarOnly s u)) (lone spec) (lone t)) result
+    (from-two lone-validated (λ s u. mapped writeTy (checkScalarOnly s u)) scalar-with spec t)
+call-told (vg-val-ty kind x list t result) =
+    written-told ofWritten refl (mapped writeTy (bound valueTy (handedIn kind x list t))) result
+    (mapped-numbered writeTy (bound valueTy (handedIn kind x list t)) (bound-numbered valueTy (handedIn kind x list t) (handed-with lone-written kind x list t) (ty-with refl)))
+call-told (vg-val-spec kind x list t result) =
+    written-told ofSizesWritten refl (mapped writeTy (bound valueSpec (handedIn kind x list t))) result
+    (mapped-numbered writeTy (bound valueSpec (handedIn kind x list t)) (bound-numbered valueSpec (handedIn kind x list t) (handed-with lone-sizes-written kind x list t) (spec-with (refl, (refl, (refl, tt))))))
+call-told (vg-val-scalar kind x list t result) =
+    written-told ofWritten refl (mapped writeScalar (mapped valueScalar (handedIn kind x list t))) result
+    (mapped-numbered writeScalar (mapped valueScalar (handedIn kind x list t)) (mapped-numbered valueScalar (handedIn kind x list t) (handed-with lone-written kind x list t)))
+call-told (vg-nums-scalar list result) = written-told ofResult refl (accepted (writeScalar (numsScalar list))) result accepted-with
+call-told (vg-val-row-count kind x list t) =
+    sized-told ofLone (bound valueRowCount (handedIn kind x list t))
+    (bound-numbered valueRowCount (handedIn kind x list t) (handed-with lone-lone kind x list t) (row-count-with refl))
+call-told (vg-val-rank kind x list t) =
+    counted-told ofLone (mapped valueRank (handedIn kind x list t))
+    (mapped-numbered valueRank (handedIn kind x list t) (handed-with lone-lone kind x list t))
+call-told (vg-val-row kind x list t before result) =
+    row-told ofWritten refl before (mapped valueRow (handedIn kind x list t)) result
+    (mapped-numbered valueRow (handedIn kind x list t) (handed-with lone-written kind x list t))
+call-told (vg-val-first-row kind x list t before result) =
+    row-told ofWritten refl before (mapped valueFirstRow (handedIn kind x list t)) result
+    (mapped-numbered valueFirstRow (handedIn kind x list t) (handed-with lone-written kind x list t))
+call-told (vg-val-last-row kind x list t before result) =
+    row-told ofWritten refl before (mapped valueLastRow (handedIn kind x list t)) result
+    (mapped-numbered valueLastRow (handedIn kind x list t) (handed-with lone-written kind x list t))
+call-told (vg-as-dim kind x list t) =
+    sizedOrNone-told ofSize (bound valueAsDim (handedIn kind x list t))
+    (bound-numbered valueAsDim (handedIn kind x list t) (handed-with lone-size kind x list t) (as-dim-with (refl, (refl, tt))))
+call-told (vg-as-dims kind x list t sizes) =
+    sizes-told ofSizesWritten refl (bound valueAsDims (handedIn kind x list t)) sizes
+    (bound-numbered valueAsDims (handedIn kind x list t) (handed-with lone-sizes-written kind x list t) (as-dims-with (refl, (refl, (refl, tt)))))
+call-told (vg-check-sheet sheet result scratch) = sheet-told ofSheetCall (sheetCall sheet result scratch) (call-numbered sheet result scratch)
+
+-- And these are of the thirteen.
+pub numbers-thirteen : (c : Call) → All (Among thirteen) (numbersOf c)
+numbers-thirteen (vg-dim-cmp a b) = (refl, tt)
+numbers-thirteen (vg-dim-cmp-defined a b) = (refl, tt)
+numbers-thirteen (vg-dim-max a b) = (refl, tt)
+numbers-thirteen (vg-dim-join a b) = (refl, tt)
+numbers-thirteen (vg-dim-compatible a b) = (refl, tt)
+numbers-thirteen (vg-dim-row-compatible a b) = (refl, tt)
+numbers-thirteen (vg-merge a b result) = (refl, (refl, (refl, (refl, (refl, (refl, (refl, tt)))))))
+numbers-thirteen (vg-join-shapes a b result) = (refl, (refl, (refl, (refl, (refl, (refl, (refl, tt)))))))
+numbers-thirteen (vg-compatible-shapes a b) = (refl, (refl, (refl, (refl, (refl, (refl, tt))))))
+numbers-thirteen (vg-row-shape t result) = (refl, (refl, (refl, (refl, (refl, (refl, (refl, tt)))))))
+numbers-thirteen (vg-shape-is-any t) = (refl, (refl, (refl, (refl, (refl, (refl, tt))))))
+numbers-thirteen (vg-shape-is-scalar t) = (refl, (refl, (refl, (refl, (refl, (refl, tt))))))
+numbers-thirteen (vg-row-count t) = (refl, (refl, (refl, (refl, (refl, (refl, tt))))))
+numbers-thirteen (vg-rank t) = (refl, (refl, (refl, (refl, (refl, (refl, tt))))))
+numbers-thirteen (vg-pervade flag a b result) = (refl, (refl, (refl, (refl, (refl, (refl, (refl, (refl, tt))))))))
+numbers-thirteen (vg-union a b result) = (refl, (refl, (refl, (refl, (refl, (refl, (refl, tt)))))))
+numbers-thirteen (vg-unrefine t result) = (refl, (refl, (refl, (refl, (refl, (refl, (refl, tt)))))))
+numbers-thirteen (vg-superset a b) = (refl, (refl, (refl, (refl, (refl, (refl, tt))))))
+numbers-thirteen (vg-compatible-scalars a b) = (refl, (refl, (refl, (refl, (refl, (refl, tt))))))
+numbers-thirteen (vg-compatible-with-boxes a b) = (refl, (refl, (refl, (refl, (refl, (refl, tt))))))
+numbers-thirteen (vg-compare a b) = (refl, (refl, (refl, (refl, (refl, (refl, tt))))))
+numbers-thirteen (vg-read t) = (refl, (refl, (refl, (refl, (refl, (refl, tt))))))
+numbers-thirteen (vg-shape-record t result) = (refl, (refl, (refl, (refl, (refl, (refl, (refl, tt)))))))
+numbers-thirteen (vg-scalar-record t result) = (refl, (refl, (refl, (refl, (refl, (refl, (refl, tt)))))))
+numbers-thirteen (vg-row t result) = (refl, (refl, (refl, (refl, (refl, (refl, (refl, tt)))))))
+numbers-thirteen (vg-first-row t result) = (refl, (refl, (refl, (refl, (refl, (refl, (refl, tt)))))))
+numbers-thirteen (vg-last-row t result) = (refl, (refl, (refl, (refl, (refl, (refl, (refl, tt)))))))
+numbers-thirteen (vg-nth-row t n result) = (refl, (refl, (refl, (refl, (refl, (refl, (refl, tt)))))))
+numbers-thirteen (vg-unboxed t result) = (refl, (refl, (refl, (refl, (refl, (refl, (refl, tt)))))))
+numbers-thirteen (vg-as-boxes t result) = (refl, (refl, (refl, (refl, (refl, (refl, (refl, tt)))))))
+numbers-thirteen (vg-field t n) = (refl, (refl, (refl, (refl, (refl, (refl, tt))))))
+numbers-thirteen (vg-join a b result) = (refl, (refl, (refl, (refl, (refl, (refl, (refl, tt)))))))
+numbers-thirteen (vg-validate side spec t result) = (refl, (refl, (refl, (refl, (refl, (refl, (refl, (refl, (refl, tt)))))))))
+numbers-thirteen (vg-check-shape side spec t result) = (refl, (refl, (refl, (refl, (refl, (refl, (refl, (refl, tt))))))))
+numbers-thirteen (vg-check-scalar spec t result) = (refl, (refl, (refl, (refl, (refl, (refl, (refl, (refl, (refl, tt)))))))))
+numbers-thirteen (vg-val-ty kind x list t result) = (refl, (refl, (refl, (refl, (refl, (refl, (refl, tt)))))))
+numbers-thirteen (vg-val-spec kind x list t result) = (refl, (refl, (refl, (refl, (refl, (refl, (refl, (refl, tt))))))))
+numbers-thirteen (vg-val-scalar kind x list t result) = (refl, (refl, (refl, (refl, (refl, (refl, (refl, tt)))))))
+numbers-thirteen (vg-nums-scalar list result) = (refl, tt)
+numbers-thirteen (vg-val-row-count kind x list t) = (refl, (refl, (refl, (refl, (refl, (refl, tt))))))
+numbers-thirteen (vg-val-rank kind x list t) = (refl, (refl, (refl, (refl, (refl, (refl, tt))))))
+numbers-thirteen (vg-val-row kind x list t before result) = (refl, (refl, (refl, (refl, (refl, (refl, (refl, tt)))))))
+numbers-thirteen (vg-val-first-row kind x list t before result) = (refl, (refl, (refl, (refl, (refl, (refl, (refl, tt)))))))
+numbers-thirteen (vg-val-last-row kind x list t before result) = (refl, (refl, (refl, (refl, (refl, (refl, (refl, tt)))))))
+numbers-thirteen (vg-as-dim kind x list t) = (refl, (refl, (refl, (refl, (refl, (refl, (refl, tt)))))))
+numbers-thirteen (vg-as-dims kind x list t sizes) = (refl, (refl, (refl, (refl, (refl, (refl, (refl, (refl, tt))))))))
+numbers-thirteen (vg-check-sheet sheet result scratch) = (refl, (refl, (refl, (refl, (refl, (refl, (refl, (refl, (refl, (refl, (refl, tt)))))))))))
+
+-- "One of thirteen."
+pub call-thirteen : (c : Call) → Told thirteen (answerOf c)
+call-thirteen c = λ e. among-more (numbersOf c) thirteen (numbers-thirteen c) (answerOf c .number) (call-told c e)

@@ -36,7 +36,7 @@ pub fn field(ty: &[u8], n: u64) -> Found
     }
 }
 
-// A reading as an answer: what was refused as it was read stays refused, and all else has no field yet.
+// A reading as an answer: what was refused as it was read stays refused, and in what was read nothing is found yet.
 fn as_found(read: Lone) -> Found
     ensures { λ r. ⌜ foundOf r ≡ mapped (λ _. none) (loneOf read) ⌝ }
 {

@@ -107,7 +107,11 @@ returns c =
     let at-enum-told = c .before .before .before .before .before .before in
     let at-write-parts = c .before .before in
     let args = entry .args in
-    at-write-parts .write-parts .ensures ∙ (ap (λ w. deliver (accepted (writeShape (shapeFor (args .shape)) ++ ([] ++ w))) (args .result .now)) (rest-is (args .a .now) (at-lone-scalar .lone-scalar .result)) ∙ ap (λ o. deliver o (args .result .now)) (union-first (shapeFor (args .shape)) _ _ (entry .pre) (λ i. omega (arith, at-shared-slice-known .shared-slice-known .given i)) (λ i. omega (arith, at-shared-slice-known2 .shared-slice-known2 .given i)) (at-lone-scalar .lone-scalar .ensures) (at-lone-scalar2 .lone-scalar2 .ensures) (at-unite .unite .result) (at-unite .unite .ensures) (at-enum-told .enum-told .given .1)))
+    at-write-parts .write-parts .ensures ∙ (ap (λ w. deliver (accepted (writeShape (shapeFor (args .shape)) ++ ([] ++ w))) (args .result .now))
+    (rest-is (args .a .now) (at-lone-scalar .lone-scalar .result))
+    ∙ ap (λ o. deliver o (args .result .now)) (union-first (shapeFor (args .shape)) _ _ (entry .pre) (λ i. omega (arith, at-shared-slice-known .shared-slice-known .given i))
+    (λ i. omega (arith, at-shared-slice-known2 .shared-slice-known2 .given i)) (at-lone-scalar .lone-scalar .ensures) (at-lone-scalar2 .lone-scalar2 .ensures) (at-unite .unite .result)
+    (at-unite .unite .ensures) (at-enum-told .enum-told .given .1)))
 
 same-length-2 : tie.Need-same-length-2
 same-length-2 c = search needs
@@ -123,7 +127,11 @@ returns-2 c =
     let at-enum-told2 = c .before .before .before .before .before .before in
     let at-write-parts2 = c .before .before in
     let args = entry .args in
-    at-write-parts2 .write-parts2 .ensures ∙ (ap (λ w. deliver (accepted (writeShape (shapeFor (args .shape)) ++ ([] ++ w))) (args .result .now)) (rest-is (args .b .now) (at-lone-scalar2 .lone-scalar2 .result)) ∙ ap (λ o. deliver o (args .result .now)) (union-second (shapeFor (args .shape)) _ _ (entry .pre) (λ i. omega (arith, at-shared-slice-known .shared-slice-known .given i)) (λ i. omega (arith, at-shared-slice-known2 .shared-slice-known2 .given i)) (at-lone-scalar .lone-scalar .ensures) (at-lone-scalar2 .lone-scalar2 .ensures) (at-unite .unite .result) (at-unite .unite .ensures) (at-enum-told2 .enum-told2 .given .1)))
+    at-write-parts2 .write-parts2 .ensures ∙ (ap (λ w. deliver (accepted (writeShape (shapeFor (args .shape)) ++ ([] ++ w))) (args .result .now))
+    (rest-is (args .b .now) (at-lone-scalar2 .lone-scalar2 .result))
+    ∙ ap (λ o. deliver o (args .result .now)) (union-second (shapeFor (args .shape)) _ _ (entry .pre) (λ i. omega (arith, at-shared-slice-known .shared-slice-known .given i))
+    (λ i. omega (arith, at-shared-slice-known2 .shared-slice-known2 .given i)) (at-lone-scalar .lone-scalar .ensures) (at-lone-scalar2 .lone-scalar2 .ensures) (at-unite .unite .result)
+    (at-unite .unite .ensures) (at-enum-told2 .enum-told2 .given .1)))
 
 same-length-3 : tie.Need-same-length-3
 same-length-3 c = search needs
@@ -140,7 +148,10 @@ returns-3 c =
     let at-enum-told3 = c .before .before .before .before .before .before in
     let at-write-parts3 = c .before .before in
     let args = entry .args in
-    at-write-parts3 .write-parts3 .ensures ∙ (ap (λ o. deliver o (args .result .now)) (union-box-any (shapeFor (args .shape)) _ _ (entry .pre) (λ i. omega (arith, at-shared-slice-known .shared-slice-known .given i)) (λ i. omega (arith, at-shared-slice-known2 .shared-slice-known2 .given i)) (at-lone-scalar .lone-scalar .ensures) (at-lone-scalar2 .lone-scalar2 .ensures) (at-unite .unite .result) (at-unite .unite .ensures) (at-enum-told3 .enum-told3 .given .1)))
+    at-write-parts3 .write-parts3 .ensures ∙ (ap (λ o. deliver o (args .result .now))
+    (union-box-any (shapeFor (args .shape)) _ _ (entry .pre) (λ i. omega (arith, at-shared-slice-known .shared-slice-known .given i))
+    (λ i. omega (arith, at-shared-slice-known2 .shared-slice-known2 .given i)) (at-lone-scalar .lone-scalar .ensures) (at-lone-scalar2 .lone-scalar2 .ensures) (at-unite .unite .result)
+    (at-unite .unite .ensures) (at-enum-told3 .enum-told3 .given .1)))
 
 same-length-4 : tie.Need-same-length-4
 same-length-4 c = search needs
@@ -157,7 +168,10 @@ returns-4 c =
     let at-enum-told4 = c .before .before .before .before .before .before in
     let at-write-parts4 = c .before .before in
     let args = entry .args in
-    at-write-parts4 .write-parts4 .ensures ∙ (ap (λ o. deliver o (args .result .now)) (union-any (shapeFor (args .shape)) _ _ (entry .pre) (λ i. omega (arith, at-shared-slice-known .shared-slice-known .given i)) (λ i. omega (arith, at-shared-slice-known2 .shared-slice-known2 .given i)) (at-lone-scalar .lone-scalar .ensures) (at-lone-scalar2 .lone-scalar2 .ensures) (at-unite .unite .result) (at-unite .unite .ensures) (at-enum-told4 .enum-told4 .given .1)))
+    at-write-parts4 .write-parts4 .ensures ∙ (ap (λ o. deliver o (args .result .now))
+    (union-any (shapeFor (args .shape)) _ _ (entry .pre) (λ i. omega (arith, at-shared-slice-known .shared-slice-known .given i))
+    (λ i. omega (arith, at-shared-slice-known2 .shared-slice-known2 .given i)) (at-lone-scalar .lone-scalar .ensures) (at-lone-scalar2 .lone-scalar2 .ensures) (at-unite .unite .result)
+    (at-unite .unite .ensures) (at-enum-told4 .enum-told4 .given .1)))
 
 pub write-union-spec : {M : Type 1} → statement M
 write-union-spec =

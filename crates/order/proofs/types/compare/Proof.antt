@@ -56,7 +56,8 @@ returns-2 c =
     let at-read-both = c .before .before .before .before .before in
     let at-enum-told = c .before .before .before in
     let at-compare-types = c .before .before in
-    whole-less _ _ (sym (at-read-both .read-both .ensures) ∙ ap loneOf (at-enum-told .enum-told .given .1)) (λ i. omega (arith, at-shared-slice-known .shared-slice-known .given i)) (λ i. omega (arith, at-shared-slice-known2 .shared-slice-known2 .given i)) (at-compare-types .compare-types .ensures) (c .enum-told3 .given .1)
+    whole-less _ _ (sym (at-read-both .read-both .ensures) ∙ ap loneOf (at-enum-told .enum-told .given .1)) (λ i. omega (arith, at-shared-slice-known .shared-slice-known .given i))
+    (λ i. omega (arith, at-shared-slice-known2 .shared-slice-known2 .given i)) (at-compare-types .compare-types .ensures) (c .enum-told3 .given .1)
 
 returns-3 : tie.Need-returns-3
 returns-3 c =
@@ -65,7 +66,8 @@ returns-3 c =
     let at-read-both = c .before .before .before .before .before in
     let at-enum-told = c .before .before .before in
     let at-compare-types = c .before .before in
-    whole-same _ _ (sym (at-read-both .read-both .ensures) ∙ ap loneOf (at-enum-told .enum-told .given .1)) (λ i. omega (arith, at-shared-slice-known .shared-slice-known .given i)) (λ i. omega (arith, at-shared-slice-known2 .shared-slice-known2 .given i)) (at-compare-types .compare-types .ensures) (c .enum-told4 .given .1)
+    whole-same _ _ (sym (at-read-both .read-both .ensures) ∙ ap loneOf (at-enum-told .enum-told .given .1)) (λ i. omega (arith, at-shared-slice-known .shared-slice-known .given i))
+    (λ i. omega (arith, at-shared-slice-known2 .shared-slice-known2 .given i)) (at-compare-types .compare-types .ensures) (c .enum-told4 .given .1)
 
 returns-4 : tie.Need-returns-4
 returns-4 c =
@@ -74,7 +76,8 @@ returns-4 c =
     let at-read-both = c .before .before .before .before .before in
     let at-enum-told = c .before .before .before in
     let at-compare-types = c .before .before in
-    whole-more _ _ (sym (at-read-both .read-both .ensures) ∙ ap loneOf (at-enum-told .enum-told .given .1)) (λ i. omega (arith, at-shared-slice-known .shared-slice-known .given i)) (λ i. omega (arith, at-shared-slice-known2 .shared-slice-known2 .given i)) (at-compare-types .compare-types .ensures) (c .enum-told5 .given .1)
+    whole-more _ _ (sym (at-read-both .read-both .ensures) ∙ ap loneOf (at-enum-told .enum-told .given .1)) (λ i. omega (arith, at-shared-slice-known .shared-slice-known .given i))
+    (λ i. omega (arith, at-shared-slice-known2 .shared-slice-known2 .given i)) (at-compare-types .compare-types .ensures) (c .enum-told5 .given .1)
 
 pub compare-spec : {M : Type 1} → statement M
 compare-spec =

@@ -35,7 +35,8 @@ returns-2 c =
     let at-read-byte = c .before .before .before .before .before .before in
     let at-a = c .before .before .before .before in
     let at-read-byte2 = c .before .before in
-    at-read-byte2 .read-byte2 .ensures ∙ ((told (at-read-byte2 .read-byte2 .ensures) (c .enum-told2 .given .1)) ∙ sym (mark-second _ _ _ _ _ (known (at-read-byte .read-byte .ensures) (at-a .a .given .1)) (told (at-read-byte2 .read-byte2 .ensures) (c .enum-told2 .given .1))))
+    let tolds = told (at-read-byte2 .read-byte2 .ensures) (c .enum-told2 .given .1) in
+    at-read-byte2 .read-byte2 .ensures ∙ (tolds ∙ sym (mark-second _ _ _ _ _ (known (at-read-byte .read-byte .ensures) (at-a .a .given .1)) tolds))
 
 wide-requires : tie.Need-wide-requires
 wide-requires c κs = search needs
@@ -51,7 +52,8 @@ returns-3 c =
     let at-b = c .before .before .before .before .before in
     let at-wide = c .before .before .before in
     let at-if1 = c .before .before in
-    sym (mark-is _ _ _ _ _ (known (at-read-byte .read-byte .ensures) (at-a .a .given .1)) (known (at-read-byte2 .read-byte2 .ensures) (at-b .b .given .1)) (at-if1 .if1 .taken ∙ at-wide .wide .ensures .0) (c .if2 .taken ∙ c .before .wide2 .ensures .0))
+    sym (mark-is _ _ _ _ _ (known (at-read-byte .read-byte .ensures) (at-a .a .given .1)) (known (at-read-byte2 .read-byte2 .ensures) (at-b .b .given .1))
+    (at-if1 .if1 .taken ∙ at-wide .wide .ensures .0) (c .if2 .taken ∙ c .before .wide2 .ensures .0))
 
 returns-4 : tie.Need-returns-4
 returns-4 c =
@@ -61,7 +63,8 @@ returns-4 c =
     let at-b = c .before .before .before .before .before in
     let at-wide = c .before .before .before in
     let at-if1 = c .before .before in
-    sym (mark-not-second _ _ _ _ _ (known (at-read-byte .read-byte .ensures) (at-a .a .given .1)) (known (at-read-byte2 .read-byte2 .ensures) (at-b .b .given .1)) (at-if1 .if1 .taken ∙ at-wide .wide .ensures .0) (λ e. c .if2 .left (e ∙ sym (c .before .wide2 .ensures .0))))
+    sym (mark-not-second _ _ _ _ _ (known (at-read-byte .read-byte .ensures) (at-a .a .given .1)) (known (at-read-byte2 .read-byte2 .ensures) (at-b .b .given .1))
+    (at-if1 .if1 .taken ∙ at-wide .wide .ensures .0) (λ e. c .if2 .left (e ∙ sym (c .before .wide2 .ensures .0))))
 
 returns-5 : tie.Need-returns-5
 returns-5 c =

@@ -47,7 +47,8 @@ returns-2 c =
     let at-shared-slice-known = c .before .before .before .before .before .before in
     let at-read-lone = c .before .before .before .before in
     let at-enum-told = c .before .before in
-    whole-short _ (λ i. omega (arith, at-shared-slice-known .shared-slice-known .given i)) (sym (at-read-lone .read-lone .ensures) ∙ ap loneOf (at-enum-told .enum-told .given .1)) (c .before .lone-scalar .ensures) (entry .args .result .now) (c .if1 .taken)
+    whole-short _ (λ i. omega (arith, at-shared-slice-known .shared-slice-known .given i)) (sym (at-read-lone .read-lone .ensures) ∙ ap loneOf (at-enum-told .enum-told .given .1))
+    (c .before .lone-scalar .ensures) (entry .args .result .now) (c .if1 .taken)
 
 sub-lay : tie.Need-sub-lay
 sub-lay c = search needs
@@ -73,7 +74,8 @@ unrefine-at-requires c κs =
     let at-lone-scalar = c .before .before .before .before .before .before .before in
     let at-if1 = c .before .before .before .before .before .before in
     let at-lay = c .before .before .before in
-    laid-scalar _ (λ i. omega (arith, at-shared-slice-known .shared-slice-known .given i)) (sym (at-read-lone .read-lone .ensures) ∙ ap loneOf (at-enum-told .enum-told .given .1)) (at-lone-scalar .lone-scalar .ensures) (entry .args .result .now) (at-if1 .if1 .left) (at-lay .lay .ensures)
+    laid-scalar _ (λ i. omega (arith, at-shared-slice-known .shared-slice-known .given i)) (sym (at-read-lone .read-lone .ensures) ∙ ap loneOf (at-enum-told .enum-told .given .1))
+    (at-lone-scalar .lone-scalar .ensures) (entry .args .result .now) (at-if1 .if1 .left) (at-lay .lay .ensures)
 
 same-length : tie.Need-same-length
 same-length c = search needs
@@ -88,7 +90,8 @@ returns-3 c =
     let at-if1 = c .before .before .before .before .before .before .before .before .before in
     let at-lay = c .before .before .before .before .before .before in
     let at-unrefine-at = c .before .before in
-    whole-wrote _ (λ i. omega (arith, at-shared-slice-known .shared-slice-known .given i)) (sym (at-read-lone .read-lone .ensures) ∙ ap loneOf (at-enum-told .enum-told .given .1)) (at-lone-scalar .lone-scalar .ensures) (entry .args .result .now) (at-if1 .if1 .left) (at-lay .lay .ensures) (at-unrefine-at .unrefine-at .ensures)
+    whole-wrote _ (λ i. omega (arith, at-shared-slice-known .shared-slice-known .given i)) (sym (at-read-lone .read-lone .ensures) ∙ ap loneOf (at-enum-told .enum-told .given .1))
+    (at-lone-scalar .lone-scalar .ensures) (entry .args .result .now) (at-if1 .if1 .left) (at-lay .lay .ensures) (at-unrefine-at .unrefine-at .ensures)
 
 pub unrefine-spec : {M : Type 1} → statement M
 unrefine-spec =

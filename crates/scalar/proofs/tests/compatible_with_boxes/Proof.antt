@@ -53,7 +53,8 @@ compatible-boxes-requires c κs =
     let at-shared-slice-known2 = c .before .before .before .before .before in
     let at-read-both = c .before .before .before .before in
     let at-enum-told = c .before .before in
-    has-scalars _ _ (sym (at-read-both .read-both .ensures) ∙ ap loneOf (at-enum-told .enum-told .given .1)) (λ i. omega (arith, at-shared-slice-known .shared-slice-known .given i)) (λ i. omega (arith, at-shared-slice-known2 .shared-slice-known2 .given i)) (c .before .lone-scalar .ensures) (c .lone-scalar2 .ensures)
+    has-scalars _ _ (sym (at-read-both .read-both .ensures) ∙ ap loneOf (at-enum-told .enum-told .given .1)) (λ i. omega (arith, at-shared-slice-known .shared-slice-known .given i))
+    (λ i. omega (arith, at-shared-slice-known2 .shared-slice-known2 .given i)) (c .before .lone-scalar .ensures) (c .lone-scalar2 .ensures)
 
 tell-requires : tie.Need-tell-requires
 tell-requires c κs = search needs
@@ -66,7 +67,9 @@ returns-2 c =
     let at-enum-told = c .before .before .before .before in
     let at-lone-scalar = c .before .before .before in
     let at-lone-scalar2 = c .before .before in
-    c .tell .ensures ∙ boxes-is _ _ (sym (at-read-both .read-both .ensures) ∙ ap loneOf (at-enum-told .enum-told .given .1)) (λ i. omega (arith, at-shared-slice-known .shared-slice-known .given i)) (λ i. omega (arith, at-shared-slice-known2 .shared-slice-known2 .given i)) (at-lone-scalar .lone-scalar .ensures) (at-lone-scalar2 .lone-scalar2 .ensures) (c .before .compatible-boxes .ensures)
+    c .tell .ensures ∙ boxes-is _ _ (sym (at-read-both .read-both .ensures) ∙ ap loneOf (at-enum-told .enum-told .given .1)) (λ i. omega (arith, at-shared-slice-known .shared-slice-known .given i))
+    (λ i. omega (arith, at-shared-slice-known2 .shared-slice-known2 .given i)) (at-lone-scalar .lone-scalar .ensures) (at-lone-scalar2 .lone-scalar2 .ensures)
+    (c .before .compatible-boxes .ensures)
 
 pub compatible-with-boxes-spec : {M : Type 1} → statement M
 compatible-with-boxes-spec =

@@ -55,7 +55,8 @@ unite-requires c κs =
     let at-shared-slice-known2 = c .before .before .before .before .before .before in
     let at-read-both = c .before .before .before .before in
     let at-enum-told = c .before .before in
-    has-scalars _ _ (sym (at-read-both .read-both .ensures) ∙ ap loneOf (at-enum-told .enum-told .given .1)) (λ i. omega (arith, at-shared-slice-known .shared-slice-known .given i)) (λ i. omega (arith, at-shared-slice-known2 .shared-slice-known2 .given i)) (c .before .lone-scalar .ensures) (c .lone-scalar2 .ensures)
+    has-scalars _ _ (sym (at-read-both .read-both .ensures) ∙ ap loneOf (at-enum-told .enum-told .given .1)) (λ i. omega (arith, at-shared-slice-known .shared-slice-known .given i))
+    (λ i. omega (arith, at-shared-slice-known2 .shared-slice-known2 .given i)) (c .before .lone-scalar .ensures) (c .lone-scalar2 .ensures)
 
 enum-told-3 : tie.Need-enum-told-3
 enum-told-3 c = search needs
@@ -115,7 +116,10 @@ returns-2 c =
     let at-enum-told3 = c .before .before .before .before .before in
     let at-hand-over = c .before .before in
     let args = entry .args in
-    at-hand-over .hand-over .ensures ∙ (ap (λ w. deliver (accepted w) (args .result .now)) (rest-is (args .a .now) (at-lone-scalar .lone-scalar .result)) ∙ ap (λ o. deliver o (args .result .now)) (union-first _ _ (sym (at-read-both .read-both .ensures) ∙ ap loneOf (at-enum-told .enum-told .given .1)) (λ i. omega (arith, at-shared-slice-known .shared-slice-known .given i)) (λ i. omega (arith, at-shared-slice-known2 .shared-slice-known2 .given i)) (at-lone-scalar .lone-scalar .ensures) (at-lone-scalar2 .lone-scalar2 .ensures) (at-unite .unite .result) (at-unite .unite .ensures) (at-enum-told3 .enum-told3 .given .1)))
+    at-hand-over .hand-over .ensures ∙ (ap (λ w. deliver (accepted w) (args .result .now)) (rest-is (args .a .now) (at-lone-scalar .lone-scalar .result))
+    ∙ ap (λ o. deliver o (args .result .now)) (union-first _ _ (sym (at-read-both .read-both .ensures) ∙ ap loneOf (at-enum-told .enum-told .given .1))
+    (λ i. omega (arith, at-shared-slice-known .shared-slice-known .given i)) (λ i. omega (arith, at-shared-slice-known2 .shared-slice-known2 .given i)) (at-lone-scalar .lone-scalar .ensures)
+    (at-lone-scalar2 .lone-scalar2 .ensures) (at-unite .unite .result) (at-unite .unite .ensures) (at-enum-told3 .enum-told3 .given .1)))
 
 same-length-2 : tie.Need-same-length-2
 same-length-2 c = search needs
@@ -133,7 +137,10 @@ returns-3 c =
     let at-enum-told4 = c .before .before .before .before .before in
     let at-hand-over2 = c .before .before in
     let args = entry .args in
-    at-hand-over2 .hand-over2 .ensures ∙ (ap (λ w. deliver (accepted w) (args .result .now)) (rest-is (args .b .now) (at-lone-scalar2 .lone-scalar2 .result)) ∙ ap (λ o. deliver o (args .result .now)) (union-second _ _ (sym (at-read-both .read-both .ensures) ∙ ap loneOf (at-enum-told .enum-told .given .1)) (λ i. omega (arith, at-shared-slice-known .shared-slice-known .given i)) (λ i. omega (arith, at-shared-slice-known2 .shared-slice-known2 .given i)) (at-lone-scalar .lone-scalar .ensures) (at-lone-scalar2 .lone-scalar2 .ensures) (at-unite .unite .result) (at-unite .unite .ensures) (at-enum-told4 .enum-told4 .given .1)))
+    at-hand-over2 .hand-over2 .ensures ∙ (ap (λ w. deliver (accepted w) (args .result .now)) (rest-is (args .b .now) (at-lone-scalar2 .lone-scalar2 .result))
+    ∙ ap (λ o. deliver o (args .result .now)) (union-second _ _ (sym (at-read-both .read-both .ensures) ∙ ap loneOf (at-enum-told .enum-told .given .1))
+    (λ i. omega (arith, at-shared-slice-known .shared-slice-known .given i)) (λ i. omega (arith, at-shared-slice-known2 .shared-slice-known2 .given i)) (at-lone-scalar .lone-scalar .ensures)
+    (at-lone-scalar2 .lone-scalar2 .ensures) (at-unite .unite .result) (at-unite .unite .ensures) (at-enum-told4 .enum-told4 .given .1)))
 
 same-length-3 : tie.Need-same-length-3
 same-length-3 c = search needs
@@ -150,7 +157,10 @@ returns-4 c =
     let at-unite = c .before .before .before .before .before .before in
     let at-enum-told5 = c .before .before .before .before in
     let at-hand-box-any = c .before .before in
-    at-hand-box-any .hand-box-any .ensures ∙ ap (λ o. deliver o (entry .args .result .now)) (union-box-any _ _ (sym (at-read-both .read-both .ensures) ∙ ap loneOf (at-enum-told .enum-told .given .1)) (λ i. omega (arith, at-shared-slice-known .shared-slice-known .given i)) (λ i. omega (arith, at-shared-slice-known2 .shared-slice-known2 .given i)) (at-lone-scalar .lone-scalar .ensures) (at-lone-scalar2 .lone-scalar2 .ensures) (at-unite .unite .result) (at-unite .unite .ensures) (at-enum-told5 .enum-told5 .given .1))
+    at-hand-box-any .hand-box-any .ensures ∙ ap (λ o. deliver o (entry .args .result .now))
+    (union-box-any _ _ (sym (at-read-both .read-both .ensures) ∙ ap loneOf (at-enum-told .enum-told .given .1)) (λ i. omega (arith, at-shared-slice-known .shared-slice-known .given i))
+    (λ i. omega (arith, at-shared-slice-known2 .shared-slice-known2 .given i)) (at-lone-scalar .lone-scalar .ensures) (at-lone-scalar2 .lone-scalar2 .ensures) (at-unite .unite .result)
+    (at-unite .unite .ensures) (at-enum-told5 .enum-told5 .given .1))
 
 same-length-4 : tie.Need-same-length-4
 same-length-4 c = search needs
@@ -167,7 +177,10 @@ returns-5 c =
     let at-unite = c .before .before .before .before .before .before in
     let at-enum-told6 = c .before .before .before .before in
     let at-hand-any = c .before .before in
-    at-hand-any .hand-any .ensures ∙ ap (λ o. deliver o (entry .args .result .now)) (union-any _ _ (sym (at-read-both .read-both .ensures) ∙ ap loneOf (at-enum-told .enum-told .given .1)) (λ i. omega (arith, at-shared-slice-known .shared-slice-known .given i)) (λ i. omega (arith, at-shared-slice-known2 .shared-slice-known2 .given i)) (at-lone-scalar .lone-scalar .ensures) (at-lone-scalar2 .lone-scalar2 .ensures) (at-unite .unite .result) (at-unite .unite .ensures) (at-enum-told6 .enum-told6 .given .1))
+    at-hand-any .hand-any .ensures ∙ ap (λ o. deliver o (entry .args .result .now))
+    (union-any _ _ (sym (at-read-both .read-both .ensures) ∙ ap loneOf (at-enum-told .enum-told .given .1)) (λ i. omega (arith, at-shared-slice-known .shared-slice-known .given i))
+    (λ i. omega (arith, at-shared-slice-known2 .shared-slice-known2 .given i)) (at-lone-scalar .lone-scalar .ensures) (at-lone-scalar2 .lone-scalar2 .ensures) (at-unite .unite .result)
+    (at-unite .unite .ensures) (at-enum-told6 .enum-told6 .given .1))
 
 pub union-spec : {M : Type 1} → statement M
 union-spec =

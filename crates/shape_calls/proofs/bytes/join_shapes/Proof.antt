@@ -63,7 +63,9 @@ returns-2 c =
     let at-join = c .before .before .before .before in
     let at-write-shape = c .before .before in
     let args = entry .args in
-    at-write-shape .write-shape .ensures ∙ ap (λ o. deliver o (args .result .now)) (ap written (at-join .join .ensures) ∙ sym (shapes-are (λ s t. written (joinShapes s t)) (args .a .now) (args .b .now) (at-lone-shape .lone-shape .ensures) (at-lone-shape2 .lone-shape2 .ensures)))
+    at-write-shape .write-shape .ensures ∙ ap (λ o. deliver o (args .result .now))
+    (ap written (at-join .join .ensures) ∙ sym (shapes-are (λ s t. written (joinShapes s t)) (args .a .now) (args .b .now) (at-lone-shape .lone-shape .ensures)
+    (at-lone-shape2 .lone-shape2 .ensures)))
 
 pub join-shapes-spec : {M : Type 1} → statement M
 join-shapes-spec =

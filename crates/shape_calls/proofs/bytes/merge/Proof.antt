@@ -63,7 +63,9 @@ returns-2 c =
     let at-merge-from = c .before .before .before .before in
     let at-write-shape = c .before .before in
     let args = entry .args in
-    at-write-shape .write-shape .ensures ∙ ap (λ o. deliver o (args .result .now)) (ap written (at-merge-from .merge-from .ensures) ∙ sym (shapes-are (λ s t. written (mergeFrom s t)) (args .a .now) (args .b .now) (at-lone-shape .lone-shape .ensures) (at-lone-shape2 .lone-shape2 .ensures)))
+    at-write-shape .write-shape .ensures ∙ ap (λ o. deliver o (args .result .now))
+    (ap written (at-merge-from .merge-from .ensures) ∙ sym (shapes-are (λ s t. written (mergeFrom s t)) (args .a .now) (args .b .now) (at-lone-shape .lone-shape .ensures)
+    (at-lone-shape2 .lone-shape2 .ensures)))
 
 pub merge-spec : {M : Type 1} → statement M
 merge-spec =

@@ -31,7 +31,8 @@ returns c =
     let at-read-both = c .before .before .before in
     let args = entry .args in
     let told = ap loneOf (c .before .enum-told2 .given .1) in
-    deliver-handed (args .result .now) (c .as-written .result) (c .as-written .ensures ∙ told) (shapes-told (λ s t. pervaded (rules.pervade (args .fill-a) (args .fill-b) s t)) (args .a .now) (args .b .now) (sym (at-read-both .read-both .ensures) ∙ told))
+    deliver-handed (args .result .now) (c .as-written .result) (c .as-written .ensures ∙ told)
+    (shapes-told (λ s t. pervaded (rules.pervade (args .fill-a) (args .fill-b) s t)) (args .a .now) (args .b .now) (sym (at-read-both .read-both .ensures) ∙ told))
 
 lone-shape-requires : tie.Need-lone-shape-requires
 lone-shape-requires c κs =
@@ -60,7 +61,9 @@ returns-2 c =
     let at-lone-shape2 = c .before .before .before in
     let at-pervade-dyn-shapes = c .before .before in
     let args = entry .args in
-    sym (deliver-refused (args .result .now) (shapes-are (λ s t. pervaded (rules.pervade (args .fill-a) (args .fill-b) s t)) (args .a .now) (args .b .now) (at-lone-shape .lone-shape .ensures) (at-lone-shape2 .lone-shape2 .ensures) ∙ ap pervaded (sym (sym (ap (λ v. shapeBeside v (shapeFor (at-pervade-dyn-shapes .pervade-dyn-shapes .result .shape))) (c .enum-told3 .given .1)) ∙ at-pervade-dyn-shapes .pervade-dyn-shapes .ensures))))
+    sym (deliver-refused (args .result .now) (shapes-are (λ s t. pervaded (rules.pervade (args .fill-a) (args .fill-b) s t)) (args .a .now) (args .b .now) (at-lone-shape .lone-shape .ensures)
+    (at-lone-shape2 .lone-shape2 .ensures) ∙ ap pervaded (sym (sym (ap (λ v. shapeBeside v (shapeFor (at-pervade-dyn-shapes .pervade-dyn-shapes .result .shape))) (c .enum-told3 .given .1))
+    ∙ at-pervade-dyn-shapes .pervade-dyn-shapes .ensures))))
 
 enum-told-4 : tie.Need-enum-told-4
 enum-told-4 c = search needs
@@ -80,7 +83,10 @@ returns-3 c =
     let at-enum-told4 = c .before .before .before .before .before in
     let at-write-shape = c .before .before in
     let args = entry .args in
-    at-write-shape .write-shape .ensures ∙ ap (λ o. deliver o (args .result .now)) (ap pervaded (sym (ap (λ v. shapeBeside v (shapeFor (at-pervade-dyn-shapes .pervade-dyn-shapes .result .shape))) (at-enum-told4 .enum-told4 .given .1)) ∙ at-pervade-dyn-shapes .pervade-dyn-shapes .ensures) ∙ sym (shapes-are (λ s t. pervaded (rules.pervade (args .fill-a) (args .fill-b) s t)) (args .a .now) (args .b .now) (at-lone-shape .lone-shape .ensures) (at-lone-shape2 .lone-shape2 .ensures)))
+    at-write-shape .write-shape .ensures ∙ ap (λ o. deliver o (args .result .now))
+    (ap pervaded (sym (ap (λ v. shapeBeside v (shapeFor (at-pervade-dyn-shapes .pervade-dyn-shapes .result .shape))) (at-enum-told4 .enum-told4 .given .1))
+    ∙ at-pervade-dyn-shapes .pervade-dyn-shapes .ensures) ∙ sym (shapes-are (λ s t. pervaded (rules.pervade (args .fill-a) (args .fill-b) s t)) (args .a .now) (args .b .now)
+    (at-lone-shape .lone-shape .ensures) (at-lone-shape2 .lone-shape2 .ensures)))
 
 pub pervade-spec : {M : Type 1} → statement M
 pervade-spec =

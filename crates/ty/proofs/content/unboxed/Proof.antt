@@ -74,7 +74,9 @@ returns-3 c =
     let at-if1 = c .before .before .before .before in
     let at-hand-over = c .before .before in
     let args = entry .args in
-    at-hand-over .hand-over .ensures ∙ ap (λ o. deliver o (args .result .now)) (sym (unboxed-out (args .ty .now) (at-lone-shape .lone-shape .ensures) (λ i. omega (arith, at-shared-slice-known .shared-slice-known .given i)) (sym (at-is-scalar .is-scalar .ensures) ∙ at-if1 .if1 .left)))
+    at-hand-over .hand-over .ensures ∙ ap (λ o. deliver o (args .result .now))
+    (sym (unboxed-out (args .ty .now) (at-lone-shape .lone-shape .ensures) (λ i. omega (arith, at-shared-slice-known .shared-slice-known .given i))
+    (sym (at-is-scalar .is-scalar .ensures) ∙ at-if1 .if1 .left)))
 
 pub unboxed-spec : {M : Type 1} → statement M
 unboxed-spec =

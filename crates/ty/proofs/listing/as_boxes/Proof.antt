@@ -39,7 +39,8 @@ returns c =
     let at-enum-told2 = c .before .before in
     let args = entry .args in
     let told = ap loneOf (at-enum-told2 .enum-told2 .given .1) in
-    ap (λ o. given o (args .result .now)) (c .offer .ensures ∙ ap (mapped some) (c .before .as-written .ensures ∙ told)) ∙ sym (boxes-refused (args .result .now) (args .ty .now) (passed-refused (lone (args .ty .now)) (sym (at-read-lone .read-lone .ensures) ∙ told)))
+    ap (λ o. given o (args .result .now)) (c .offer .ensures ∙ ap (mapped some) (c .before .as-written .ensures ∙ told))
+    ∙ sym (boxes-refused (args .result .now) (args .ty .now) (passed-refused (lone (args .ty .now)) (sym (at-read-lone .read-lone .ensures) ∙ told)))
 
 lone-shape-requires : tie.Need-lone-shape-requires
 lone-shape-requires c κs =
@@ -121,7 +122,8 @@ sub-hand-over c =
     let at-shared-slice-known = c .before .before .before .before .before .before .before .before .before .before in
     let at-look-inside = c .before .before .before in
     let args = entry .args in
-    name-within (args .result .now) (args .ty .now) (λ i. omega (arith, at-shared-slice-known .shared-slice-known .given i)) (at-look-inside .look-inside .ensures ∙ ap accepted (c .before .enum-told5 .given .1)) (c .lone-scalar .result) (c .lone-scalar .ensures .0)
+    name-within (args .result .now) (args .ty .now) (λ i. omega (arith, at-shared-slice-known .shared-slice-known .given i))
+    (at-look-inside .look-inside .ensures ∙ ap accepted (c .before .enum-told5 .given .1)) (c .lone-scalar .result) (c .lone-scalar .ensures .0)
 
 part-hand-over-start : tie.Need-part-hand-over-start
 part-hand-over-start c =
@@ -129,7 +131,8 @@ part-hand-over-start c =
     let at-shared-slice-known = c .before .before .before .before .before .before .before .before .before .before in
     let at-look-inside = c .before .before .before in
     let args = entry .args in
-    name-within (args .result .now) (args .ty .now) (λ i. omega (arith, at-shared-slice-known .shared-slice-known .given i)) (at-look-inside .look-inside .ensures ∙ ap accepted (c .before .enum-told5 .given .1)) (c .lone-scalar .result) (c .lone-scalar .ensures .0)
+    name-within (args .result .now) (args .ty .now) (λ i. omega (arith, at-shared-slice-known .shared-slice-known .given i))
+    (at-look-inside .look-inside .ensures ∙ ap accepted (c .before .enum-told5 .given .1)) (c .lone-scalar .result) (c .lone-scalar .ensures .0)
 
 part-hand-over-end : tie.Need-part-hand-over-end
 part-hand-over-end c = search needs
@@ -161,7 +164,9 @@ returns-3 c =
     let at-enum-told4 = c .before .before .before .before .before .before in
     let at-write-copies = c .before .before .before in
     let args = entry .args in
-    offer-is (c .offer2 .result) (at-write-copies .write-copies .result) (c .offer2 .ensures) (at-write-copies .write-copies .ensures) ∙ sym (boxes-any (args .result .now) (args .ty .now) (λ i. omega (arith, at-shared-slice-known .shared-slice-known .given i)) (at-lone-shape .lone-shape .ensures) (at-row-count .row-count .ensures) (at-look-inside .look-inside .ensures ∙ ap accepted (at-enum-told4 .enum-told4 .given .1)))
+    offer-is (c .offer2 .result) (at-write-copies .write-copies .result) (c .offer2 .ensures) (at-write-copies .write-copies .ensures)
+    ∙ sym (boxes-any (args .result .now) (args .ty .now) (λ i. omega (arith, at-shared-slice-known .shared-slice-known .given i)) (at-lone-shape .lone-shape .ensures)
+    (at-row-count .row-count .ensures) (at-look-inside .look-inside .ensures ∙ ap accepted (at-enum-told4 .enum-told4 .given .1)))
 
 same-length-2 : tie.Need-same-length-2
 same-length-2 c = search needs
@@ -176,7 +181,10 @@ returns-4 c =
     let at-held = c .before .before .before .before .before .before .before in
     let at-write-copies2 = c .before .before .before in
     let args = entry .args in
-    offer-is (c .offer3 .result) (at-write-copies2 .write-copies2 .result) (c .offer3 .ensures) (at-write-copies2 .write-copies2 .ensures) ∙ (ap (λ w. offered (deliver (listedFor (dimOf (at-row-count .row-count .result)) w) (args .result .now))) (rest-is (args .ty .now) (at-held .held .given .0 .0)) ∙ sym (boxes-all (args .result .now) (args .ty .now) (λ i. omega (arith, at-shared-slice-known .shared-slice-known .given i)) (at-lone-shape .lone-shape .ensures) (at-row-count .row-count .ensures) (at-look-inside .look-inside .ensures ∙ ap accepted (at-held .held .given .1))))
+    offer-is (c .offer3 .result) (at-write-copies2 .write-copies2 .result) (c .offer3 .ensures) (at-write-copies2 .write-copies2 .ensures)
+    ∙ (ap (λ w. offered (deliver (listedFor (dimOf (at-row-count .row-count .result)) w) (args .result .now))) (rest-is (args .ty .now) (at-held .held .given .0 .0))
+    ∙ sym (boxes-all (args .result .now) (args .ty .now) (λ i. omega (arith, at-shared-slice-known .shared-slice-known .given i)) (at-lone-shape .lone-shape .ensures)
+    (at-row-count .row-count .ensures) (at-look-inside .look-inside .ensures ∙ ap accepted (at-held .held .given .1))))
 
 same-length-3 : tie.Need-same-length-3
 same-length-3 c = search needs
@@ -190,7 +198,10 @@ returns-5 c =
     let at-lone-scalar = c .before .before .before .before .before .before in
     let at-hand-over = c .before .before .before in
     let args = entry .args in
-    offer-is (c .offer4 .result) (at-hand-over .hand-over .result) (c .offer4 .ensures) (at-hand-over .hand-over .ensures) ∙ (ap (λ w. offered (deliver (accepted w) (args .result .now))) (rest-is (args .ty .now) (at-lone-scalar .lone-scalar .result + 6)) ∙ sym (boxes-def (args .result .now) (args .ty .now) (λ i. omega (arith, at-shared-slice-known .shared-slice-known .given i)) (at-look-inside .look-inside .ensures ∙ ap accepted (at-enum-told5 .enum-told5 .given .1)) (at-lone-scalar .lone-scalar .result) (at-lone-scalar .lone-scalar .ensures .0)))
+    offer-is (c .offer4 .result) (at-hand-over .hand-over .result) (c .offer4 .ensures) (at-hand-over .hand-over .ensures)
+    ∙ (ap (λ w. offered (deliver (accepted w) (args .result .now))) (rest-is (args .ty .now) (at-lone-scalar .lone-scalar .result + 6))
+    ∙ sym (boxes-def (args .result .now) (args .ty .now) (λ i. omega (arith, at-shared-slice-known .shared-slice-known .given i))
+    (at-look-inside .look-inside .ensures ∙ ap accepted (at-enum-told5 .enum-told5 .given .1)) (at-lone-scalar .lone-scalar .result) (at-lone-scalar .lone-scalar .ensures .0)))
 
 pub as-boxes-spec : {M : Type 1} → statement M
 as-boxes-spec =

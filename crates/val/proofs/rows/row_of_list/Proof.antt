@@ -40,7 +40,9 @@ returns-2 c =
     let at-no-dims = c .before .before .before .before .before in
     let at-write-closed = c .before .before .before in
     let args = entry .args in
-    c .as-row .ensures (at-write-closed .write-closed .last .1 .1 .0) ∙ ap written (at-write-closed .write-closed .ensures ∙ ap (λ w. deliver (accepted w) (args .result .now)) (sym (write-num (at-no-dims .no-dims .result) (at-no-dims .no-dims .ensures)))) ∙ deliver-typed (args .result .now) (row-other (args .list .now) (at-if1 .if1 .left))
+    c .as-row .ensures (at-write-closed .write-closed .last .1 .1 .0)
+    ∙ ap written (at-write-closed .write-closed .ensures ∙ ap (λ w. deliver (accepted w) (args .result .now)) (sym (write-num (at-no-dims .no-dims .result) (at-no-dims .no-dims .ensures))))
+    ∙ deliver-typed (args .result .now) (row-other (args .list .now) (at-if1 .if1 .left))
 
 pub row-of-list-spec : {M : Type 1} → statement M
 row-of-list-spec =

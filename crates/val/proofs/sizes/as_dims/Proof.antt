@@ -53,7 +53,8 @@ returns-3 c =
     let at-enum-told3 = c .before .before .before in
     let at-read-lone = c .before .before in
     let args = entry .args in
-    ap (λ a. maybeDims a (dimsOf (c .without-dims2 .result .dims))) (c .without-dims2 .ensures) ∙ (c .before .as-no-dims .ensures _ ∙ for-any-type valueAsDims (args .list .now) (args .bytes .now) (at-enum-told3 .enum-told3 .given .1) (at-read-lone .read-lone .ensures) λ _. refl)
+    ap (λ a. maybeDims a (dimsOf (c .without-dims2 .result .dims))) (c .without-dims2 .ensures)
+    ∙ (c .before .as-no-dims .ensures _ ∙ for-any-type valueAsDims (args .list .now) (args .bytes .now) (at-enum-told3 .enum-told3 .given .1) (at-read-lone .read-lone .ensures) λ _. refl)
 
 pub as-dims-spec : {M : Type 1} → statement M
 as-dims-spec =

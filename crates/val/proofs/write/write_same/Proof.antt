@@ -45,7 +45,9 @@ returns-2 c =
     let at-enum-told = c .before .before .before .before in
     let at-hand-over = c .before .before in
     let args = entry .args in
-    at-hand-over .hand-over .ensures ∙ ap (λ o. deliver o (args .result .now)) (sym (write-same (args .ty .now) (λ i. omega (arith, at-shared-slice-known .shared-slice-known .given i)) (sym (at-read-lone .read-lone .ensures) ∙ ap loneOf (at-enum-told .enum-told .given .1))))
+    at-hand-over .hand-over .ensures ∙ ap (λ o. deliver o (args .result .now))
+    (sym (write-same (args .ty .now) (λ i. omega (arith, at-shared-slice-known .shared-slice-known .given i))
+    (sym (at-read-lone .read-lone .ensures) ∙ ap loneOf (at-enum-told .enum-told .given .1))))
 
 pub write-same-spec : {M : Type 1} → statement M
 write-same-spec =

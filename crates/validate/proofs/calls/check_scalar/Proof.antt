@@ -47,7 +47,8 @@ shape-at-requires c κs =
     let at-shared-slice-known2 = c .before .before .before .before in
     let at-read-both = c .before .before in
     let args = entry .args in
-    has-type ((lones (args .spec .now) (args .ty .now) (λ i. omega (arith, at-shared-slice-known .shared-slice-known .given i)) (λ i. omega (arith, at-shared-slice-known2 .shared-slice-known2 .given i)) (sym (at-read-both .read-both .ensures) ∙ ap loneOf (c .enum-told .given .1))) .pair .type-placed)
+    has-type ((lones (args .spec .now) (args .ty .now) (λ i. omega (arith, at-shared-slice-known .shared-slice-known .given i))
+    (λ i. omega (arith, at-shared-slice-known2 .shared-slice-known2 .given i)) (sym (at-read-both .read-both .ensures) ∙ ap loneOf (c .enum-told .given .1))) .pair .type-placed)
 
 shape-length-requires : tie.Need-shape-length-requires
 shape-length-requires c κs = search needs
@@ -70,14 +71,34 @@ check-scalar-at-requires c κs =
     let at-enum-told = c .before .before .before .before .before .before in
     let at-shape-length = c .before .before .before .before in
     let at-put-shape = c .before .before in
-    let args = entry .args in
-    (((lones (args .spec .now) (args .ty .now) (λ i. omega (arith, at-shared-slice-known .shared-slice-known .given i)) (λ i. omega (arith, at-shared-slice-known2 .shared-slice-known2 .given i)) (sym (at-read-both .read-both .ensures) ∙ ap loneOf (at-enum-told .enum-told .given .1))) .pair), omega (arith, at-shape-length .shape-length .ensures .0, at-shape-length .shape-length .ensures .1, at-put-shape .put-shape .kept .0))
+    let args = entry .args in (
+      ((lones (args .spec .now) (args .ty .now) (λ i. omega (arith, at-shared-slice-known .shared-slice-known .given i)) (λ i. omega (arith, at-shared-slice-known2 .shared-slice-known2 .given i))
+          (sym (at-read-both .read-both .ensures) ∙ ap loneOf (at-enum-told .enum-told .given .1))) .pair),
+      omega (arith, at-shape-length .shape-length .ensures .0, at-shape-length .shape-length .ensures .1, at-put-shape .put-shape .kept .0),
+    )
 
 enum-known-w : tie.Need-enum-known-w
 enum-known-w c = search needs
 
 array-share-prefix-out : tie.Need-array-share-prefix-out
-array-share-prefix-out c = omega (arith, c .before .before .before .before .before .before .before .before .before .shape-length .ensures .0, c .before .before .before .before .before .before .before .before .before .shape-length .ensures .1, roomy-done (c .before .before .before .before .before .before .before .before .before .shape-length .result + 24) (c .before .w .given .1) (c .before .before .before .before .check-scalar-at .ensures ((lones (c .before .before .before .before .before .before .before .before .before .before .before .before .before .before .before .before .before .args .spec .now) (c .before .before .before .before .before .before .before .before .before .before .before .before .before .before .before .before .before .args .ty .now) (λ i. omega (arith, c .before .before .before .before .before .before .before .before .before .before .before .before .before .before .before .before .shared-slice-known .given i)) (λ i. omega (arith, c .before .before .before .before .before .before .before .before .before .before .before .before .before .before .before .shared-slice-known2 .given i)) (sym (c .before .before .before .before .before .before .before .before .before .before .before .before .before .read-both .ensures) ∙ ap loneOf (c .before .before .before .before .before .before .before .before .before .before .before .enum-told .given .1))) .pair) .1), scalar-few ((lones (c .before .before .before .before .before .before .before .before .before .before .before .before .before .before .before .before .before .args .spec .now) (c .before .before .before .before .before .before .before .before .before .before .before .before .before .before .before .before .before .args .ty .now) (λ i. omega (arith, c .before .before .before .before .before .before .before .before .before .before .before .before .before .before .before .before .shared-slice-known .given i)) (λ i. omega (arith, c .before .before .before .before .before .before .before .before .before .before .before .before .before .before .before .shared-slice-known2 .given i)) (sym (c .before .before .before .before .before .before .before .before .before .before .before .before .before .read-both .ensures) ∙ ap loneOf (c .before .before .before .before .before .before .before .before .before .before .before .enum-told .given .1))) .pair) (c .before .before .before .before .check-scalar-at .last .1 .1 .1 .1 .1 .1 .0) (take (c .before .before .before .before .before .before .before .before .before .shape-length .result) (c .before .before .before .before .before .before .before .put-shape .last .0)) (c .before .w .given .1) (c .before .before .before .before .check-scalar-at .ensures ((lones (c .before .before .before .before .before .before .before .before .before .before .before .before .before .before .before .before .before .args .spec .now) (c .before .before .before .before .before .before .before .before .before .before .before .before .before .before .before .before .before .args .ty .now) (λ i. omega (arith, c .before .before .before .before .before .before .before .before .before .before .before .before .before .before .before .before .shared-slice-known .given i)) (λ i. omega (arith, c .before .before .before .before .before .before .before .before .before .before .before .before .before .before .before .shared-slice-known2 .given i)) (sym (c .before .before .before .before .before .before .before .before .before .before .before .before .before .read-both .ensures) ∙ ap loneOf (c .before .before .before .before .before .before .before .before .before .before .before .enum-told .given .1))) .pair) .0))
+array-share-prefix-out c =
+    let both = lones (c .before .before .before .before .before .before .before .before .before .before .before .before .before .before .before .before .before .args .spec .now)
+    (c .before .before .before .before .before .before .before .before .before .before .before .before .before .before .before .before .before .args .ty .now)
+    (λ i. omega (arith, c .before .before .before .before .before .before .before .before .before .before .before .before .before .before .before .before .shared-slice-known .given i))
+    (λ i. omega (arith, c .before .before .before .before .before .before .before .before .before .before .before .before .before .before .before .shared-slice-known2 .given i))
+    (sym (c .before .before .before .before .before .before .before .before .before .before .before .before .before .read-both .ensures)
+    ∙ ap loneOf (c .before .before .before .before .before .before .before .before .before .before .before .enum-told .given .1)) in
+    omega (
+      arith,
+      c .before .before .before .before .before .before .before .before .before .shape-length .ensures .0,
+      c .before .before .before .before .before .before .before .before .before .shape-length .ensures .1,
+      roomy-done
+          (c .before .before .before .before .before .before .before .before .before .shape-length .result + 24) (c .before .w .given .1)
+          (c .before .before .before .before .check-scalar-at .ensures (both .pair) .1),
+      scalar-few (both .pair) (c .before .before .before .before .check-scalar-at .last .1 .1 .1 .1 .1 .1 .0)
+          (take (c .before .before .before .before .before .before .before .before .before .shape-length .result) (c .before .before .before .before .before .before .before .put-shape .last .0))
+          (c .before .w .given .1) (c .before .before .before .before .check-scalar-at .ensures (both .pair) .0),
+    )
 
 slice-aggregate-hand-over : tie.Need-slice-aggregate-hand-over
 slice-aggregate-hand-over c =
@@ -91,7 +112,19 @@ slice-aggregate-hand-over c =
     let at-check-scalar-at = c .before .before .before .before .before in
     let at-w = c .before .before in
     let args = entry .args in
-    sym (length-take-le _ _ (omega (arith, at-shape-length .shape-length .ensures .0, at-shape-length .shape-length .ensures .1, roomy-done (at-shape-length .shape-length .result + 24) (at-w .w .given .1) (at-check-scalar-at .check-scalar-at .ensures ((lones (args .spec .now) (args .ty .now) (λ i. omega (arith, at-shared-slice-known .shared-slice-known .given i)) (λ i. omega (arith, at-shared-slice-known2 .shared-slice-known2 .given i)) (sym (at-read-both .read-both .ensures) ∙ ap loneOf (at-enum-told .enum-told .given .1))) .pair) .1), scalar-few ((lones (args .spec .now) (args .ty .now) (λ i. omega (arith, at-shared-slice-known .shared-slice-known .given i)) (λ i. omega (arith, at-shared-slice-known2 .shared-slice-known2 .given i)) (sym (at-read-both .read-both .ensures) ∙ ap loneOf (at-enum-told .enum-told .given .1))) .pair) (at-check-scalar-at .check-scalar-at .last .1 .1 .1 .1 .1 .1 .0) (take (at-shape-length .shape-length .result) (at-put-shape .put-shape .last .0)) (at-w .w .given .1) (at-check-scalar-at .check-scalar-at .ensures ((lones (args .spec .now) (args .ty .now) (λ i. omega (arith, at-shared-slice-known .shared-slice-known .given i)) (λ i. omega (arith, at-shared-slice-known2 .shared-slice-known2 .given i)) (sym (at-read-both .read-both .ensures) ∙ ap loneOf (at-enum-told .enum-told .given .1))) .pair) .0), at-check-scalar-at .check-scalar-at .kept .1 .1 .1 .1 .1 .1 .0, at-put-shape .put-shape .kept .0)))
+    let both = lones (args .spec .now) (args .ty .now) (λ i. omega (arith, at-shared-slice-known .shared-slice-known .given i))
+    (λ i. omega (arith, at-shared-slice-known2 .shared-slice-known2 .given i)) (sym (at-read-both .read-both .ensures) ∙ ap loneOf (at-enum-told .enum-told .given .1)) in
+    sym (length-take-le _ _ (omega (
+      arith,
+      at-shape-length .shape-length .ensures .0,
+      at-shape-length .shape-length .ensures .1,
+      roomy-done (at-shape-length .shape-length .result + 24)
+          (at-w .w .given .1) (at-check-scalar-at .check-scalar-at .ensures (both .pair) .1),
+      scalar-few (both .pair) (at-check-scalar-at .check-scalar-at .last .1 .1 .1 .1 .1 .1 .0)
+          (take (at-shape-length .shape-length .result) (at-put-shape .put-shape .last .0)) (at-w .w .given .1) (at-check-scalar-at .check-scalar-at .ensures (both .pair) .0),
+      at-check-scalar-at .check-scalar-at .kept .1 .1 .1 .1 .1 .1 .0,
+      at-put-shape .put-shape .kept .0,
+    )))
 
 hand-over-requires : tie.Need-hand-over-requires
 hand-over-requires c κs = search needs
@@ -116,7 +149,15 @@ returns-2 c =
     let at-w = c .before .before .before .before .before .before in
     let at-hand-over = c .before .before in
     let args = entry .args in
-    at-hand-over .hand-over .ensures ∙ sym (ap (λ o. deliver o (args .result .now)) (scalar-checked (lones (args .spec .now) (args .ty .now) (λ i. omega (arith, at-shared-slice-known .shared-slice-known .given i)) (λ i. omega (arith, at-shared-slice-known2 .shared-slice-known2 .given i)) (sym (at-read-both .read-both .ensures) ∙ ap loneOf (at-enum-told .enum-told .given .1))) ∙ scalar-written (((lones (args .spec .now) (args .ty .now) (λ i. omega (arith, at-shared-slice-known .shared-slice-known .given i)) (λ i. omega (arith, at-shared-slice-known2 .shared-slice-known2 .given i)) (sym (at-read-both .read-both .ensures) ∙ ap loneOf (at-enum-told .enum-told .given .1))) .pair) .type-shape) (take (at-shape-length .shape-length .result) (at-put-shape .put-shape .last .0)) (laid-behind _ (writeShape (shapeFor (at-shape-at .shape-at .result))) 0 {end = at-shape-length .shape-length .result} (omega (arith, at-shape-length .shape-length .ensures .0, at-shape-length .shape-length .ensures .1)) (omega (arith, at-shape-length .shape-length .ensures .0, at-shape-length .shape-length .ensures .1)) (at-put-shape .put-shape .ensures .1) ∙ ap writeShape (at-shape-at .shape-at .ensures maxDepth (ty (((lones (args .spec .now) (args .ty .now) (λ i. omega (arith, at-shared-slice-known .shared-slice-known .given i)) (λ i. omega (arith, at-shared-slice-known2 .shared-slice-known2 .given i)) (sym (at-read-both .read-both .ensures) ∙ ap loneOf (at-enum-told .enum-told .given .1))) .pair) .type-shape) (((lones (args .spec .now) (args .ty .now) (λ i. omega (arith, at-shared-slice-known .shared-slice-known .given i)) (λ i. omega (arith, at-shared-slice-known2 .shared-slice-known2 .given i)) (sym (at-read-both .read-both .ensures) ∙ ap loneOf (at-enum-told .enum-told .given .1))) .pair) .type-scalar)) (type-at (((lones (args .spec .now) (args .ty .now) (λ i. omega (arith, at-shared-slice-known .shared-slice-known .given i)) (λ i. omega (arith, at-shared-slice-known2 .shared-slice-known2 .given i)) (sym (at-read-both .read-both .ensures) ∙ ap loneOf (at-enum-told .enum-told .given .1))) .pair) .type-placed)))) (scalarOf 0 0 ((lones (args .spec .now) (args .ty .now) (λ i. omega (arith, at-shared-slice-known .shared-slice-known .given i)) (λ i. omega (arith, at-shared-slice-known2 .shared-slice-known2 .given i)) (sym (at-read-both .read-both .ensures) ∙ ap loneOf (at-enum-told .enum-told .given .1))) .pair)) (at-check-scalar-at .check-scalar-at .last .1 .1 .1 .1 .1 .1 .0) (at-check-scalar-at .check-scalar-at .ensures ((lones (args .spec .now) (args .ty .now) (λ i. omega (arith, at-shared-slice-known .shared-slice-known .given i)) (λ i. omega (arith, at-shared-slice-known2 .shared-slice-known2 .given i)) (sym (at-read-both .read-both .ensures) ∙ ap loneOf (at-enum-told .enum-told .given .1))) .pair) .0) (at-w .w .given .1)))
+    let both = lones (args .spec .now) (args .ty .now) (λ i. omega (arith, at-shared-slice-known .shared-slice-known .given i))
+    (λ i. omega (arith, at-shared-slice-known2 .shared-slice-known2 .given i)) (sym (at-read-both .read-both .ensures) ∙ ap loneOf (at-enum-told .enum-told .given .1)) in
+    at-hand-over .hand-over .ensures ∙ sym (ap (λ o. deliver o (args .result .now))
+    (scalar-checked both ∙ scalar-written (both .pair .type-shape) (take (at-shape-length .shape-length .result) (at-put-shape .put-shape .last .0))
+    (laid-behind _ (writeShape (shapeFor (at-shape-at .shape-at .result))) 0 {end = at-shape-length .shape-length .result}
+    (omega (arith, at-shape-length .shape-length .ensures .0, at-shape-length .shape-length .ensures .1))
+    (omega (arith, at-shape-length .shape-length .ensures .0, at-shape-length .shape-length .ensures .1)) (at-put-shape .put-shape .ensures .1)
+    ∙ ap writeShape (at-shape-at .shape-at .ensures maxDepth (ty (both .pair .type-shape) (both .pair .type-scalar)) (type-at (both .pair .type-placed)))) (scalarOf 0 0 (both .pair))
+    (at-check-scalar-at .check-scalar-at .last .1 .1 .1 .1 .1 .1 .0) (at-check-scalar-at .check-scalar-at .ensures (both .pair) .0) (at-w .w .given .1)))
 
 returns-3 : tie.Need-returns-3
 returns-3 c =
@@ -130,7 +171,14 @@ returns-3 c =
     let at-put-shape = c .before .before .before .before .before .before .before in
     let at-check-scalar-at = c .before .before .before .before in
     let args = entry .args in
-    sym (deliver-refused _ (scalar-checked (lones (args .spec .now) (args .ty .now) (λ i. omega (arith, at-shared-slice-known .shared-slice-known .given i)) (λ i. omega (arith, at-shared-slice-known2 .shared-slice-known2 .given i)) (sym (at-read-both .read-both .ensures) ∙ ap loneOf (at-enum-told .enum-told .given .1))) ∙ scalar-not (((lones (args .spec .now) (args .ty .now) (λ i. omega (arith, at-shared-slice-known .shared-slice-known .given i)) (λ i. omega (arith, at-shared-slice-known2 .shared-slice-known2 .given i)) (sym (at-read-both .read-both .ensures) ∙ ap loneOf (at-enum-told .enum-told .given .1))) .pair) .type-shape) (take (at-shape-length .shape-length .result) (at-put-shape .put-shape .last .0)) (laid-behind _ (writeShape (shapeFor (at-shape-at .shape-at .result))) 0 {end = at-shape-length .shape-length .result} (omega (arith, at-shape-length .shape-length .ensures .0, at-shape-length .shape-length .ensures .1)) (omega (arith, at-shape-length .shape-length .ensures .0, at-shape-length .shape-length .ensures .1)) (at-put-shape .put-shape .ensures .1) ∙ ap writeShape (at-shape-at .shape-at .ensures maxDepth (ty (((lones (args .spec .now) (args .ty .now) (λ i. omega (arith, at-shared-slice-known .shared-slice-known .given i)) (λ i. omega (arith, at-shared-slice-known2 .shared-slice-known2 .given i)) (sym (at-read-both .read-both .ensures) ∙ ap loneOf (at-enum-told .enum-told .given .1))) .pair) .type-shape) (((lones (args .spec .now) (args .ty .now) (λ i. omega (arith, at-shared-slice-known .shared-slice-known .given i)) (λ i. omega (arith, at-shared-slice-known2 .shared-slice-known2 .given i)) (sym (at-read-both .read-both .ensures) ∙ ap loneOf (at-enum-told .enum-told .given .1))) .pair) .type-scalar)) (type-at (((lones (args .spec .now) (args .ty .now) (λ i. omega (arith, at-shared-slice-known .shared-slice-known .given i)) (λ i. omega (arith, at-shared-slice-known2 .shared-slice-known2 .given i)) (sym (at-read-both .read-both .ensures) ∙ ap loneOf (at-enum-told .enum-told .given .1))) .pair) .type-placed)))) (scalarOf 0 0 ((lones (args .spec .now) (args .ty .now) (λ i. omega (arith, at-shared-slice-known .shared-slice-known .given i)) (λ i. omega (arith, at-shared-slice-known2 .shared-slice-known2 .given i)) (sym (at-read-both .read-both .ensures) ∙ ap loneOf (at-enum-told .enum-told .given .1))) .pair)) (at-check-scalar-at .check-scalar-at .last .1 .1 .1 .1 .1 .1 .0) (at-check-scalar-at .check-scalar-at .ensures ((lones (args .spec .now) (args .ty .now) (λ i. omega (arith, at-shared-slice-known .shared-slice-known .given i)) (λ i. omega (arith, at-shared-slice-known2 .shared-slice-known2 .given i)) (sym (at-read-both .read-both .ensures) ∙ ap loneOf (at-enum-told .enum-told .given .1))) .pair) .0) (c .before .w2 .given .1)))
+    let both = lones (args .spec .now) (args .ty .now) (λ i. omega (arith, at-shared-slice-known .shared-slice-known .given i))
+    (λ i. omega (arith, at-shared-slice-known2 .shared-slice-known2 .given i)) (sym (at-read-both .read-both .ensures) ∙ ap loneOf (at-enum-told .enum-told .given .1)) in
+    sym (deliver-refused _ (scalar-checked both ∙ scalar-not (both .pair .type-shape) (take (at-shape-length .shape-length .result) (at-put-shape .put-shape .last .0))
+    (laid-behind _ (writeShape (shapeFor (at-shape-at .shape-at .result))) 0 {end = at-shape-length .shape-length .result}
+    (omega (arith, at-shape-length .shape-length .ensures .0, at-shape-length .shape-length .ensures .1))
+    (omega (arith, at-shape-length .shape-length .ensures .0, at-shape-length .shape-length .ensures .1)) (at-put-shape .put-shape .ensures .1)
+    ∙ ap writeShape (at-shape-at .shape-at .ensures maxDepth (ty (both .pair .type-shape) (both .pair .type-scalar)) (type-at (both .pair .type-placed)))) (scalarOf 0 0 (both .pair))
+    (at-check-scalar-at .check-scalar-at .last .1 .1 .1 .1 .1 .1 .0) (at-check-scalar-at .check-scalar-at .ensures (both .pair) .0) (c .before .w2 .given .1)))
 
 pub check-scalar-spec : {M : Type 1} → statement M
 check-scalar-spec =

@@ -57,7 +57,8 @@ returns-2 c =
     let at-lone-shape = c .before .before .before in
     let at-lone-shape2 = c .before .before in
     let args = entry .args in
-    sym (deliver-refused _ (shape-clash (sideOf (args .side)) (lone (args .spec .now)) (lone (args .ty .now)) (at-lone-shape .lone-shape .ensures) (at-lone-shape2 .lone-shape2 .ensures) (c .before .check-shapes .result) (c .before .check-shapes .ensures) (c .if1 .taken)))
+    sym (deliver-refused _ (shape-clash (sideOf (args .side)) (lone (args .spec .now)) (lone (args .ty .now)) (at-lone-shape .lone-shape .ensures) (at-lone-shape2 .lone-shape2 .ensures)
+    (c .before .check-shapes .result) (c .before .check-shapes .ensures) (c .if1 .taken)))
 
 lone-scalar-requires : tie.Need-lone-scalar-requires
 lone-scalar-requires c κs =
@@ -95,7 +96,10 @@ returns-3 c =
     let at-lone-scalar = c .before .before .before .before .before .before in
     let at-write-parts = c .before .before in
     let args = entry .args in
-    at-write-parts .write-parts .ensures ∙ (ap (λ w. deliver (accepted (writeShape (shapeFor (at-check-shapes .check-shapes .result .shape)) ++ w)) (args .result .now)) (rest-is (args .ty .now) (at-lone-scalar .lone-scalar .result)) ∙ ap (λ o. deliver o (args .result .now)) (sym (shape-merged (sideOf (args .side)) (lone (args .spec .now)) (lone (args .ty .now)) (at-lone-shape .lone-shape .ensures) (at-lone-shape2 .lone-shape2 .ensures) (at-lone-scalar .lone-scalar .ensures .0) (at-check-shapes .check-shapes .result) (at-check-shapes .check-shapes .ensures) (at-if1 .if1 .left))))
+    at-write-parts .write-parts .ensures ∙ (ap (λ w. deliver (accepted (writeShape (shapeFor (at-check-shapes .check-shapes .result .shape)) ++ w)) (args .result .now))
+    (rest-is (args .ty .now) (at-lone-scalar .lone-scalar .result))
+    ∙ ap (λ o. deliver o (args .result .now)) (sym (shape-merged (sideOf (args .side)) (lone (args .spec .now)) (lone (args .ty .now)) (at-lone-shape .lone-shape .ensures)
+    (at-lone-shape2 .lone-shape2 .ensures) (at-lone-scalar .lone-scalar .ensures .0) (at-check-shapes .check-shapes .result) (at-check-shapes .check-shapes .ensures) (at-if1 .if1 .left))))
 
 pub check-shape-spec : {M : Type 1} → statement M
 check-shape-spec =

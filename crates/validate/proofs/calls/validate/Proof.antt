@@ -51,7 +51,11 @@ array-share-prefix-out c =
     let entry = c .before .before .before .before .before .before .before .before .before .before .before .before in
     let at-validate-known = c .before .before .before .before in
     let args = entry .args in
-    omega (arith, (subst (λ r. Puts r (at-validate-known .validate-known .last .1 .1 .1 .0) (both (λ s t. mapped writeTy (validate (sideOf (args .side)) s t)) (lone (args .spec .now)) (lone (args .ty .now)))) (c .before .w .given .1) (at-validate-known .validate-known .ensures)) .1)
+    omega (
+      arith,
+      (subst (λ r. Puts r (at-validate-known .validate-known .last .1 .1 .1 .0)
+          (both (λ s t. mapped writeTy (validate (sideOf (args .side)) s t)) (lone (args .spec .now)) (lone (args .ty .now)))) (c .before .w .given .1) (at-validate-known .validate-known .ensures)) .1,
+    )
 
 slice-aggregate-hand-over : tie.Need-slice-aggregate-hand-over
 slice-aggregate-hand-over c =
@@ -59,7 +63,8 @@ slice-aggregate-hand-over c =
     let at-validate-known = c .before .before .before .before .before in
     let at-w = c .before .before in
     let args = entry .args in
-    sym (length-take-le _ _ ((subst (λ r. Puts r (at-validate-known .validate-known .last .1 .1 .1 .0) (both (λ s t. mapped writeTy (validate (sideOf (args .side)) s t)) (lone (args .spec .now)) (lone (args .ty .now)))) (at-w .w .given .1) (at-validate-known .validate-known .ensures)) .1))
+    sym (length-take-le _ _ ((subst (λ r. Puts r (at-validate-known .validate-known .last .1 .1 .1 .0)
+    (both (λ s t. mapped writeTy (validate (sideOf (args .side)) s t)) (lone (args .spec .now)) (lone (args .ty .now)))) (at-w .w .given .1) (at-validate-known .validate-known .ensures)) .1))
 
 hand-over-requires : tie.Need-hand-over-requires
 hand-over-requires c κs = search needs
@@ -77,14 +82,17 @@ returns-2 c =
     let at-w = c .before .before .before .before .before .before in
     let at-hand-over = c .before .before in
     let args = entry .args in
-    at-hand-over .hand-over .ensures ∙ sym (ap (λ o. deliver o (args .result .now)) ((subst (λ r. Puts r (at-validate-known .validate-known .last .1 .1 .1 .0) (both (λ s t. mapped writeTy (validate (sideOf (args .side)) s t)) (lone (args .spec .now)) (lone (args .ty .now)))) (at-w .w .given .1) (at-validate-known .validate-known .ensures)) .0))
+    at-hand-over .hand-over .ensures ∙ sym (ap (λ o. deliver o (args .result .now))
+    ((subst (λ r. Puts r (at-validate-known .validate-known .last .1 .1 .1 .0) (both (λ s t. mapped writeTy (validate (sideOf (args .side)) s t)) (lone (args .spec .now)) (lone (args .ty .now))))
+    (at-w .w .given .1) (at-validate-known .validate-known .ensures)) .0))
 
 returns-3 : tie.Need-returns-3
 returns-3 c =
     let entry = c .before .before .before .before .before .before .before .before .before .before .before .before in
     let at-validate-known = c .before .before .before .before in
     let args = entry .args in
-    sym (deliver-refused _ (subst (λ r. Puts r (at-validate-known .validate-known .last .1 .1 .1 .0) (both (λ s t. mapped writeTy (validate (sideOf (args .side)) s t)) (lone (args .spec .now)) (lone (args .ty .now)))) (c .before .w2 .given .1) (at-validate-known .validate-known .ensures)))
+    sym (deliver-refused _ (subst (λ r. Puts r (at-validate-known .validate-known .last .1 .1 .1 .0)
+    (both (λ s t. mapped writeTy (validate (sideOf (args .side)) s t)) (lone (args .spec .now)) (lone (args .ty .now)))) (c .before .w2 .given .1) (at-validate-known .validate-known .ensures)))
 
 pub validate-spec : {M : Type 1} → statement M
 validate-spec =

@@ -19,7 +19,7 @@ use Rattle.cursor.specs.declared.flags.FlagRead.the-variants.{Got as Fil
 use Rattle.cursor.specs.declared.types.TypeRead.{TypeRead}
 use Rattle.cursor.specs.declared.types.TypeRead.the-variants.{Got as Typed, Refused as Untyped}
 use Rattle.cursor.specs.declared.StepRead.{StepRead}
-use Rattle.cursor.specs.declared.StepRead.the-variants.{Put, Row, Pervading, Join, Validating, Refused}
+use Rattle.cursor.specs.declared.StepRead.the-variants.{Put, Pervading, Validating}
 
 -- ---- its flag or type
 
@@ -36,7 +36,7 @@ module _ (s : List ℕ) (p at : ℕ) where
     pub flag-is : {f g : _} {n : ℕ} → r ≡ Fills f g n → StepIs (Pervading f g n) s (argumentFrom s aPervading p at)
     flag-is is = sym read ∙ ap (λ x. fillsOf x p) is
 
-    pub flag-ends : {k : ℕ} {x : StepRead} → r ≡ Unflagged k → x ≡ Refused k p → StepIs x s (argumentFrom s aPervading p at)
+    pub flag-ends : {k n : ℕ} → r ≡ Unflagged k → n ≡ k → argumentFrom s aPervading p at ≡ stopped n p
     flag-ends is e = rw e (sym read ∙ ap (λ x. fillsOf x p) is)
 
   module _ {r : TypeRead} (read : TypeIs r s at (readType s at)) where
@@ -55,22 +55,22 @@ module _ (s : List ℕ) (p at : ℕ) where
           go : TypeIs (Typed n) s at (readType s at) → StepIs (Validating at n) s (argumentFrom s aValidating p at)
           go (t, e, stretch) = (t, rw e, stretch)
 
-    module _ {k q : ℕ} {x : StepRead} (is : r ≡ Untyped k q) (ends : x ≡ Refused k q) where
+    module _ {k q n place : ℕ} (is : r ≡ Untyped k q) (number : n ≡ k) (names : place ≡ q) where
       unread : readType s at ≡ stopped k q
       unread = rw is at read
 
-      pub put-ends : StepIs x s (argumentFrom s aPut p at)
+      pub put-ends : argumentFrom s aPut p at ≡ stopped n place
       unfolding argumentFrom
-      put-ends = rw (ends, unread)
+      put-ends = rw (number, names, unread)
 
-      pub validating-ends : StepIs x s (argumentFrom s aValidating p at)
+      pub validating-ends : argumentFrom s aValidating p at ≡ stopped n place
       unfolding argumentFrom
-      validating-ends = rw (ends, unread)
+      validating-ends = rw (number, names, unread)
 
 -- ---- its mark and the stack
 
 module _ (s : List ℕ) (h at : ℕ) {m : MarkRead} (read : markedOf m at ≡ opcodeFrom s at at) where
-  pub mark-ends : {k : ℕ} {x : StepRead} → m ≡ Unmarked k → x ≡ Refused k at → StepIs x s (stepFrom s h at at)
+  pub mark-ends : {k n : ℕ} → m ≡ Unmarked k → n ≡ k → stepFrom s h at at ≡ stopped n at
   mark-ends {k} is e = rw e (step-unmarked s h at at k at (sym read ∙ ap (λ x. markedOf x at) is))
 
   module _ {c : Opcode} {next taken : ℕ} (is : m ≡ Mark c next) (some : taken ≡ takes (opcodeFor c)) where

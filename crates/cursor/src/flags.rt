@@ -20,6 +20,20 @@ pub enum FlagRead {
     },
 }
 
+// The number of a flag's refusal, 0 where it was read.
+pub fn flag_number(read: FlagRead) -> u8
+    ensures { λ r. ⌜ ((k : ℕ) → read ≡ FlagRead.Refused k → r ≡ k) ⌝ }
+{
+    match read {
+        FlagRead::Got {
+            top_fill: _,
+            below_fill: _,
+            next: _,
+        } => 0,
+        FlagRead::Refused { number } => number,
+    }
+}
+
 pub fn read_flag(s: &[u8], at: usize) -> FlagRead
     ensures { λ r. ⌜ ((p : ℕ) → fillsOf r p ≡ argumentFrom (now (s .entry)) aPervading p at) ⌝ }
 {

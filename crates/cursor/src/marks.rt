@@ -8,10 +8,12 @@ use limits::marks::VALIDATE;
 use limits::refusal::ENDED;
 use limits::refusal::UNMARKED;
 ghost use mathlib.Core.Path.{_≡_};
-ghost use Prim.Native.Nat.{_-_};
+ghost use Prim.Native.Nat.{ℕ, _-_};
 ghost use lib.ListN.{length};
-ghost use Rattle.format.specs.Records.{mark};
-ghost use Rattle.machine.specs.Sheet.{isMark, opcodeFrom};
+ghost use Rattle.model.specs.Refusals.{unmarked};
+ghost use Rattle.format.specs.Records.{mark, orStop};
+ghost use Rattle.machine.specs.Steps.{opcodes};
+ghost use Rattle.machine.specs.Sheet.{isMark, opcodeIn, opcodeFrom};
 ghost use Rattle.cursor.specs.Answers.{markedOf};
 
 // Which step a mark begins.
@@ -29,6 +31,16 @@ pub enum MarkRead {
     Refused { number: u8 },
 }
 
+// The number of a mark's refusal, 0 where it was read.
+pub fn mark_number(read: MarkRead) -> u8
+    ensures { λ r. ⌜ ((k : ℕ) → read ≡ MarkRead.Refused k → r ≡ k) ⌝ }
+{
+    match read {
+        MarkRead::Got { opcode: _, next: _ } => 0,
+        MarkRead::Refused { number } => number,
+    }
+}
+
 // Both bytes are there before the mark is judged.
 pub fn read_mark(s: &[u8], at: usize) -> MarkRead
     ensures { λ r. ⌜ markedOf r at ≡ opcodeFrom (now (s .entry)) at at ⌝ }
@@ -36,9 +48,12 @@ pub fn read_mark(s: &[u8], at: usize) -> MarkRead
     if bytes_left(s, at) < 2 {
         return MarkRead::Refused { number: ENDED };
     }
-    let x = s[at];
-    let y = s[at + 1];
-    let next = at + 2;
+    judge_mark(s[at], s[at + 1], at + 2)
+}
+
+fn judge_mark(x: u8, y: u8, next: usize) -> MarkRead
+    ensures { λ r. ⌜ ((p : ℕ) → markedOf r p ≡ orStop (opcodeIn opcodes x y) unmarked p next) ⌝ }
+{
     if is_mark(PUT, x, y) {
         return MarkRead::Got {
             opcode: Opcode::Put,

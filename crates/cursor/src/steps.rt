@@ -2,11 +2,15 @@
 use crate::StepRead;
 use crate::flag_at;
 use crate::flags::FlagRead;
+use crate::flags::flag_number;
 use crate::mark_at;
 use crate::marks::MarkRead;
 use crate::marks::Opcode;
+use crate::marks::mark_number;
 use crate::type_at;
 use crate::types::TypeRead;
+use crate::types::type_number;
+use crate::types::type_place;
 use limits::refusal::OVERFLOW;
 use limits::refusal::UNDERFLOW;
 use stack::MAX_STACK;
@@ -23,7 +27,10 @@ pub fn read_step(s: &[u8], at: usize, height: usize) -> StepRead
 {
     let marked = mark_at(s, at);
     let MarkRead::Got { opcode, next } = marked else {
-        return end_at_mark(marked, at);
+        return StepRead::Refused {
+            number: mark_number(marked),
+            place: at,
+        };
     };
     let taken = takes(opcode);
     if height < taken {
@@ -66,7 +73,10 @@ fn read_put(s: &[u8], start: usize) -> StepRead
 {
     let read = type_at(s, start);
     let TypeRead::Got { next } = read else {
-        return end_at_type(read);
+        return StepRead::Refused {
+            number: type_number(read),
+            place: type_place(read),
+        };
     };
     StepRead::Put { start, next }
 }
@@ -82,7 +92,10 @@ fn read_pervading(s: &[u8], mark: usize, at: usize) -> StepRead
         next,
     } = read
     else {
-        return end_at_flag(read, mark);
+        return StepRead::Refused {
+            number: flag_number(read),
+            place: mark,
+        };
     };
     StepRead::Pervading {
         top_fill,
@@ -97,54 +110,10 @@ fn read_validating(s: &[u8], start: usize) -> StepRead
 {
     let read = type_at(s, start);
     let TypeRead::Got { next } = read else {
-        return end_at_type(read);
+        return StepRead::Refused {
+            number: type_number(read),
+            place: type_place(read),
+        };
     };
     StepRead::Validating { start, next }
-}
-
-// The refusal of a mark, of a flag or of a type ends the step. Asked of one that was read, it has the number of none.
-fn end_at_mark(read: MarkRead, mark: usize) -> StepRead
-    ensures { λ r. ⌜ ((k : ℕ) → read ≡ MarkRead.Refused k → r ≡ StepRead.Refused k mark) ⌝ }
-{
-    match read {
-        MarkRead::Got { opcode: _, next: _ } => StepRead::Refused {
-            number: 0,
-            place: mark,
-        },
-        MarkRead::Refused { number } => StepRead::Refused {
-            number,
-            place: mark,
-        },
-    }
-}
-
-fn end_at_flag(read: FlagRead, mark: usize) -> StepRead
-    ensures { λ r. ⌜ ((k : ℕ) → read ≡ FlagRead.Refused k → r ≡ StepRead.Refused k mark) ⌝ }
-{
-    match read {
-        FlagRead::Got {
-            top_fill: _,
-            below_fill: _,
-            next: _,
-        } => StepRead::Refused {
-            number: 0,
-            place: mark,
-        },
-        FlagRead::Refused { number } => StepRead::Refused {
-            number,
-            place: mark,
-        },
-    }
-}
-
-fn end_at_type(read: TypeRead) -> StepRead
-    ensures { λ r. ⌜ ((k p : ℕ) → read ≡ TypeRead.Refused k p → r ≡ StepRead.Refused k p) ⌝ }
-{
-    match read {
-        TypeRead::Got { next } => StepRead::Refused {
-            number: 0,
-            place: next,
-        },
-        TypeRead::Refused { number, place } => StepRead::Refused { number, place },
-    }
 }

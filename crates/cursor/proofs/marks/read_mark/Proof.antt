@@ -15,7 +15,10 @@ bytes-left-requires c κs = search needs
 
 -- src/marks.rt:49:9
 returns : tie.Need-returns
-returns c = sym (mark-ended (c .before .before .before .args .s .now) (c .before .before .before .args .at) (omega (arith, c .if1 .taken, c .before .bytes-left .ensures)))
+returns c =
+    let entry = c .before .before .before in
+    let args = entry .args in
+    sym (mark-ended (args .s .now) (args .at) (omega (arith, c .if1 .taken, c .before .bytes-left .ensures)))
 
 -- src/marks.rt:51:16
 shared-slice-read-judge-mark : tie.Need-shared-slice-read-judge-mark
@@ -39,7 +42,12 @@ judge-mark-requires c κs = search needs
 
 -- src/marks.rt:45:1
 returns-2 : tie.Need-returns-2
-returns-2 c = c .judge-mark .ensures (c .before .before .before .before .before .before .args .at) ∙ sym (mark-read (c .before .before .before .before .before .before .args .s .now) (c .before .before .before .before .before .before .args .at) (omega (arith, c .before .before .before .if1 .left, c .before .before .before .before .bytes-left .ensures)))
+returns-2 c =
+    let entry = c .before .before .before .before .before .before in
+    let at-bytes-left = c .before .before .before .before in
+    let at-if1 = c .before .before .before in
+    let args = entry .args in
+    c .judge-mark .ensures (args .at) ∙ sym (mark-read (args .s .now) (args .at) (omega (arith, at-if1 .if1 .left, at-bytes-left .bytes-left .ensures)))
 
 pub read-mark-spec : {M : Type 1} → statement M
 read-mark-spec =

@@ -25,11 +25,19 @@ flag-number-requires c κs = search needs
 
 -- src/steps.rt:95:9
 returns : tie.Need-returns
-returns c = flag-ends (c .before .before .before .before .before .args .s .now) (c .before .before .before .before .before .args .mark) (c .before .before .before .before .before .args .at) (c .before .before .before .flag-at .ensures (c .before .before .before .before .before .args .mark)) (c .before .enum-told .given .1) (c .flag-number .ensures _ (c .before .enum-told .given .1))
+returns c =
+    let entry = c .before .before .before .before .before in
+    let at-flag-at = c .before .before .before in
+    let args = entry .args in
+    flag-ends (args .s .now) (args .mark) (args .at) (at-flag-at .flag-at .ensures (args .mark)) (c .before .enum-told .given .1) (c .flag-number .ensures _ (c .before .enum-told .given .1))
 
 -- src/steps.rt:85:1
 returns-2 : tie.Need-returns-2
-returns-2 c = flag-is (c .before .before .before .before .before .args .s .now) (c .before .before .before .before .before .args .mark) (c .before .before .before .before .before .args .at) (c .before .before .before .flag-at .ensures (c .before .before .before .before .before .args .mark)) (c .before .read .given .1)
+returns-2 c =
+    let entry = c .before .before .before .before .before in
+    let at-flag-at = c .before .before .before in
+    let args = entry .args in
+    flag-is (args .s .now) (args .mark) (args .at) (at-flag-at .flag-at .ensures (args .mark)) (c .before .read .given .1)
 
 pub read-pervading-spec : {M : Type 1} → statement M
 read-pervading-spec =

@@ -31,7 +31,11 @@ mark-number-requires c κs = search needs
 
 -- src/steps.rt:30:9
 returns : tie.Need-returns
-returns c = mark-ends (c .before .before .before .before .before .args .s .now) (c .before .before .before .before .before .args .height) (c .before .before .before .before .before .args .at) (c .before .before .before .mark-at .ensures) (c .before .enum-told .given .1) (c .mark-number .ensures _ (c .before .enum-told .given .1))
+returns c =
+    let entry = c .before .before .before .before .before in
+    let at-mark-at = c .before .before .before in
+    let args = entry .args in
+    mark-ends (args .s .now) (args .height) (args .at) (at-mark-at .mark-at .ensures) (c .before .enum-told .given .1) (c .mark-number .ensures _ (c .before .enum-told .given .1))
 
 -- src/steps.rt:35:9
 takes-requires : tie.Need-takes-requires
@@ -39,11 +43,22 @@ takes-requires c κs = search needs
 
 -- src/steps.rt:37:9
 returns-2 : tie.Need-returns-2
-returns-2 c = step-low (c .before .before .before .before .before .before .before .args .s .now) (c .before .before .before .before .before .before .before .args .height) (c .before .before .before .before .before .before .before .args .at) (c .before .before .before .before .before .mark-at .ensures) (c .before .before .before .marked .given .1) (c .before .takes .ensures) (c .if1 .taken)
+returns-2 c =
+    let entry = c .before .before .before .before .before .before .before in
+    let at-mark-at = c .before .before .before .before .before in
+    let at-marked = c .before .before .before in
+    let args = entry .args in
+    step-low (args .s .now) (args .height) (args .at) (at-mark-at .mark-at .ensures) (at-marked .marked .given .1) (c .before .takes .ensures) (c .if1 .taken)
 
 -- src/steps.rt:43:9
 returns-3 : tie.Need-returns-3
-returns-3 c = step-high (c .before .before .before .before .before .before .before .before .args .s .now) (c .before .before .before .before .before .before .before .before .args .height) (c .before .before .before .before .before .before .before .before .args .at) (c .before .before .before .before .before .before .mark-at .ensures) (c .before .before .before .before .marked .given .1) (c .before .before .takes .ensures) (c .before .if1 .left) (c .if2 .taken)
+returns-3 c =
+    let entry = c .before .before .before .before .before .before .before .before in
+    let at-mark-at = c .before .before .before .before .before .before in
+    let at-marked = c .before .before .before .before in
+    let at-takes = c .before .before in
+    let args = entry .args in
+    step-high (args .s .now) (args .height) (args .at) (at-mark-at .mark-at .ensures) (at-marked .marked .given .1) (at-takes .takes .ensures) (c .before .if1 .left) (c .if2 .taken)
 
 -- src/steps.rt:49:24
 enum-told-2 : tie.Need-enum-told-2
@@ -79,23 +94,68 @@ read-validating-requires c κs = search needs
 
 -- src/steps.rt:25:1
 returns-4 : tie.Need-returns-4
-returns-4 c = step-is (c .before .before .before .before .before .before .before .before .before .before .before .args .s .now) (c .before .before .before .before .before .before .before .before .before .before .before .args .height) (c .before .before .before .before .before .before .before .before .before .before .before .args .at) (c .before .before .before .before .before .before .before .before .before .mark-at .ensures) (c .before .before .before .before .before .before .before .marked .given .1) (c .before .before .before .before .before .takes .ensures) (c .before .before .before .before .if1 .left) (c .before .before .before .if2 .left) Put (c .read-put .result) (c .before .enum-told2 .given .1) (c .read-put .ensures (c .before .before .before .before .before .before .before .before .before .before .before .args .at))
+returns-4 c =
+    let entry = c .before .before .before .before .before .before .before .before .before .before .before in
+    let at-mark-at = c .before .before .before .before .before .before .before .before .before in
+    let at-marked = c .before .before .before .before .before .before .before in
+    let at-takes = c .before .before .before .before .before in
+    let at-if1 = c .before .before .before .before in
+    let at-if2 = c .before .before .before in
+    let args = entry .args in
+    let goes = step-is (args .s .now) (args .height) (args .at) (at-mark-at .mark-at .ensures) (at-marked .marked .given .1) (at-takes .takes .ensures) (at-if1 .if1 .left) (at-if2 .if2 .left) in
+    goes Put (c .read-put .result) (c .before .enum-told2 .given .1) (c .read-put .ensures (args .at))
 
 -- src/steps.rt:25:1
 returns-5 : tie.Need-returns-5
-returns-5 c = step-is (c .before .before .before .before .before .before .before .before .before .before .args .s .now) (c .before .before .before .before .before .before .before .before .before .before .args .height) (c .before .before .before .before .before .before .before .before .before .before .args .at) (c .before .before .before .before .before .before .before .before .mark-at .ensures) (c .before .before .before .before .before .before .marked .given .1) (c .before .before .before .before .takes .ensures) (c .before .before .before .if1 .left) (c .before .before .if2 .left) Row (ARow (c .before .before .before .before .before .before .marked .given .0 .1 .0)) (c .enum-told3 .given .1) (row-is (c .before .before .before .before .before .before .before .before .before .before .args .s .now) (c .before .before .before .before .before .before .before .before .before .before .args .at) (c .before .before .before .before .before .before .marked .given .0 .1 .0))
+returns-5 c =
+    let entry = c .before .before .before .before .before .before .before .before .before .before in
+    let at-mark-at = c .before .before .before .before .before .before .before .before in
+    let at-marked = c .before .before .before .before .before .before in
+    let at-takes = c .before .before .before .before in
+    let at-if1 = c .before .before .before in
+    let at-if2 = c .before .before in
+    let args = entry .args in
+    let goes = step-is (args .s .now) (args .height) (args .at) (at-mark-at .mark-at .ensures) (at-marked .marked .given .1) (at-takes .takes .ensures) (at-if1 .if1 .left) (at-if2 .if2 .left) in
+    goes Row (ARow (at-marked .marked .given .0 .1 .0)) (c .enum-told3 .given .1) (row-is (args .s .now) (args .at) (at-marked .marked .given .0 .1 .0))
 
 -- src/steps.rt:25:1
 returns-6 : tie.Need-returns-6
-returns-6 c = step-is (c .before .before .before .before .before .before .before .before .before .before .before .args .s .now) (c .before .before .before .before .before .before .before .before .before .before .before .args .height) (c .before .before .before .before .before .before .before .before .before .before .before .args .at) (c .before .before .before .before .before .before .before .before .before .mark-at .ensures) (c .before .before .before .before .before .before .before .marked .given .1) (c .before .before .before .before .before .takes .ensures) (c .before .before .before .before .if1 .left) (c .before .before .before .if2 .left) Pervading (c .read-pervading .result) (c .before .enum-told4 .given .1) (c .read-pervading .ensures)
+returns-6 c =
+    let entry = c .before .before .before .before .before .before .before .before .before .before .before in
+    let at-mark-at = c .before .before .before .before .before .before .before .before .before in
+    let at-marked = c .before .before .before .before .before .before .before in
+    let at-takes = c .before .before .before .before .before in
+    let at-if1 = c .before .before .before .before in
+    let at-if2 = c .before .before .before in
+    let args = entry .args in
+    let goes = step-is (args .s .now) (args .height) (args .at) (at-mark-at .mark-at .ensures) (at-marked .marked .given .1) (at-takes .takes .ensures) (at-if1 .if1 .left) (at-if2 .if2 .left) in
+    goes Pervading (c .read-pervading .result) (c .before .enum-told4 .given .1) (c .read-pervading .ensures)
 
 -- src/steps.rt:25:1
 returns-7 : tie.Need-returns-7
-returns-7 c = step-is (c .before .before .before .before .before .before .before .before .before .before .args .s .now) (c .before .before .before .before .before .before .before .before .before .before .args .height) (c .before .before .before .before .before .before .before .before .before .before .args .at) (c .before .before .before .before .before .before .before .before .mark-at .ensures) (c .before .before .before .before .before .before .marked .given .1) (c .before .before .before .before .takes .ensures) (c .before .before .before .if1 .left) (c .before .before .if2 .left) Join (AJoin (c .before .before .before .before .before .before .marked .given .0 .1 .0)) (c .enum-told5 .given .1) (join-is (c .before .before .before .before .before .before .before .before .before .before .args .s .now) (c .before .before .before .before .before .before .before .before .before .before .args .at) (c .before .before .before .before .before .before .marked .given .0 .1 .0))
+returns-7 c =
+    let entry = c .before .before .before .before .before .before .before .before .before .before in
+    let at-mark-at = c .before .before .before .before .before .before .before .before in
+    let at-marked = c .before .before .before .before .before .before in
+    let at-takes = c .before .before .before .before in
+    let at-if1 = c .before .before .before in
+    let at-if2 = c .before .before in
+    let args = entry .args in
+    let goes = step-is (args .s .now) (args .height) (args .at) (at-mark-at .mark-at .ensures) (at-marked .marked .given .1) (at-takes .takes .ensures) (at-if1 .if1 .left) (at-if2 .if2 .left) in
+    goes Join (AJoin (at-marked .marked .given .0 .1 .0)) (c .enum-told5 .given .1) (join-is (args .s .now) (args .at) (at-marked .marked .given .0 .1 .0))
 
 -- src/steps.rt:25:1
 returns-8 : tie.Need-returns-8
-returns-8 c = step-is (c .before .before .before .before .before .before .before .before .before .before .before .args .s .now) (c .before .before .before .before .before .before .before .before .before .before .before .args .height) (c .before .before .before .before .before .before .before .before .before .before .before .args .at) (c .before .before .before .before .before .before .before .before .before .mark-at .ensures) (c .before .before .before .before .before .before .before .marked .given .1) (c .before .before .before .before .before .takes .ensures) (c .before .before .before .before .if1 .left) (c .before .before .before .if2 .left) Validating (c .read-validating .result) (c .before .enum-told6 .given .1) (c .read-validating .ensures (c .before .before .before .before .before .before .before .before .before .before .before .args .at))
+returns-8 c =
+    let entry = c .before .before .before .before .before .before .before .before .before .before .before in
+    let at-mark-at = c .before .before .before .before .before .before .before .before .before in
+    let at-marked = c .before .before .before .before .before .before .before in
+    let at-takes = c .before .before .before .before .before in
+    let at-if1 = c .before .before .before .before in
+    let at-if2 = c .before .before .before in
+    let args = entry .args in
+    let goes = step-is (args .s .now) (args .height) (args .at) (at-mark-at .mark-at .ensures) (at-marked .marked .given .1) (at-takes .takes .ensures) (at-if1 .if1 .left) (at-if2 .if2 .left) in
+    goes Validating (c .read-validating .result) (c .before .enum-told6 .given .1) (c .read-validating .ensures (args .at))
 
 pub read-step-spec : {M : Type 1} → statement M
 read-step-spec =

@@ -30,11 +30,21 @@ type-place-requires c κs = search needs
 
 -- src/steps.rt:113:9
 returns : tie.Need-returns
-returns c = λ p. validating-ends (c .before .before .before .before .before .before .args .s .now) p (c .before .before .before .before .before .before .args .start) (c .before .before .before .before .type-at .ensures) (c .before .before .enum-told .given .1) (c .before .type-number .ensures _ _ (c .before .before .enum-told .given .1)) (c .type-place .ensures _ _ (c .before .before .enum-told .given .1))
+returns c =
+    let entry = c .before .before .before .before .before .before in
+    let at-type-at = c .before .before .before .before in
+    let refused = c .before .before .enum-told .given .1 in
+    let args = entry .args in
+    λ p.
+    validating-ends (args .s .now) p (args .start) (at-type-at .type-at .ensures) refused (c .before .type-number .ensures _ _ refused) (c .type-place .ensures _ _ refused)
 
 -- src/steps.rt:108:1
 returns-2 : tie.Need-returns-2
-returns-2 c = λ p. validating-is (c .before .before .before .before .before .args .s .now) p (c .before .before .before .before .before .args .start) (c .before .before .before .type-at .ensures) (c .before .read .given .1)
+returns-2 c =
+    let entry = c .before .before .before .before .before in
+    let at-type-at = c .before .before .before in
+    let args = entry .args in
+    λ p. validating-is (args .s .now) p (args .start) (at-type-at .type-at .ensures) (c .before .read .given .1)
 
 pub read-validating-spec : {M : Type 1} → statement M
 read-validating-spec =

@@ -53,7 +53,8 @@ returns c =
     two-held ts h (entry .pre .0) λ t u us e.
     let hh : Holds (args .lengths .now) (args .count) (args .scratch .now) (t ∷ u ∷ us) = rw e at h in
     let n = holds-count (args .lengths .now) (args .count) (args .scratch .now) hh in
-    rw (e, ← join-worked (args .at) (args .next) (args .count - (args .count - 2)) t u us (omega arith)) (at-lay-down .lay-down .ensures (join-ruled (args .lengths .now) (args .count) (args .scratch .now) (at-join-top .join-top .result) _ (args .work .now) (entry .pre .1) hh (at-join-top .join-top .ensures t u us hh)))
+    let made = join-ruled (args .lengths .now) (args .count) (args .scratch .now) (at-join-top .join-top .result) _ (args .work .now) (entry .pre .1) hh (at-join-top .join-top .ensures t u us hh) in
+    rw (e, ← join-worked (args .at) (args .next) (args .count - (args .count - 2)) t u us (omega arith)) (at-lay-down .lay-down .ensures made)
 
 pub join-spec : {M : Type 1} → statement M
 join-spec =

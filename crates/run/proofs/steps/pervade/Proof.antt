@@ -53,7 +53,8 @@ returns c =
     two-held ts h (entry .pre .0) λ t u us e.
     let hh : Holds (args .lengths .now) (args .count) (args .scratch .now) (t ∷ u ∷ us) = rw e at h in
     let n = holds-count (args .lengths .now) (args .count) (args .scratch .now) hh in
-    rw (e, ← pervade-worked (args .at) (args .next) (args .count - (args .count - 2)) (args .top-fill) (args .below-fill) t u us (omega arith)) (at-lay-down .lay-down .ensures (pervade-ruled (args .lengths .now) (args .count) (args .scratch .now) (at-pervade-top .pervade-top .result) _ (args .work .now) (entry .pre .1) (args .top-fill) (args .below-fill) hh (at-pervade-top .pervade-top .ensures t u us hh)))
+    let made = pervade-ruled (args .lengths .now) (args .count) (args .scratch .now) (at-pervade-top .pervade-top .result) _ (args .work .now) (entry .pre .1) (args .top-fill) (args .below-fill) hh (at-pervade-top .pervade-top .ensures t u us hh) in
+    rw (e, ← pervade-worked (args .at) (args .next) (args .count - (args .count - 2)) (args .top-fill) (args .below-fill) t u us (omega arith)) (at-lay-down .lay-down .ensures made)
 
 pub pervade-spec : {M : Type 1} → statement M
 pervade-spec =

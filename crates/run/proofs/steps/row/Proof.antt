@@ -53,7 +53,8 @@ returns c =
     one-held ts h (entry .pre .0) λ t us e.
     let hh : Holds (args .lengths .now) (args .count) (args .scratch .now) (t ∷ us) = rw e at h in
     let n = holds-count (args .lengths .now) (args .count) (args .scratch .now) hh in
-    rw (e, ← row-worked (args .at) (args .next) (args .count - (args .count - 1)) t us (omega arith)) (at-lay-down .lay-down .ensures (row-ruled (args .lengths .now) (args .count) (args .scratch .now) (at-row-top .row-top .result) _ (args .work .now) (entry .pre .1) hh (at-row-top .row-top .ensures t us hh)))
+    let made = row-ruled (args .lengths .now) (args .count) (args .scratch .now) (at-row-top .row-top .result) _ (args .work .now) (entry .pre .1) hh (at-row-top .row-top .ensures t us hh) in
+    rw (e, ← row-worked (args .at) (args .next) (args .count - (args .count - 1)) t us (omega arith)) (at-lay-down .lay-down .ensures made)
 
 pub row-spec : {M : Type 1} → statement M
 row-spec =

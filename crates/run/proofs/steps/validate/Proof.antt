@@ -29,9 +29,10 @@ lay-down-requires c κs =
     let at-validate-top = c .before .before .before .before .before in
     let args = entry .args in
     let (spec, read) = entry .pre .3 in
+    let within = lone-write (args .spec .now) (λ i. omega (arith, at-shared-slice-known .shared-slice-known .given i)) spec read .1 in
     one-held (entry .pre .2 .types) (entry .pre .2 .held) (entry .pre .0) λ t us e.
     let hh : Holds (args .lengths .now) (args .count) (args .scratch .now) (t ∷ us) = rw e at (entry .pre .2 .held) in
-    validate-ruled (args .lengths .now) (args .count) (args .scratch .now) (at-validate-top .validate-top .result) _ spec (lone-write (args .spec .now) (λ i. omega (arith, at-shared-slice-known .shared-slice-known .given i)) spec read .1) hh (at-validate-top .validate-top .ensures spec t us hh read)
+    validate-ruled (args .lengths .now) (args .count) (args .scratch .now) (at-validate-top .validate-top .result) _ spec within hh (at-validate-top .validate-top .ensures spec t us hh read)
 
 -- src/steps.rt:174:1
 same-length : tie.Need-same-length
@@ -54,10 +55,12 @@ returns c =
     let at-lay-down = c .before .before .before .before in
     let args = entry .args in
     λ spec ts read h.
+    let within = lone-write (args .spec .now) (λ i. omega (arith, at-shared-slice-known .shared-slice-known .given i)) spec read .1 in
     one-held ts h (entry .pre .0) λ t us e.
     let hh : Holds (args .lengths .now) (args .count) (args .scratch .now) (t ∷ us) = rw e at h in
     let n = holds-count (args .lengths .now) (args .count) (args .scratch .now) hh in
-    rw (e, ← validate-worked (args .at) (args .next) (args .count - (args .count - 1)) spec t us (omega arith)) (at-lay-down .lay-down .ensures (validate-ruled (args .lengths .now) (args .count) (args .scratch .now) (at-validate-top .validate-top .result) _ spec (lone-write (args .spec .now) (λ i. omega (arith, at-shared-slice-known .shared-slice-known .given i)) spec read .1) hh (at-validate-top .validate-top .ensures spec t us hh read)))
+    let made = validate-ruled (args .lengths .now) (args .count) (args .scratch .now) (at-validate-top .validate-top .result) _ spec within hh (at-validate-top .validate-top .ensures spec t us hh read) in
+    rw (e, ← validate-worked (args .at) (args .next) (args .count - (args .count - 1)) spec t us (omega arith)) (at-lay-down .lay-down .ensures made)
 
 pub validate-spec : {M : Type 1} → statement M
 validate-spec =

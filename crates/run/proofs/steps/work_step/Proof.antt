@@ -53,7 +53,8 @@ put-requires c κs =
     let at-read = c .before .before .before .before in
     let args = entry .args in
     put-read (args .s .now) (at-read-step .read-step .ensures) (at-read .read .given .1) λ t e x.
-    (omega (arith, (took-step (args .s .now) (λ i. omega (arith, at-shared-slice-known .shared-slice-known .given i)) (args .count) (args .at) (args .at) (steps.put t) _ e) .room), entry .pre .1, (t, x .alone))
+    let took = took-step (args .s .now) (λ i. omega (arith, at-shared-slice-known .shared-slice-known .given i)) (args .count) (args .at) (args .at) (steps.put t) _ e in
+    (omega (arith, took .room), entry .pre .1, (t, x .alone))
 
 -- src/steps.rt:43:25
 enum-known-read-2 : tie.Need-enum-known-read-2
@@ -67,7 +68,9 @@ row-requires c κs =
     let at-read-step = c .before .before .before .before .before .before in
     let at-read2 = c .before .before .before .before in
     let args = entry .args in
-    ((took-step (args .s .now) (λ i. omega (arith, at-shared-slice-known .shared-slice-known .given i)) (args .count) (args .at) (args .at) steps.row _ (row-read (args .s .now) (at-read-step .read-step .ensures) (at-read2 .read2 .given .1))) .enough, entry .pre .0, entry .pre .1)
+    let read = row-read (args .s .now) (at-read-step .read-step .ensures) (at-read2 .read2 .given .1) in
+    let took = took-step (args .s .now) (λ i. omega (arith, at-shared-slice-known .shared-slice-known .given i)) (args .count) (args .at) (args .at) steps.row _ read in
+    (took .enough, entry .pre .0, entry .pre .1)
 
 -- src/steps.rt:45:13
 enum-known-read-3 : tie.Need-enum-known-read-3
@@ -81,7 +84,9 @@ pervade-requires c κs =
     let at-read-step = c .before .before .before .before .before .before in
     let at-read3 = c .before .before .before .before in
     let args = entry .args in
-    ((took-step (args .s .now) (λ i. omega (arith, at-shared-slice-known .shared-slice-known .given i)) (args .count) (args .at) (args .at) (steps.pervading _ _) _ (pervading-read (args .s .now) (at-read-step .read-step .ensures) (at-read3 .read3 .given .1))) .enough, entry .pre .0, entry .pre .1)
+    let read = pervading-read (args .s .now) (at-read-step .read-step .ensures) (at-read3 .read3 .given .1) in
+    let took = took-step (args .s .now) (λ i. omega (arith, at-shared-slice-known .shared-slice-known .given i)) (args .count) (args .at) (args .at) (steps.pervading _ _) _ read in
+    (took .enough, entry .pre .0, entry .pre .1)
 
 -- src/steps.rt:58:26
 enum-known-read-4 : tie.Need-enum-known-read-4
@@ -95,7 +100,9 @@ join-requires c κs =
     let at-read-step = c .before .before .before .before .before .before in
     let at-read4 = c .before .before .before .before in
     let args = entry .args in
-    ((took-step (args .s .now) (λ i. omega (arith, at-shared-slice-known .shared-slice-known .given i)) (args .count) (args .at) (args .at) steps.join _ (join-read (args .s .now) (at-read-step .read-step .ensures) (at-read4 .read4 .given .1))) .enough, entry .pre .0, entry .pre .1)
+    let read = join-read (args .s .now) (at-read-step .read-step .ensures) (at-read4 .read4 .given .1) in
+    let took = took-step (args .s .now) (λ i. omega (arith, at-shared-slice-known .shared-slice-known .given i)) (args .count) (args .at) (args .at) steps.join _ read in
+    (took .enough, entry .pre .0, entry .pre .1)
 
 -- src/steps.rt:59:32
 enum-known-read-5 : tie.Need-enum-known-read-5
@@ -131,7 +138,8 @@ validate-requires c κs =
     let at-read5 = c .before .before .before .before .before in
     let args = entry .args in
     validating-read (args .s .now) (at-read-step .read-step .ensures) (at-read5 .read5 .given .1) λ t e x.
-    ((took-step (args .s .now) (λ i. omega (arith, at-shared-slice-known .shared-slice-known .given i)) (args .count) (args .at) (args .at) (steps.validating t) _ e) .enough, entry .pre .0, entry .pre .1, (t, x .alone))
+    let took = took-step (args .s .now) (λ i. omega (arith, at-shared-slice-known .shared-slice-known .given i)) (args .count) (args .at) (args .at) (steps.validating t) _ e in
+    (took .enough, entry .pre .0, entry .pre .1, (t, x .alone))
 
 -- src/steps.rt:68:29
 enum-known-read-6 : tie.Need-enum-known-read-6
@@ -182,7 +190,8 @@ returns-2 c =
     let at-row = c .before .before .before .before .before .before in
     let args = entry .args in
     λ ts h.
-    worked (args .s .now) (args .at) h (at-row .row .result .answer) _ (at-row .row .result .count) _ steps.row (row-read (args .s .now) (at-read-step .read-step .ensures) (at-read2 .read2 .given .1)) (at-row .row .ensures ts h)
+    let read = row-read (args .s .now) (at-read-step .read-step .ensures) (at-read2 .read2 .given .1) in
+    worked (args .s .now) (args .at) h (at-row .row .result .answer) _ (at-row .row .result .count) _ steps.row read (at-row .row .ensures ts h)
 
 -- src/steps.rt:27:1
 same-length-6 : tie.Need-same-length-6
@@ -205,7 +214,8 @@ returns-3 c =
     let at-pervade = c .before .before .before .before .before .before in
     let args = entry .args in
     λ ts h.
-    worked (args .s .now) (args .at) h (at-pervade .pervade .result .answer) _ (at-pervade .pervade .result .count) _ (steps.pervading _ _) (pervading-read (args .s .now) (at-read-step .read-step .ensures) (at-read3 .read3 .given .1)) (at-pervade .pervade .ensures ts h)
+    let read = pervading-read (args .s .now) (at-read-step .read-step .ensures) (at-read3 .read3 .given .1) in
+    worked (args .s .now) (args .at) h (at-pervade .pervade .result .answer) _ (at-pervade .pervade .result .count) _ (steps.pervading _ _) read (at-pervade .pervade .ensures ts h)
 
 -- src/steps.rt:27:1
 same-length-9 : tie.Need-same-length-9
@@ -228,7 +238,8 @@ returns-4 c =
     let at-join = c .before .before .before .before .before .before in
     let args = entry .args in
     λ ts h.
-    worked (args .s .now) (args .at) h (at-join .join .result .answer) _ (at-join .join .result .count) _ steps.join (join-read (args .s .now) (at-read-step .read-step .ensures) (at-read4 .read4 .given .1)) (at-join .join .ensures ts h)
+    let read = join-read (args .s .now) (at-read-step .read-step .ensures) (at-read4 .read4 .given .1) in
+    worked (args .s .now) (args .at) h (at-join .join .result .answer) _ (at-join .join .result .count) _ steps.join read (at-join .join .ensures ts h)
 
 -- src/steps.rt:27:1
 same-length-12 : tie.Need-same-length-12

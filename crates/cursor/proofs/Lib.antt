@@ -1,1 +1,2 @@
 mod ReadLaws
+mod StepLaws

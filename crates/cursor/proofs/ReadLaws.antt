@@ -1,20 +1,34 @@
--- The mark at a place: one law for each way out of its reading.
+-- The records of a sheet, and the step that is made of them: one law for each way out of their reading.
 use Prim.Native.Nat.{ℕ, suc, _+_, _-_, _≤_, _<_}
 use native.Mathlib.Omega.{arith}
 use mathlib.Core.Bool.{Bool, true, false}
-use mathlib.Core.List.{List}
-use mathlib.Core.Path.{_≡_, refl}
-use lib.ListN.{length, getD}
+use mathlib.Core.List.{List, _++_}
+use mathlib.Core.Path.{_≡_, refl, sym, _∙_, ap}
+use lib.ListN.{length, getD, take, drop, length-append, length-drop}
 use lib.Dec.{ltb}
-use borrow.Author.Tests.{ltb-true, ltb-false}
-use Rattle.model.specs.Refusals.{ended, unmarked}
-use Rattle.format.specs.Reader.{stopped}
-use Rattle.format.specs.ReaderLaws.{byte-there, byte-ended}
-use Rattle.format.specs.Records.{orStop}
-use Rattle.machine.specs.Steps.{opcodes}
-use Rattle.machine.specs.Sheet.{opcodeIn, opcodeFrom}
+use lib.Seq.{take-append-seam}
+use borrow.Author.Tests.{ltb-true, ltb-false, lt-ltb, le-ltb, le-leb, lt-leb}
+use Rattle.model.specs.Limits.{maxTypes}
+use Rattle.model.specs.Refusals.{ended, outOfRange, unmarked}
+use Rattle.model.specs.Types.{shape, Ty, ty, types}
+use Rattle.format.specs.Reader.{got, stopped, mapRead, byte, judged}
+use Rattle.format.specs.ReaderLaws.{Bytes, byte-there, byte-ended}
+use Rattle.format.specs.Records.{orStop, writeShape, writeTy, readType}
+use Rattle.format.specs.Outcome.{lone}
+use Rattle.format.specs.ReadWrite.{read-write}
+use Rattle.format.specs.WriteRead.{write-read, write-lone}
+use Rattle.record.specs.Answers.{answerOf}
+use Rattle.record.specs.declared.Answer.{Answer}
+use Rattle.record.specs.declared.Answer.the-variants.{Got, Refused}
+use Rattle.record.proofs.Known.{known, told, got-map, stopped-map}
+use Rattle.machine.specs.Steps.{pervading, aPervading, opcodes, maxFlag, fillsTop, fillsBelow}
+use Rattle.machine.specs.Sheet.{opcodeIn, opcodeFrom, argumentFrom}
+use Rattle.cursor.specs.Answers.{Stretch, TypeIs}
+use Rattle.cursor.specs.declared.types.TypeRead.the-variants.{Got as Typed}
 
 module _ (s : List ℕ) (at : ℕ) where
+  -- ---- a mark
+
   pub mark-ended : length s - at < 2 → opcodeFrom s at at ≡ stopped ended at
   unfolding opcodeFrom
   mark-ended h = go (ltb at (length s)) refl
@@ -30,3 +44,48 @@ module _ (s : List ℕ) (at : ℕ) where
       let one : suc at ≡ at + 1 = omega arith in
       let two : suc (at + 1) ≡ at + 2 = omega arith in
       rw (byte-there s at at (omega arith), byte-there s at (suc at) (omega arith), one, two)
+
+  -- ---- a flag
+
+  pub flag-ended : (p : ℕ) → length s ≤ at → argumentFrom s aPervading p at ≡ stopped ended p
+  unfolding argumentFrom judged byte
+  flag-ended p h = rw (le-ltb at (length s) h)
+
+  module _ (p : ℕ) (more : at < length s) where
+    pub flag-large : maxFlag < getD s at 0 → argumentFrom s aPervading p at ≡ stopped outOfRange p
+    unfolding argumentFrom judged byte
+    flag-large h = rw (lt-ltb at (length s) more, lt-leb (getD s at 0) maxFlag h)
+
+    pub flag-read : getD s at 0 ≤ maxFlag → argumentFrom s aPervading p at ≡ got (pervading (fillsTop (getD s at 0)) (fillsBelow (getD s at 0))) (at + 1)
+    unfolding argumentFrom judged byte
+    flag-read h =
+        let one : suc at ≡ at + 1 = omega arith in
+        rw (lt-ltb at (length s) more, le-leb (getD s at 0) maxFlag h, one)
+
+  -- ---- a type
+
+  -- every type has bytes
+  some-bytes : (t : Ty) → 0 < length (writeTy t)
+  unfolding writeTy writeShape
+  some-bytes (ty (shape o c) k) = omega arith
+
+  pub stretched : Bytes s → (end : ℕ) (t : Ty) → readType s at ≡ got t end → Stretch s at end t
+  stretched small end t e =
+      let (took, within) = read-write s small at t end e in
+      let again : readType s at ≡ got t (at + length (writeTy t)) = write-read s t within .run at (drop end s) (took .is) in
+      let m : end ≡ at + length (writeTy t) = let x : got t end ≡ got t (at + length (writeTy t)) = sym e ∙ again in cc in
+      let n : length s - at ≡ length (writeTy t) + length (drop end s) = sym (length-drop at s) ∙ ap length (took .is) ∙ length-append (writeTy t) (drop end s) in
+      let k : end - at ≡ length (writeTy t) = omega arith in
+      let bytes : take (end - at) (drop at s) ≡ writeTy t = ap (λ x. take (end - at) x) (took .is) ∙ ap (λ x. take x (writeTy t ++ drop end s)) k ∙ take-append-seam (writeTy t) (drop end s) in
+      record {
+        forth = omega arith;
+        inside = omega (arith, some-bytes t);
+        alone = ap lone bytes ∙ write-lone t within;
+      }
+
+  module _ {r : Answer} (read : answerOf r ≡ mapRead (λ t. maxTypes - types t) (readType s at)) where
+    pub type-read : {v n : ℕ} → Bytes s → r ≡ Got v n → TypeIs (Typed n) s at (readType s at)
+    type-read {v} {n} small e = got-map (λ t. maxTypes - types t) (readType s at) (known read e) λ t g _. (t, g, stretched small n t g)
+
+    pub type-unread : {k p : ℕ} → r ≡ Refused k p → readType s at ≡ stopped k p
+    type-unread e = stopped-map (λ t. maxTypes - types t) (readType s at) (told read e)

@@ -1,5 +1,5 @@
 -- What a loop over a sheet's steps needs of its reading: where the bytes end, a step past the last one allowed, one step and then
--- the steps after it; and of one step, what each part of it answers in turn.
+-- the steps after it; and of one step, what each part of its reading answers in turn, and then its rule.
 use Prim.Native.Nat.{ℕ, zero, suc, _≤_, _<_}
 use mathlib.Core.List.{List}
 use mathlib.Core.Path.{_≡_}
@@ -40,29 +40,34 @@ module _ (s : List ℕ) where
 
   -- ---- one step
 
-  module _ (st : Stack) (p at : ℕ) where
+  -- as it is read on a stack of height h
+  module _ (h p at : ℕ) where
     -- the mark
-    pub work-unmarked : (k q : ℕ) → opcodeFrom s p at ≡ stopped k q → workFrom s st p at ≡ stopped k q
-    unfolding workFrom stepFrom
-    work-unmarked k q e = rw e
+    pub step-unmarked : (k q : ℕ) → opcodeFrom s p at ≡ stopped k q → stepFrom s h p at ≡ stopped k q
+    unfolding stepFrom
+    step-unmarked k q e = rw e
 
     module _ (c : Opcode) (next : ℕ) (marked : opcodeFrom s p at ≡ got c next) where
       -- the stack
-      pub work-lacks : length st < takes c → workFrom s st p at ≡ stopped underflow p
-      unfolding workFrom stepFrom
-      work-lacks h = rw (marked, lt-leb (takes c) (length st) h)
+      pub step-lacks : h < takes c → stepFrom s h p at ≡ stopped underflow p
+      unfolding stepFrom
+      step-lacks l = rw (marked, lt-leb (takes c) h l)
 
-      pub work-overfull : takes c ≤ length st → maxStack < leaves c (length st) → workFrom s st p at ≡ stopped overflow p
-      unfolding workFrom stepFrom
-      work-overfull h k = rw (marked, le-leb (takes c) (length st) h, lt-leb (leaves c (length st)) maxStack k)
+      pub step-overfull : takes c ≤ h → maxStack < leaves c h → stepFrom s h p at ≡ stopped overflow p
+      unfolding stepFrom
+      step-overfull l r = rw (marked, le-leb (takes c) h l, lt-leb (leaves c h) maxStack r)
 
-      module _ (enough : takes c ≤ length st) (room : leaves c (length st) ≤ maxStack) where
-        -- the step's bytes
-        pub work-unread : (k q : ℕ) → argumentFrom s c p next ≡ stopped k q → workFrom s st p at ≡ stopped k q
-        unfolding workFrom stepFrom
-        work-unread k q e = rw (marked, le-leb (takes c) (length st) enough, le-leb (leaves c (length st)) maxStack room, e)
+      -- the step's bytes
+      pub step-argument : takes c ≤ h → leaves c h ≤ maxStack → stepFrom s h p at ≡ argumentFrom s c p next
+      unfolding stepFrom
+      step-argument l r = rw (marked, le-leb (takes c) h l, le-leb (leaves c h) maxStack r)
 
-        -- its rule
-        pub work-rule : (x : Step) (end : ℕ) → argumentFrom s c p next ≡ got x end → workFrom s st p at ≡ placed (step x st) p end
-        unfolding workFrom stepFrom
-        work-rule x end e = rw (marked, le-leb (takes c) (length st) enough, le-leb (leaves c (length st)) maxStack room, e)
+  -- as it is worked on a stack
+  module _ (st : Stack) (p at : ℕ) where
+    pub work-unread : (k q : ℕ) → stepFrom s (length st) p at ≡ stopped k q → workFrom s st p at ≡ stopped k q
+    unfolding workFrom
+    work-unread k q e = rw e
+
+    pub work-rule : (x : Step) (end : ℕ) → stepFrom s (length st) p at ≡ got x end → workFrom s st p at ≡ placed (step x st) p end
+    unfolding workFrom
+    work-rule x end e = rw e

@@ -1,4 +1,4 @@
--- What a rule wrote to a buffer that holds any type, and the bytes of types that were read or are held.
+-- What a rule wrote to a buffer that holds any type, and the bytes of types that are held.
 use Prim.Native.Nat.{ℕ, _+_, _-_, _≤_}
 use native.Mathlib.Omega.{arith}
 use mathlib.Core.Bool.{Bool}
@@ -67,28 +67,6 @@ module _ (o : Outcome Ty) (w : Written) (out : List ℕ) where
               let y : out ≡ writeTy t ++ drop (length (writeTy t)) before = cc in
               rw (x, y) (ap accepted (sym (take-append-seam (writeTy t) (drop (length (writeTy t)) before))), rw length-append (omega arith))
 
--- ---- a type that was read inside a sheet
-
-pub record Stretched (s : List ℕ) (start end : ℕ) (t : Ty) : Type 0 where
-  pub forth : start ≤ end
-  pub inside : end ≤ length s
-  pub bytes : take (end - start) (drop start s) ≡ writeTy t
-  pub within : Within t
-
-pub stretched : (s : List ℕ) → Bytes s → (start end : ℕ) (t : Ty) → start ≤ length s → readType s start ≡ got t end → Stretched s start end t
-stretched s small start end t h e =
-    let (took, within) = read-write s small start t end e in
-    let again : readType s start ≡ got t (start + length (writeTy t)) = write-read s t within .run start (drop end s) (took .is) in
-    let m : end ≡ start + length (writeTy t) = let x : got t end ≡ got t (start + length (writeTy t)) = sym e ∙ again in cc in
-    let n : length s - start ≡ length (writeTy t) + length (drop end s) = sym (length-drop start s) ∙ ap length (took .is) ∙ length-append (writeTy t) (drop end s) in
-    let k : end - start ≡ length (writeTy t) = omega arith in
-    record {
-      forth = omega arith;
-      inside = omega arith;
-      bytes = ap (λ x. take (end - start) x) (took .is) ∙ ap (λ x. take x (writeTy t ++ drop end s)) k ∙ take-append-seam (writeTy t) (drop end s);
-      within = within;
-    }
-
 -- ---- types that are held
 
 -- bytes that are a type's are a lone type
@@ -108,12 +86,3 @@ module _ (f g : Bool) (s t : Shape) (k l : Scalar) where
 
 pub both-refuse : (x y : Outcome Ty) → both nothings x y ≡ accepted 0 → (k p : ℕ) → both {C = List ℕ} (λ t u. refused k p) x y ≡ refused k p
 both-refuse x y good k p = both-accepted x y good λ t u e h. rw (e, h)
-
--- ---- a reader's answer
-
-module _ (s : List ℕ) (start : ℕ) {r : Answer} (read : answerOf r ≡ mapRead (λ t. maxTypes - types t) (readType s start)) where
-  pub type-read : {C : Type 0} {v n : ℕ} → Bytes s → r ≡ Got v n → start ≤ length s → ((t : Ty) → readType s start ≡ got t n → Stretched s start n t → C) → C
-  type-read {C} {v} {n} small e h f = got-map (λ t. maxTypes - types t) (readType s start) (known read e) λ t g _. f t g (stretched s small start n t h g)
-
-  pub type-unread : {k p : ℕ} → r ≡ Refused k p → readType s start ≡ stopped k p
-  type-unread e = stopped-map (λ t. maxTypes - types t) (readType s start) (told read e)

@@ -1,17 +1,16 @@
 -- One step, for each way out of it.
-use Prim.Native.Nat.{ℕ, suc, _+_, _-_, _≤_, _<_}
+use Prim.Native.Nat.{ℕ, _-_, _≤_, _<_}
 use native.Mathlib.Omega.{arith}
 use mathlib.Core.Bool.{Bool}
 use mathlib.Core.List.{List, [], _∷_}
-use mathlib.Core.Path.{_≡_, refl, sym, _∙_, ap}
-use lib.ListN.{length, getD, drop}
-use borrow.Author.Tests.{lt-ltb, le-ltb, le-leb, lt-leb}
+use mathlib.Core.Path.{_≡_, refl, _∙_, ap}
+use lib.ListN.{length, drop}
+use borrow.Author.Tests.{lt-ltb}
 use Rattle.model.specs.Limits.{maxBytes}
-use Rattle.model.specs.Refusals.{ended, outOfRange, underflow, overflow}
-use Rattle.model.specs.Types.{Ty, types}
+use Rattle.model.specs.Types.{Ty}
 use Rattle.model.specs.Within.{Within}
-use Rattle.format.specs.Reader.{got, stopped, byte, judged}
-use Rattle.format.specs.Records.{writeTy, readType}
+use Rattle.format.specs.Reader.{Read, got, stopped}
+use Rattle.format.specs.Records.{writeTy}
 use Rattle.format.specs.Outcome.{accepted, mapped, deliver}
 use Rattle.rules.specs.RowsLaws.{intoRow-within}
 use Rattle.rules.specs.Types.{intoRow, joinTypes}
@@ -22,14 +21,18 @@ use Rattle.validation.specs.ValidateLaws.{validate-within}
 use Rattle.lent.specs.Written.{delivered, Puts}
 use Rattle.lent.specs.declared.Written.{Written}
 use Rattle.machine.specs.SheetLimits.{maxStack}
-use Rattle.machine.specs.Steps.{put, row, pervading, join, validating, Opcode, aPut, aRow, aPervading, aJoin, aValidating, takes, maxFlag, fillsTop, fillsBelow}
+use Rattle.machine.specs.Steps.{Step, put, row, pervading, join, validating}
 use Rattle.machine.specs.Run.{Answer, gives, refuses, Stack, aside, onto, pervadeTypes, step}
-use Rattle.machine.specs.Sheet.{placed, opcodeFrom, argumentFrom, workFrom}
-use Rattle.machine.specs.SheetSteps.{work-lacks, work-overfull, work-unread, work-rule}
+use Rattle.machine.specs.Sheet.{placed, stepFrom, workFrom}
+use Rattle.machine.specs.SheetSteps.{work-unread, work-rule}
 use Rattle.machine.specs.StepsWithin.{pervadeTypes-within}
 use Rattle.stack.specs.Stack.{Holds}
 use Rattle.stack.specs.StackLaws.{holds-count}
-use Rattle.run.specs.Answers.{atStart, Ruled}
+use Rattle.cursor.specs.Answers.{Stretch, StepIs}
+use Rattle.cursor.specs.declared.StepRead.{StepRead}
+use Rattle.cursor.specs.declared.StepRead.the-variants.{Put, Row, Pervading, Join, Validating, Refused as Unread}
+use Rattle.run.specs.Answers.{Works, atStart, Ruled}
+use Rattle.run.specs.declared.Reached.{Reached}
 use Rattle.run.proofs.RuleLaws.{delivered-puts}
 
 -- ---- the types on top
@@ -44,65 +47,66 @@ module _ {lengths : List ℕ} {count : ℕ} {d : List ℕ} where
   two-held (t ∷ []) h n f = absurd (omega (arith, holds-count lengths count d h))
   two-held (t ∷ u ∷ us) h n f = f t u us refl
 
--- ---- the stack lacks types, or is full
+-- ---- a step that was read
 
-module _ (s : List ℕ) (ts : Stack) (at : ℕ) where
-  pub lacks : (c : Opcode) → opcodeFrom s at at ≡ got c (at + 2) → length ts < takes c → workFrom s ts at at ≡ stopped underflow at
-  lacks c marked h = work-lacks s ts at at c (at + 2) marked h
+module _ (s : List ℕ) {r : StepRead} {o : Read Step} (read : StepIs r s o) where
+  pub put-read : {C : Type 0} {start n : ℕ} → r ≡ Put start n → ((t : Ty) → o ≡ got (put t) n → Stretch s start n t → C) → C
+  put-read {C} {start} {n} is f = go (rw is at read)
+    where
+      go : StepIs (Put start n) s o → C
+      go (t, e, stretch) = f t e stretch
 
-  pub put-full : opcodeFrom s at at ≡ got aPut (at + 2) → length ts ≡ maxStack → workFrom s ts at at ≡ stopped overflow at
-  put-full marked h = work-overfull s ts at at aPut (at + 2) marked (omega arith) (omega arith)
+  pub validating-read : {C : Type 0} {start n : ℕ} → r ≡ Validating start n → ((t : Ty) → o ≡ got (validating t) n → Stretch s start n t → C) → C
+  validating-read {C} {start} {n} is f = go (rw is at read)
+    where
+      go : StepIs (Validating start n) s o → C
+      go (t, e, stretch) = f t e stretch
 
-  -- ---- a put
+  pub row-read : {n : ℕ} → r ≡ Row n → o ≡ got row n
+  row-read is = rw is at read
 
-  module _ (marked : opcodeFrom s at at ≡ got aPut (at + 2)) (h : length ts < maxStack) where
-    pub put-unread : {k p : ℕ} → readType s (at + 2) ≡ stopped k p → workFrom s ts at at ≡ stopped k p
-    unfolding argumentFrom
-    put-unread {k} {p} e = work-unread s ts at at aPut (at + 2) marked (omega arith) (omega arith) k p (rw e)
+  pub pervading-read : {f g : Bool} {n : ℕ} → r ≡ Pervading f g n → o ≡ got (pervading f g) n
+  pervading-read is = rw is at read
 
-    pub put-worked : {t : Ty} {n : ℕ} → readType s (at + 2) ≡ got t n → workFrom s ts at at ≡ got (t ∷ ts) n
-    unfolding argumentFrom step
-    put-worked {t} {n} e = work-rule s ts at at aPut (at + 2) marked (omega arith) (omega arith) (put t) n (rw e) ∙ rw (lt-ltb (length ts) maxStack h)
+  pub join-read : {n : ℕ} → r ≡ Join n → o ≡ got join n
+  join-read is = rw is at read
 
--- ---- the other steps
+  pub step-unread : {k p : ℕ} → r ≡ Unread k p → o ≡ stopped k p
+  step-unread is = rw is at read
 
-module _ (s : List ℕ) (at : ℕ) (few : ℕ) where
-  pub row-worked : (t : Ty) (us : Stack) → opcodeFrom s at at ≡ got aRow (at + 2) → length us < maxStack → few ≡ 1 → placed (onto (drop few (t ∷ us)) (aside (accepted (intoRow t)))) at (at + 2) ≡ workFrom s (t ∷ us) at at
-  unfolding argumentFrom step
-  row-worked t us marked h e = rw e (sym (work-rule s (t ∷ us) at at aRow (at + 2) marked (omega arith) (omega arith) row (at + 2) refl))
+module _ (s : List ℕ) (at : ℕ) {lengths : List ℕ} {count : ℕ} {d : List ℕ} {ts : Stack} (h : Holds lengths count d ts) where
+  pub worked : (a : Reached) (lengths₁ : List ℕ) (count₁ : ℕ) (d₁ : List ℕ) (x : Step) {n : ℕ} → stepFrom s count at at ≡ got x n → Works a lengths₁ count₁ d₁ (placed (step x ts) at n) → Works a lengths₁ count₁ d₁ (workFrom s ts at at)
+  worked a lengths₁ count₁ d₁ x {n} e w = rw (work-rule s ts at at x n (ap (λ k. stepFrom s k at at) (holds-count lengths count d h) ∙ e)) w
 
-  pub join-worked : (t u : Ty) (us : Stack) → opcodeFrom s at at ≡ got aJoin (at + 2) → length us < maxStack → few ≡ 2 → placed (onto (drop few (t ∷ u ∷ us)) (aside (accepted (joinTypes t u)))) at (at + 2) ≡ workFrom s (t ∷ u ∷ us) at at
-  unfolding argumentFrom step
-  join-worked t u us marked h e = rw e (sym (work-rule s (t ∷ u ∷ us) at at aJoin (at + 2) marked (omega arith) (omega arith) join (at + 2) refl))
+  pub unworked : {k p : ℕ} → stepFrom s count at at ≡ stopped k p → workFrom s ts at at ≡ stopped k p
+  unworked {k} {p} e = work-unread s ts at at k p (ap (λ k. stepFrom s k at at) (holds-count lengths count d h) ∙ e)
+
+-- ---- its rule
+
+pub put-worked : (t : Ty) (ts : Stack) (p n : ℕ) → length ts < maxStack → placed (step (put t) ts) p n ≡ got (t ∷ ts) n
+unfolding step
+put-worked t ts p n h = rw (lt-ltb (length ts) maxStack h)
+
+module _ (at n few : ℕ) where
+  pub row-worked : (t : Ty) (us : Stack) → few ≡ 1 → placed (onto (drop few (t ∷ us)) (aside (accepted (intoRow t)))) at n ≡ placed (step row (t ∷ us)) at n
+  unfolding step
+  row-worked t us e = rw e
+
+  pub join-worked : (t u : Ty) (us : Stack) → few ≡ 2 → placed (onto (drop few (t ∷ u ∷ us)) (aside (accepted (joinTypes t u)))) at n ≡ placed (step join (t ∷ u ∷ us)) at n
+  unfolding step
+  join-worked t u us e = rw e
 
   aside-start : {A : Type 0} (a : Answer A) → aside (atStart a) ≡ a
   aside-start (gives a) = refl
   aside-start (refuses k) = refl
 
-  pub pervade-worked : (t u : Ty) (us : Stack) (flag : ℕ) → opcodeFrom s at at ≡ got aPervading (at + 2) → length us < maxStack → few ≡ 2 → at + 2 < length s → flag ≡ getD s (at + 2) 0 → flag ≤ maxFlag → placed (onto (drop few (t ∷ u ∷ us)) (aside (atStart (pervadeTypes (fillsTop flag) (fillsBelow flag) t u)))) at (at + 3) ≡ workFrom s (t ∷ u ∷ us) at at
-  unfolding argumentFrom step judged byte
-  pervade-worked t u us flag marked h e more is small =
-      let three : suc (at + 2) ≡ at + 3 = omega arith in
-      rw (e, aside-start (pervadeTypes (fillsTop flag) (fillsBelow flag) t u))
-      (sym (work-rule s (t ∷ u ∷ us) at at aPervading (at + 2) marked (omega arith) (omega arith) (pervading (fillsTop flag) (fillsBelow flag)) (at + 3) (rw (lt-ltb (at + 2) (length s) more, ← is, le-leb flag maxFlag small, three))))
+  pub pervade-worked : (f g : Bool) (t u : Ty) (us : Stack) → few ≡ 2 → placed (onto (drop few (t ∷ u ∷ us)) (aside (atStart (pervadeTypes f g t u)))) at n ≡ placed (step (pervading f g) (t ∷ u ∷ us)) at n
+  unfolding step
+  pervade-worked f g t u us e = rw (e, aside-start (pervadeTypes f g t u))
 
-  pub validate-worked : (spec t : Ty) (us : Stack) (n : ℕ) → opcodeFrom s at at ≡ got aValidating (at + 2) → length us < maxStack → few ≡ 1 → readType s (at + 2) ≡ got spec n → placed (onto (drop few (t ∷ us)) (aside (validate unsided spec t))) at n ≡ workFrom s (t ∷ us) at at
-  unfolding argumentFrom step
-  validate-worked spec t us n marked h e read = rw e (sym (work-rule s (t ∷ us) at at aValidating (at + 2) marked (omega arith) (omega arith) (validating spec) n (rw read)))
-
--- their bytes
-module _ (s : List ℕ) (ts : Stack) (at : ℕ) where
-  pub pervade-ended : opcodeFrom s at at ≡ got aPervading (at + 2) → 2 ≤ length ts → length ts ≤ maxStack → length s ≤ at + 2 → workFrom s ts at at ≡ stopped ended at
-  unfolding argumentFrom judged byte
-  pervade-ended marked h g e = work-unread s ts at at aPervading (at + 2) marked h (omega arith) ended at (rw (le-ltb (at + 2) (length s) e))
-
-  pub pervade-flag : opcodeFrom s at at ≡ got aPervading (at + 2) → 2 ≤ length ts → length ts ≤ maxStack → at + 2 < length s → maxFlag < getD s (at + 2) 0 → workFrom s ts at at ≡ stopped outOfRange at
-  unfolding argumentFrom judged byte
-  pervade-flag marked h g more big = work-unread s ts at at aPervading (at + 2) marked h (omega arith) outOfRange at (rw (lt-ltb (at + 2) (length s) more, lt-leb (getD s (at + 2) 0) maxFlag big))
-
-  pub validate-unread : opcodeFrom s at at ≡ got aValidating (at + 2) → 1 ≤ length ts → length ts ≤ maxStack → {k p : ℕ} → readType s (at + 2) ≡ stopped k p → workFrom s ts at at ≡ stopped k p
-  unfolding argumentFrom
-  validate-unread marked h g {k} {p} e = work-unread s ts at at aValidating (at + 2) marked h (omega arith) k p (rw e)
+  pub validate-worked : (spec t : Ty) (us : Stack) → few ≡ 1 → placed (onto (drop few (t ∷ us)) (aside (validate unsided spec t))) at n ≡ placed (step (validating spec) (t ∷ us)) at n
+  unfolding step
+  validate-worked spec t us e = rw e
 
 -- ---- what a rule made of the types on top
 

@@ -1,32 +1,25 @@
-// One step: its mark, the stack, its bytes, its rule, in that order.
+// One step: it is read, then its rule is worked on the stack. A rule is told the step's fields, and of the sheet's bytes those of
+// the step's type alone.
 use crate::Reached;
 use crate::Worked;
 use crate::tops::join_top;
 use crate::tops::pervade_top;
 use crate::tops::row_top;
 use crate::tops::validate_top;
-use cursor::Marked;
-use cursor::mark_at;
+use cursor::StepRead;
+use cursor::read_step;
 use lent::Written;
-use limits::MAX_DEPTH;
-use limits::MAX_FLAG;
-use limits::MAX_TYPES;
-use limits::refusal::ENDED;
-use limits::refusal::OUT_OF_RANGE;
-use limits::refusal::OVERFLOW;
-use limits::refusal::UNDERFLOW;
-use record::Answer;
-use record::read_type;
-use stack::MAX_STACK;
 use stack::store;
 ghost use mathlib.Core.Path.{_≡_};
-ghost use Prim.Native.Nat.{_+_, _-_, _≤_, _<_};
+ghost use Prim.Native.Nat.{ℕ, _-_, _≤_, _<_};
 ghost use lib.ListN.{length, drop};
 ghost use Rattle.model.specs.Limits.{maxBytes};
-ghost use Rattle.format.specs.Reader.{got};
-ghost use Rattle.machine.specs.Steps.{aPut, aRow, aPervading, aJoin, aValidating};
-ghost use Rattle.machine.specs.Run.{Stack, aside, onto};
-ghost use Rattle.machine.specs.Sheet.{placed, opcodeFrom, workFrom};
+ghost use Rattle.model.specs.Types.{Ty};
+ghost use Rattle.format.specs.Outcome.{accepted, lone};
+ghost use Rattle.machine.specs.SheetLimits.{maxStack};
+ghost use Rattle.machine.specs.Steps as steps;
+ghost use Rattle.machine.specs.Run.{Stack, aside, onto, step};
+ghost use Rattle.machine.specs.Sheet.{placed, workFrom};
 ghost use Rattle.stack.specs.Stack.{Holds, HasTypes};
 ghost use Rattle.run.specs.Answers.{Works, Ruled};
 
@@ -42,14 +35,37 @@ pub fn work_step(
     requires { ⌜ (maxBytes ≤ length (now work)) × HasTypes (now lengths) count (now scratch) ⌝ }
     ensures { λ r. ⌜ ((ts : Stack) → Holds (now (lengths .entry)) count (now (scratch .entry)) ts → Works (r .answer) (now (lengths .exit)) (r .count) (now (scratch .exit)) (workFrom (now (s .entry)) ts at at)) ⌝ }
 {
-    let marked = mark_at(s, at);
-    match marked {
-        Marked::Put => put(s, at, count, &mut *lengths, &mut *scratch),
-        Marked::Row => row(s, at, count, &mut *lengths, &mut *scratch, &mut *work),
-        Marked::Pervading => pervade(s, at, count, &mut *lengths, &mut *scratch, &mut *work),
-        Marked::Join => join(s, at, count, &mut *lengths, &mut *scratch, &mut *work),
-        Marked::Validating => validate(s, at, count, &mut *lengths, &mut *scratch, &mut *work),
-        Marked::Refused { number } => refuse(count, number, at),
+    let read = read_step(s, at, count);
+    match read {
+        StepRead::Put { start, next } => {
+            put(&s[start..next], next, count, &mut *lengths, &mut *scratch)
+        }
+        StepRead::Row { next } => row(at, next, count, &mut *lengths, &mut *scratch, &mut *work),
+        StepRead::Pervading {
+            top_fill,
+            below_fill,
+            next,
+        } => pervade(
+            top_fill,
+            below_fill,
+            at,
+            next,
+            count,
+            &mut *lengths,
+            &mut *scratch,
+            &mut *work,
+        ),
+        StepRead::Join { next } => join(at, next, count, &mut *lengths, &mut *scratch, &mut *work),
+        StepRead::Validating { start, next } => validate(
+            &s[start..next],
+            at,
+            next,
+            count,
+            &mut *lengths,
+            &mut *scratch,
+            &mut *work,
+        ),
+        StepRead::Refused { number, place } => refuse(count, number, place),
     }
 }
 
@@ -62,41 +78,29 @@ fn refuse(count: usize, number: u8, place: usize) -> Worked
     }
 }
 
-fn put(s: &[u8], at: usize, count: usize, lengths: &mut [usize], scratch: &mut [u8]) -> Worked
-    requires { ⌜ (opcodeFrom (now s) at at ≡ got aPut (at + 2)) × HasTypes (now lengths) count (now scratch) ⌝ }
-    ensures { λ r. ⌜ ((ts : Stack) → Holds (now (lengths .entry)) count (now (scratch .entry)) ts → Works (r .answer) (now (lengths .exit)) (r .count) (now (scratch .exit)) (workFrom (now (s .entry)) ts at at)) ⌝ }
+// A put has nothing to refuse: its reading found room for the type.
+fn put(ty: &[u8], next: usize, count: usize, lengths: &mut [usize], scratch: &mut [u8]) -> Worked
+    requires { ⌜ (count < maxStack) × HasTypes (now lengths) count (now scratch) × ((t : Ty) × (lone (now ty) ≡ accepted t)) ⌝ }
+    ensures { λ r. ⌜ ((t : Ty) (ts : Stack) (p : ℕ) → lone (now (ty .entry)) ≡ accepted t → Holds (now (lengths .entry)) count (now (scratch .entry)) ts → Works (r .answer) (now (lengths .exit)) (r .count) (now (scratch .exit)) (placed (step (steps.put t) ts) p next)) ⌝ }
 {
-    if count == MAX_STACK {
-        return refuse(count, OVERFLOW, at);
-    }
-    let start = at + 2;
-    let read = read_type(s, start, MAX_DEPTH, MAX_TYPES);
-    match read {
-        Answer::Got { value: _, next } => {
-            store(&mut *lengths, count, &mut *scratch, &s[start..next]);
-            Worked {
-                answer: Reached::At(next),
-                count: count + 1,
-            }
-        }
-        Answer::Refused { number, place } => refuse(count, number, place),
+    store(&mut *lengths, count, &mut *scratch, ty);
+    Worked {
+        answer: Reached::At(next),
+        count: count + 1,
     }
 }
 
 fn row(
-    s: &[u8],
     at: usize,
+    next: usize,
     count: usize,
     lengths: &mut [usize],
     scratch: &mut [u8],
     work: &mut [u8],
 ) -> Worked
-    requires { ⌜ (opcodeFrom (now s) at at ≡ got aRow (at + 2)) × (maxBytes ≤ length (now work)) × HasTypes (now lengths) count (now scratch) ⌝ }
-    ensures { λ r. ⌜ ((ts : Stack) → Holds (now (lengths .entry)) count (now (scratch .entry)) ts → Works (r .answer) (now (lengths .exit)) (r .count) (now (scratch .exit)) (workFrom (now (s .entry)) ts at at)) ⌝ }
+    requires { ⌜ (1 ≤ count) × (maxBytes ≤ length (now work)) × HasTypes (now lengths) count (now scratch) ⌝ }
+    ensures { λ r. ⌜ ((ts : Stack) → Holds (now (lengths .entry)) count (now (scratch .entry)) ts → Works (r .answer) (now (lengths .exit)) (r .count) (now (scratch .exit)) (placed (step steps.row ts) at next)) ⌝ }
 {
-    if count < 1 {
-        return refuse(count, UNDERFLOW, at);
-    }
     let w = row_top(count, &*lengths, &*scratch, &mut *work);
     lay_down(
         count,
@@ -106,33 +110,23 @@ fn row(
         w,
         &*work,
         at,
-        at + 2,
+        next,
     )
 }
 
 fn pervade(
-    s: &[u8],
+    top_fill: bool,
+    below_fill: bool,
     at: usize,
+    next: usize,
     count: usize,
     lengths: &mut [usize],
     scratch: &mut [u8],
     work: &mut [u8],
 ) -> Worked
-    requires { ⌜ (opcodeFrom (now s) at at ≡ got aPervading (at + 2)) × (maxBytes ≤ length (now work)) × HasTypes (now lengths) count (now scratch) ⌝ }
-    ensures { λ r. ⌜ ((ts : Stack) → Holds (now (lengths .entry)) count (now (scratch .entry)) ts → Works (r .answer) (now (lengths .exit)) (r .count) (now (scratch .exit)) (workFrom (now (s .entry)) ts at at)) ⌝ }
+    requires { ⌜ (2 ≤ count) × (maxBytes ≤ length (now work)) × HasTypes (now lengths) count (now scratch) ⌝ }
+    ensures { λ r. ⌜ ((ts : Stack) → Holds (now (lengths .entry)) count (now (scratch .entry)) ts → Works (r .answer) (now (lengths .exit)) (r .count) (now (scratch .exit)) (placed (step (steps.pervading «top_fill» «below_fill») ts) at next)) ⌝ }
 {
-    if count < 2 {
-        return refuse(count, UNDERFLOW, at);
-    }
-    if s.len() <= at + 2 {
-        return refuse(count, ENDED, at);
-    }
-    let flag = s[at + 2];
-    if MAX_FLAG < flag {
-        return refuse(count, OUT_OF_RANGE, at);
-    }
-    let top_fill = flag % 2 == 1;
-    let below_fill = flag / 2 % 2 == 1;
     let w = pervade_top(
         count,
         &*lengths,
@@ -149,24 +143,21 @@ fn pervade(
         w,
         &*work,
         at,
-        at + 3,
+        next,
     )
 }
 
 fn join(
-    s: &[u8],
     at: usize,
+    next: usize,
     count: usize,
     lengths: &mut [usize],
     scratch: &mut [u8],
     work: &mut [u8],
 ) -> Worked
-    requires { ⌜ (opcodeFrom (now s) at at ≡ got aJoin (at + 2)) × (maxBytes ≤ length (now work)) × HasTypes (now lengths) count (now scratch) ⌝ }
-    ensures { λ r. ⌜ ((ts : Stack) → Holds (now (lengths .entry)) count (now (scratch .entry)) ts → Works (r .answer) (now (lengths .exit)) (r .count) (now (scratch .exit)) (workFrom (now (s .entry)) ts at at)) ⌝ }
+    requires { ⌜ (2 ≤ count) × (maxBytes ≤ length (now work)) × HasTypes (now lengths) count (now scratch) ⌝ }
+    ensures { λ r. ⌜ ((ts : Stack) → Holds (now (lengths .entry)) count (now (scratch .entry)) ts → Works (r .answer) (now (lengths .exit)) (r .count) (now (scratch .exit)) (placed (step steps.join ts) at next)) ⌝ }
 {
-    if count < 2 {
-        return refuse(count, UNDERFLOW, at);
-    }
     let w = join_top(count, &*lengths, &*scratch, &mut *work);
     lay_down(
         count,
@@ -176,42 +167,33 @@ fn join(
         w,
         &*work,
         at,
-        at + 2,
+        next,
     )
 }
 
 fn validate(
-    s: &[u8],
+    spec: &[u8],
     at: usize,
+    next: usize,
     count: usize,
     lengths: &mut [usize],
     scratch: &mut [u8],
     work: &mut [u8],
 ) -> Worked
-    requires { ⌜ (opcodeFrom (now s) at at ≡ got aValidating (at + 2)) × (maxBytes ≤ length (now work)) × HasTypes (now lengths) count (now scratch) ⌝ }
-    ensures { λ r. ⌜ ((ts : Stack) → Holds (now (lengths .entry)) count (now (scratch .entry)) ts → Works (r .answer) (now (lengths .exit)) (r .count) (now (scratch .exit)) (workFrom (now (s .entry)) ts at at)) ⌝ }
+    requires { ⌜ (1 ≤ count) × (maxBytes ≤ length (now work)) × HasTypes (now lengths) count (now scratch) × ((t : Ty) × (lone (now spec) ≡ accepted t)) ⌝ }
+    ensures { λ r. ⌜ ((t : Ty) (ts : Stack) → lone (now (spec .entry)) ≡ accepted t → Holds (now (lengths .entry)) count (now (scratch .entry)) ts → Works (r .answer) (now (lengths .exit)) (r .count) (now (scratch .exit)) (placed (step (steps.validating t) ts) at next)) ⌝ }
 {
-    if count < 1 {
-        return refuse(count, UNDERFLOW, at);
-    }
-    let start = at + 2;
-    let read = read_type(s, start, MAX_DEPTH, MAX_TYPES);
-    match read {
-        Answer::Got { value: _, next } => {
-            let w = validate_top(count, &*lengths, &*scratch, &s[start..next], &mut *work);
-            lay_down(
-                count,
-                &mut *lengths,
-                count - 1,
-                &mut *scratch,
-                w,
-                &*work,
-                at,
-                next,
-            )
-        }
-        Answer::Refused { number, place } => refuse(count, number, place),
-    }
+    let w = validate_top(count, &*lengths, &*scratch, spec, &mut *work);
+    lay_down(
+        count,
+        &mut *lengths,
+        count - 1,
+        &mut *scratch,
+        w,
+        &*work,
+        at,
+        next,
+    )
 }
 
 // What a rule made of the types above the k lowest takes their place; a refusal of the rule names the step's mark.

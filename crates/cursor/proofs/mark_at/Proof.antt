@@ -1,4 +1,4 @@
--- `cursor::mark_at` meets its contract: a walk of its MIR, by hand. A `Cursor` that one call returns is held in a local and passed to the next. All that the proof knows of `new` and of `next` is that each meets its contract.
+-- `cursor::mark_at` meets its contract: a walk of its MIR, by hand. A `Cursor` that one call returns is held in a local and passed to the next. All that the proof knows of `new` and of `next_mark` is that each meets its contract.
 -- The machine value that `new` returns is stored and passed on as it is. In a local of a body MIR erases the lifetime of the struct's type, so the value is shown to have the type at `erased`: what the struct owns does not say the lifetime's name.
 -- Assumes nothing.
 use mathlib.Core.Path.{_≡_, refl, subst}
@@ -39,21 +39,21 @@ use denote.Triple.Walked.{says, Stays, stay-none, stay-none-slice, walkOf, goes-
 use denote.Exit.{yes}
 use denote.Triple.Clauses.{ensured, lasts}
 use Rattle.machine.specs.Sheet.{opcodeFrom}
-use Rattle.cursor.specs.Marks.{markedOf}
+use Rattle.cursor.specs.Answers.{markedOf}
 use Rattle.cursor.specs.declared.Cursor.{Cursor}
-use Rattle.cursor.specs.declared.marks.Marked.{Marked}
+use Rattle.cursor.specs.declared.marks.MarkRead.{MarkRead}
 use Rattle.cursor.proofs.Cursor as T
 use Rattle.cursor.proofs.Cursor.Laws as T′
-use Rattle.cursor.proofs.marks.Marked as S
-use Rattle.cursor.proofs.marks.Marked.Laws as S′
+use Rattle.cursor.proofs.marks.MarkRead as S
+use Rattle.cursor.proofs.marks.MarkRead.Laws as S′
 use Rattle.cursor.proofs.new as new
 use Rattle.cursor.proofs.new.Symbol as new-def
 use Rattle.cursor.proofs.new.Symbol.{name as #cursor·new}
 use Rattle.cursor.proofs.new.Met as new-thm
-use Rattle.cursor.proofs.next as next
-use Rattle.cursor.proofs.next.Symbol as next-def
-use Rattle.cursor.proofs.next.Symbol.{name as #cursor·next}
-use Rattle.cursor.proofs.next.Met as next-thm
+use Rattle.cursor.proofs.next_mark as next
+use Rattle.cursor.proofs.next_mark.Symbol as next-def
+use Rattle.cursor.proofs.next_mark.Symbol.{name as #cursor·next-mark}
+use Rattle.cursor.proofs.next_mark.Met as next-thm
 use Rattle.cursor.proofs.mark_at.Key.{name as #cursor·mark-at}
 use Rattle.cursor.proofs.mark_at as mark-at
 use Rattle.cursor.proofs.mark_at.Statement as stated
@@ -83,7 +83,7 @@ module _ {M : Type 1} (𝓤 : URA M) (H : Heap 𝓤) (A : Atoms 𝓤) (W : Given
   at = (v ∷ [], (vint w64 n ∷ [], tt))
 
   -- what a mark read at a place of a sheet says
-  abbrev Told : Marked → List ℕ → ℕ → Type 0
+  abbrev Told : MarkRead → List ℕ → ℕ → Type 0
   Told t src place = markedOf t place ≡ opcodeFrom src place place
 
   -- the struct's type as a local of a body has it
@@ -109,23 +109,23 @@ module _ {M : Type 1} (𝓤 : URA M) (H : Heap 𝓤) (A : Atoms 𝓤) (W : Given
   new-said : (r : Cursor) → ent 𝓤 (ensured 𝓤 H A new.ended (new.clauses 𝓤 H A mem run) (κ, tt) (s, (n, tt)) tt r) (fact 𝓤 ((r .src ≡ s) × (r .at ≡ n)))
   new-said r = exE 𝓤 _ (λ ws. snd∗ 𝓤 (sem 𝓤 H A (lasts new.ended (κ, tt) (s, (n, tt)) ws)) (fact 𝓤 ((r .src ≡ s) × (r .at ≡ n))))
 
-  -- the call of `next`, at the struct r with the machine value u
+  -- the call of `next_mark`, at the struct r with the machine value u
   abbrev to-next : Cursor → Val → Next 𝓤 H A mem run .Ghost
   to-next r u = (((κ, tt), (q, tt), tt, (r, tt), (u ∷ [], tt)), tt)
 
   goes-next : (r : Cursor) (u : Val) → ent 𝓤 (⋆ 𝓤 H A (‵ (B (κ, tt) .own r (u ∷ [])) ∷ (‵ (flft κ q) ⊛ ‵ ftrue) ∷ [])) (Next 𝓤 H A mem run .pre (to-next r u))
   goes-next r u = qed W (‵ (B (κ, tt) .own r (u ∷ [])) ∷ (‵ (flft κ q) ⊛ ‵ ftrue) ∷ []) ∵ nothing ! $ move ! (1 ∷ 0 ∷ []) $ fjoin ! $ move ! (1 ∷ 0 ∷ []) $ join ! $ frame ! $ done !
 
-  next-said : (r : Cursor) (t : Marked) → ent 𝓤 (ensured 𝓤 H A next.ended (next.clauses 𝓤 H A mem run) (κ, tt) (r, tt) tt t) (fact 𝓤 (Told t (now (r .src)) (r .at)))
+  next-said : (r : Cursor) (t : MarkRead) → ent 𝓤 (ensured 𝓤 H A next.ended (next.clauses 𝓤 H A mem run) (κ, tt) (r, tt) tt t) (fact 𝓤 (Told t (now (r .src)) (r .at)))
   next-said r t = exE 𝓤 _ (λ ws. snd∗ 𝓤 (sem 𝓤 H A (lasts next.ended (κ, tt) (r, tt) ws)) (fact 𝓤 (Told t (now (r .src)) (r .at))))
 
-  exits : (t : Marked) (u : Val) → Told t (now s) n → ent 𝓤 (⋆ 𝓤 H A (‵ (S.the-row .own t (u ∷ [])) ∷ (‵ (flft κ q) ⊛ ‵ ftrue) ∷ ‵ Own ∷ [])) (Post u)
+  exits : (t : MarkRead) (u : Val) → Told t (now s) n → ent 𝓤 (⋆ 𝓤 H A (‵ (S.the-row .own t (u ∷ [])) ∷ (‵ (flft κ q) ⊛ ‵ ftrue) ∷ ‵ Own ∷ [])) (Post u)
   exits t u e =
       qed W (‵ (S.the-row .own t (u ∷ [])) ∷ (‵ (flft κ q) ⊛ ‵ ftrue) ∷ ‵ Own ∷ []) ∵
       suffices ! _ (ends-at 𝓤 H A mark-at.ended stayed (mark-at.clauses 𝓤 H A mem run) W (((κ, tt), (q, tt), tt, (s, (n, tt)), at), tt) u t (tt, (tt, tt)) (tt, (tt, tt))) $ says ! e $
       move ! (1 ∷ []) $ frame ! $ nothing ! $ owned ! usize (Is usize) (uint-makes 𝓤 H A W w64) n _ (refl, ok) $ fjoin ! $ move ! (2 ∷ 0 ∷ []) $ fjoin ! $ frame ! $ done !
 
-  module _ (C : Calls 𝓤 H) (Λ : Loops 𝓤 H) (fm : FmC 𝓤 H (W .laws) C) (known-new : Triple 𝓤 (C #cursor·new) (New 𝓤 H A mem run)) (known-next : Triple 𝓤 (C #cursor·next) (Next 𝓤 H A mem run)) where
+  module _ (C : Calls 𝓤 H) (Λ : Loops 𝓤 H) (fm : FmC 𝓤 H (W .laws) C) (known-new : Triple 𝓤 (C #cursor·new) (New 𝓤 H A mem run)) (known-next : Triple 𝓤 (C #cursor·next-mark) (Next 𝓤 H A mem run)) where
     walk : Is (ShrSlice (named 0) κ u8) s (v ∷ []) → ent 𝓤 (onEntry 𝓤 H A mark-at.signature (κ, tt) (q, tt) (s, (n, tt)) at) (WpFn 𝓤 H C Λ code.function (v ∷ vint w64 n ∷ []) Post)
     walk p =
         qed W (raw (onEntry 𝓤 H A mark-at.signature (κ, tt) (q, tt) (s, (n, tt)) at) ∷ []) ∵ enter ! C Λ code.function (v ∷ vint w64 n ∷ []) _ $
@@ -139,7 +139,7 @@ module _ {M : Type 1} (𝓤 : URA M) (H : Heap 𝓤) (A : Atoms 𝓤) (W : Given
         land ! (from ! (stop !)) (init ! 3 refl (LL.lawful (T.the-type αᵉ) (T′.the-laws αᵉ) 𝓤 H A W .typed r _ is .0)) $
         use2 W (raw (Next 𝓤 H A mem run .pre (to-next r u))) (goes-next r u) $
         calls-at ! fm (Next 𝓤 H A mem run) known-next (to-next r u) (and-then ! (load ! (from ! (stop !)) (look ! 2 refl)) (no-more !)) (λ u′.
-        use1 W (later (some (λ (t : Marked). ((‵ (flft κ q) ⊛ ‵ ftrue) ⊛ ‵ (S.the-row .own t (u′ ∷ []))) ⊛ raw (ensured 𝓤 H A next.ended (next.clauses 𝓤 H A mem run) (κ, tt) (r, tt) tt t)))) (id⊢ 𝓤 _) $ await ! tt $ pick ! (λ t.
+        use1 W (later (some (λ (t : MarkRead). ((‵ (flft κ q) ⊛ ‵ ftrue) ⊛ ‵ (S.the-row .own t (u′ ∷ []))) ⊛ raw (ensured 𝓤 H A next.ended (next.clauses 𝓤 H A mem run) (κ, tt) (r, tt) tt t)))) (id⊢ 𝓤 _) $ await ! tt $ pick ! (λ t.
         split ! $ move ! (1 ∷ []) $ use1 W (raw (fact 𝓤 (Told t (now (r .src)) (r .at)))) (next-said r t) $ heard ! (Told t (now (r .src)) (r .at)) (λ e′. split ! $ move ! (1 ∷ []) $
         -- [the result; the token; what s owns; _3; …; _2; …; _1; …; room for _0; …]
         peeks ! S.the-row (Is S.the-row) (shows 𝓤 H A S.the-row) t (u′ ∷ []) (λ is′.
@@ -148,13 +148,13 @@ module _ {M : Type 1} (𝓤 : URA M) (H : Heap 𝓤) (A : Atoms 𝓤) (W : Given
         by ! (exits t u′ (subst (λ (x : RefT (List ℕ)). Told t (now x) n) (e .0) (subst (Told t (now (r .src))) (e .1) e′)))))))))))))))
 
 module _ {M : Type 1} (𝓤 : URA M) (H : Heap 𝓤) (A : Atoms 𝓤) (W : Given 𝓤 H A) (mem : Memory → SProp 𝓤) (run : Routine → Fun 𝓤) where
-  mark-at-walks : (C : Calls 𝓤 H) (Λ : Loops 𝓤 H) → FmC 𝓤 H (W .laws) C → Triple 𝓤 (C #cursor·new) (New 𝓤 H A mem run) → Triple 𝓤 (C #cursor·next) (Next 𝓤 H A mem run)
+  mark-at-walks : (C : Calls 𝓤 H) (Λ : Loops 𝓤 H) → FmC 𝓤 H (W .laws) C → Triple 𝓤 (C #cursor·new) (New 𝓤 H A mem run) → Triple 𝓤 (C #cursor·next-mark) (Next 𝓤 H A mem run)
       → Walks 𝓤 H A mark-at.ended stayed (WpFn 𝓤 H C Λ code.function) (mark-at.clauses 𝓤 H A mem run)
   mark-at-walks C Λ fm known-new known-next = walked 𝓤 H A mark-at.ended stayed (mark-at.clauses 𝓤 H A mem run) (WpFn 𝓤 H C Λ code.function) (λ κs. (slice-vals, (uint-vals w64, tt))) (λ κs. (shr-slice-tells (named 0) (κs .0) u8, (uint-tells w64, tt)))
       (λ κs qs bounds a g are. via 𝓤 _ (fst∗ 𝓤 _ (emp 𝓤)) (walk 𝓤 H A W mem run (κs .0) (qs .0) (a .0) (a .1 .0) (are .1 .0 .1) C Λ fm known-new known-next (are .0)))
 
 mark-at-meets : {M : Type 1} (𝓤 : URA M) (H : Heap 𝓤) (A : Atoms 𝓤) (W : Given 𝓤 H A) (mem : Memory → SProp 𝓤) (run : Routine → Fun 𝓤) (𝓣 : Tables 𝓤 H)
-    → Triple 𝓤 (𝓣 .C #cursor·new) (New 𝓤 H A mem run) → Triple 𝓤 (𝓣 .C #cursor·next) (Next 𝓤 H A mem run)
+    → Triple 𝓤 (𝓣 .C #cursor·new) (New 𝓤 H A mem run) → Triple 𝓤 (𝓣 .C #cursor·next-mark) (Next 𝓤 H A mem run)
     → Meets 𝓤 H A mark-at.signature (WpFn 𝓤 H (𝓣 .C) (𝓣 .Λ) code.function) (mark-at.spec 𝓤 H A mem run)
 mark-at-meets 𝓤 H A W mem run 𝓣 known-new known-next = walk-meets 𝓤 H A mark-at.ended stayed W (goes-none-slice 𝓤 H A W 1 (0 ∷ []) tt (plain (λ _. u8)) yes, (goes-none 𝓤 H A W 1 (λ _. usize) yes (λ κs x f. refl), tt)) (mark-at.clauses 𝓤 H A mem run) (WpFn 𝓤 H (𝓣 .C) (𝓣 .Λ) code.function) (WpFn-mono 𝓤 H (W .laws) 𝓣 code.function)
     (mark-at-walks 𝓤 H A W mem run (𝓣 .C) (𝓣 .Λ) (fmOf 𝓤 H (W .laws) 𝓣) known-new known-next)
@@ -166,4 +166,4 @@ mark-at-spec 𝓤 H 𝓜 𝓖 𝓡 =
     (tables 𝓤 H 𝓜 𝓡 code.env .C) (tables 𝓤 H 𝓜 𝓡 code.env .Λ) #cursor·mark-at code.function (code.unfolded 𝓤 H 𝓜 𝓡)
     (mark-at-meets 𝓤 H (𝓖 .A) (givenOf 𝓤 H 𝓜 𝓖) (𝓜 .mem) (𝓡 .run) (tablesOf 𝓤 H 𝓜 (tables 𝓤 H 𝓜 𝓡 code.env))
     (cited 𝓤 H (New 𝓤 H (𝓖 .A) (𝓜 .mem) (𝓡 .run)) 𝓜 𝓡 code.env #cursor·new new-def.routine code.calls-cursor·new (new-thm.met 𝓤 H 𝓜 𝓖 𝓡))
-    (cited 𝓤 H (Next 𝓤 H (𝓖 .A) (𝓜 .mem) (𝓡 .run)) 𝓜 𝓡 code.env #cursor·next next-def.routine code.calls-cursor·next (next-thm.met 𝓤 H 𝓜 𝓖 𝓡)))
+    (cited 𝓤 H (Next 𝓤 H (𝓖 .A) (𝓜 .mem) (𝓡 .run)) 𝓜 𝓡 code.env #cursor·next-mark next-def.routine code.calls-cursor·next-mark (next-thm.met 𝓤 H 𝓜 𝓖 𝓡)))

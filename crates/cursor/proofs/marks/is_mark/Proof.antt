@@ -4,13 +4,19 @@ use Rattle.cursor.proofs.marks.is_mark.Tie as tie
 use Rattle.cursor.proofs.marks.is_mark.Reads as reads
 use Rattle.cursor.proofs.marks.is_mark.Lts as lts
 
--- src/marks.rt:53:9
+-- src/marks.rt:74:9
 returns : tie.Need-returns
-returns c = rw (eq-eqb (c .before .args .x) (c .before .args .a) (c .if1 .taken))
+returns c =
+    let entry = c .before .before .before in
+    let args = entry .args in
+    rw (eq-eqb (args .x) (args .m .first) (c .before .if1 .taken))
 
--- src/marks.rt:49:1
+-- src/marks.rt:70:1
 returns-2 : tie.Need-returns-2
-returns-2 c = rw (ne-eqb (c .before .args .x) (c .before .args .a) (c .if1 .left))
+returns-2 c =
+    let entry = c .before .before in
+    let args = entry .args in
+    rw (ne-eqb (args .x) (args .m .first) (c .if1 .left))
 
 pub is-mark-spec : {M : Type 1} → statement M
 is-mark-spec = tie.close (tie.spec returns returns-2)

@@ -1,12 +1,13 @@
-use mathlib.Core.Path.{sym, _∙_, ap}
-use Rattle.cursor.specs.Marks.{markedOf}
-use Rattle.machine.specs.SheetSteps.{work-unmarked}
+use native.Mathlib.Omega.{arith}
+use Rattle.machine.specs.Steps as steps
+use Rattle.machine.specs.StepsTook.{took-step}
+use Rattle.run.proofs.StepLaws.{put-read, row-read, pervading-read, join-read, validating-read, step-unread, worked, unworked}
 use borrow.Author.Needs.{needs}
 use Rattle.run.proofs.steps.work_step.Statement.{statement}
 use Rattle.run.proofs.steps.work_step.Tie as tie
 use Rattle.run.proofs.steps.work_step.Reads as reads
 use Rattle.run.proofs.steps.work_step.Lts as lts
-use Rattle.cursor.proofs.mark_at.Reads as mark-at-reads
+use Rattle.cursor.proofs.read_step.Reads as read-step-reads
 use Rattle.run.proofs.steps.join.Reads as join-reads
 use Rattle.run.proofs.steps.pervade.Reads as pervade-reads
 use Rattle.run.proofs.steps.put.Reads as put-reads
@@ -14,154 +15,288 @@ use Rattle.run.proofs.steps.refuse.Reads as refuse-reads
 use Rattle.run.proofs.steps.row.Reads as row-reads
 use Rattle.run.proofs.steps.validate.Reads as validate-reads
 
--- src/steps.rt:44:9
-mark-at-requires : tie.Need-mark-at-requires
-mark-at-requires c κs = search needs
+-- src/steps.rt:38:9
+read-step-requires : tie.Need-read-step-requires
+read-step-requires c κs = search needs
 
--- src/steps.rt:46:42
-enum-told : tie.Need-enum-told
-enum-told c = search needs
+-- src/steps.rt:40:25
+enum-known-read : tie.Need-enum-known-read
+enum-known-read c = search needs
 
--- src/steps.rt:46:24
+-- src/steps.rt:41:17
+sub-put : tie.Need-sub-put
+sub-put c =
+    let entry = c .before .before .before .before .before .before .before .before in
+    let at-read-step = c .before .before .before in
+    put-read (entry .args .s .now) (at-read-step .read-step .ensures) (c .before .read .given .1) λ t e x. x .forth
+
+-- src/steps.rt:41:17
+part-put-start : tie.Need-part-put-start
+part-put-start c =
+    let entry = c .before .before .before .before .before .before .before .before in
+    let at-read-step = c .before .before .before in
+    put-read (entry .args .s .now) (at-read-step .read-step .ensures) (c .before .read .given .1) λ t e x. x .forth
+
+-- src/steps.rt:41:17
+part-put-end : tie.Need-part-put-end
+part-put-end c =
+    let entry = c .before .before .before .before .before .before .before .before in
+    let at-read-step = c .before .before .before in
+    put-read (entry .args .s .now) (at-read-step .read-step .ensures) (c .before .read .given .1) λ t e x. x .inside
+
+-- src/steps.rt:41:13
 put-requires : tie.Need-put-requires
-put-requires c κs = (sym (c .before .before .before .before .mark-at .ensures) ∙ ap (λ m. markedOf m (c .before .before .before .before .before .before .before .before .before .args .at)) (c .before .before .enum-told .given .1), c .before .before .before .before .before .before .before .before .before .pre .1)
+put-requires c κs =
+    let entry = c .before .before .before .before .before .before .before .before .before .before .before in
+    let at-shared-slice-known = c .before .before .before .before .before .before .before .before .before .before in
+    let at-read-step = c .before .before .before .before .before .before in
+    let at-read = c .before .before .before .before in
+    let args = entry .args in
+    put-read (args .s .now) (at-read-step .read-step .ensures) (at-read .read .given .1) λ t e x.
+    let took = took-step (args .s .now) (λ i. omega (arith, at-shared-slice-known .shared-slice-known .given i)) (args .count) (args .at) (args .at) (steps.put t) _ e in
+    (omega (arith, took .room), entry .pre .1, (t, x .alone))
 
--- src/steps.rt:47:42
-enum-told-2 : tie.Need-enum-told-2
-enum-told-2 c = search needs
+-- src/steps.rt:43:25
+enum-known-read-2 : tie.Need-enum-known-read-2
+enum-known-read-2 c = search needs
 
--- src/steps.rt:47:24
+-- src/steps.rt:43:35
 row-requires : tie.Need-row-requires
-row-requires c κs = (sym (c .before .before .before .before .before .mark-at .ensures) ∙ ap (λ m. markedOf m (c .before .before .before .before .before .before .before .before .before .before .args .at)) (c .before .before .before .enum-told2 .given .1), c .before .before .before .before .before .before .before .before .before .before .pre .0, c .before .before .before .before .before .before .before .before .before .before .pre .1)
+row-requires c κs =
+    let entry = c .before .before .before .before .before .before .before .before .before .before .before in
+    let at-shared-slice-known = c .before .before .before .before .before .before .before .before .before .before in
+    let at-read-step = c .before .before .before .before .before .before in
+    let at-read2 = c .before .before .before .before in
+    let args = entry .args in
+    let read = row-read (args .s .now) (at-read-step .read-step .ensures) (at-read2 .read2 .given .1) in
+    let took = took-step (args .s .now) (λ i. omega (arith, at-shared-slice-known .shared-slice-known .given i)) (args .count) (args .at) (args .at) steps.row _ read in
+    (took .enough, entry .pre .0, entry .pre .1)
 
--- src/steps.rt:48:52
-enum-told-3 : tie.Need-enum-told-3
-enum-told-3 c = search needs
+-- src/steps.rt:45:13
+enum-known-read-3 : tie.Need-enum-known-read-3
+enum-known-read-3 c = search needs
 
--- src/steps.rt:48:30
+-- src/steps.rt:48:14
 pervade-requires : tie.Need-pervade-requires
-pervade-requires c κs = (sym (c .before .before .before .before .before .mark-at .ensures) ∙ ap (λ m. markedOf m (c .before .before .before .before .before .before .before .before .before .before .args .at)) (c .before .before .before .enum-told3 .given .1), c .before .before .before .before .before .before .before .before .before .before .pre .0, c .before .before .before .before .before .before .before .before .before .before .pre .1)
+pervade-requires c κs =
+    let entry = c .before .before .before .before .before .before .before .before .before .before .before in
+    let at-shared-slice-known = c .before .before .before .before .before .before .before .before .before .before in
+    let at-read-step = c .before .before .before .before .before .before in
+    let at-read3 = c .before .before .before .before in
+    let args = entry .args in
+    let read = pervading-read (args .s .now) (at-read-step .read-step .ensures) (at-read3 .read3 .given .1) in
+    let took = took-step (args .s .now) (λ i. omega (arith, at-shared-slice-known .shared-slice-known .given i)) (args .count) (args .at) (args .at) (steps.pervading _ _) _ read in
+    (took .enough, entry .pre .0, entry .pre .1)
 
--- src/steps.rt:49:44
-enum-told-4 : tie.Need-enum-told-4
-enum-told-4 c = search needs
+-- src/steps.rt:58:26
+enum-known-read-4 : tie.Need-enum-known-read-4
+enum-known-read-4 c = search needs
 
--- src/steps.rt:49:25
+-- src/steps.rt:58:36
 join-requires : tie.Need-join-requires
-join-requires c κs = (sym (c .before .before .before .before .before .mark-at .ensures) ∙ ap (λ m. markedOf m (c .before .before .before .before .before .before .before .before .before .before .args .at)) (c .before .before .before .enum-told4 .given .1), c .before .before .before .before .before .before .before .before .before .before .pre .0, c .before .before .before .before .before .before .before .before .before .before .pre .1)
+join-requires c κs =
+    let entry = c .before .before .before .before .before .before .before .before .before .before .before in
+    let at-shared-slice-known = c .before .before .before .before .before .before .before .before .before .before in
+    let at-read-step = c .before .before .before .before .before .before in
+    let at-read4 = c .before .before .before .before in
+    let args = entry .args in
+    let read = join-read (args .s .now) (at-read-step .read-step .ensures) (at-read4 .read4 .given .1) in
+    let took = took-step (args .s .now) (λ i. omega (arith, at-shared-slice-known .shared-slice-known .given i)) (args .count) (args .at) (args .at) steps.join _ read in
+    (took .enough, entry .pre .0, entry .pre .1)
 
--- src/steps.rt:50:54
-enum-told-5 : tie.Need-enum-told-5
-enum-told-5 c = search needs
+-- src/steps.rt:59:32
+enum-known-read-5 : tie.Need-enum-known-read-5
+enum-known-read-5 c = search needs
 
--- src/steps.rt:50:31
+-- src/steps.rt:60:13
+sub-validate : tie.Need-sub-validate
+sub-validate c =
+    let entry = c .before .before .before .before .before .before .before .before in
+    let at-read-step = c .before .before .before in
+    validating-read (entry .args .s .now) (at-read-step .read-step .ensures) (c .before .read5 .given .1) λ t e x. x .forth
+
+-- src/steps.rt:60:13
+part-validate-start : tie.Need-part-validate-start
+part-validate-start c =
+    let entry = c .before .before .before .before .before .before .before .before in
+    let at-read-step = c .before .before .before in
+    validating-read (entry .args .s .now) (at-read-step .read-step .ensures) (c .before .read5 .given .1) λ t e x. x .forth
+
+-- src/steps.rt:60:13
+part-validate-end : tie.Need-part-validate-end
+part-validate-end c =
+    let entry = c .before .before .before .before .before .before .before .before in
+    let at-read-step = c .before .before .before in
+    validating-read (entry .args .s .now) (at-read-step .read-step .ensures) (c .before .read5 .given .1) λ t e x. x .inside
+
+-- src/steps.rt:59:49
 validate-requires : tie.Need-validate-requires
-validate-requires c κs = (sym (c .before .before .before .before .before .mark-at .ensures) ∙ ap (λ m. markedOf m (c .before .before .before .before .before .before .before .before .before .before .args .at)) (c .before .before .before .enum-told5 .given .1), c .before .before .before .before .before .before .before .before .before .before .pre .0, c .before .before .before .before .before .before .before .before .before .before .pre .1)
+validate-requires c κs =
+    let entry = c .before .before .before .before .before .before .before .before .before .before .before .before in
+    let at-shared-slice-known = c .before .before .before .before .before .before .before .before .before .before .before in
+    let at-read-step = c .before .before .before .before .before .before .before in
+    let at-read5 = c .before .before .before .before .before in
+    let args = entry .args in
+    validating-read (args .s .now) (at-read-step .read-step .ensures) (at-read5 .read5 .given .1) λ t e x.
+    let took = took-step (args .s .now) (λ i. omega (arith, at-shared-slice-known .shared-slice-known .given i)) (args .count) (args .at) (args .at) (steps.validating t) _ e in
+    (took .enough, entry .pre .0, entry .pre .1, (t, x .alone))
 
--- src/steps.rt:51:27
-enum-known-marked : tie.Need-enum-known-marked
-enum-known-marked c = search needs
+-- src/steps.rt:68:29
+enum-known-read-6 : tie.Need-enum-known-read-6
+enum-known-read-6 c = search needs
 
--- src/steps.rt:51:39
+-- src/steps.rt:68:48
 refuse-requires : tie.Need-refuse-requires
 refuse-requires c κs = search needs
 
--- src/steps.rt:33:1
+-- src/steps.rt:27:1
 same-length : tie.Need-same-length
 same-length c = search needs
 
--- src/steps.rt:33:1
+-- src/steps.rt:27:1
 same-length-2 : tie.Need-same-length-2
 same-length-2 c = search needs
 
--- src/steps.rt:33:1
+-- src/steps.rt:27:1
 returns : tie.Need-returns
-returns c = search needs
+returns c =
+    let entry = c .before .before .before .before .before .before .before .before .before .before .before .before .before .before .before .before in
+    let at-read-step = c .before .before .before .before .before .before .before .before .before .before .before in
+    let at-read = c .before .before .before .before .before .before .before .before .before in
+    let at-put = c .before .before .before .before in
+    let args = entry .args in
+    λ ts h.
+    put-read (args .s .now) (at-read-step .read-step .ensures) (at-read .read .given .1) λ t e x.
+    worked (args .s .now) (args .at) h (at-put .put .result .answer) _ (at-put .put .result .count) _ (steps.put t) e (at-put .put .ensures t ts (args .at) (x .alone) h)
 
--- src/steps.rt:33:1
+-- src/steps.rt:27:1
 same-length-3 : tie.Need-same-length-3
 same-length-3 c = search needs
 
--- src/steps.rt:33:1
+-- src/steps.rt:27:1
 same-length-4 : tie.Need-same-length-4
 same-length-4 c = search needs
 
--- src/steps.rt:33:1
+-- src/steps.rt:27:1
 same-length-5 : tie.Need-same-length-5
 same-length-5 c = search needs
 
--- src/steps.rt:33:1
+-- src/steps.rt:27:1
 returns-2 : tie.Need-returns-2
-returns-2 c = search needs
+returns-2 c =
+    let entry = c .before .before .before .before .before .before .before .before .before .before .before .before .before .before .before .before .before .before in
+    let at-read-step = c .before .before .before .before .before .before .before .before .before .before .before .before .before in
+    let at-read2 = c .before .before .before .before .before .before .before .before .before .before .before in
+    let at-row = c .before .before .before .before .before .before in
+    let args = entry .args in
+    λ ts h.
+    let read = row-read (args .s .now) (at-read-step .read-step .ensures) (at-read2 .read2 .given .1) in
+    worked (args .s .now) (args .at) h (at-row .row .result .answer) _ (at-row .row .result .count) _ steps.row read (at-row .row .ensures ts h)
 
--- src/steps.rt:33:1
+-- src/steps.rt:27:1
 same-length-6 : tie.Need-same-length-6
 same-length-6 c = search needs
 
--- src/steps.rt:33:1
+-- src/steps.rt:27:1
 same-length-7 : tie.Need-same-length-7
 same-length-7 c = search needs
 
--- src/steps.rt:33:1
+-- src/steps.rt:27:1
 same-length-8 : tie.Need-same-length-8
 same-length-8 c = search needs
 
--- src/steps.rt:33:1
+-- src/steps.rt:27:1
 returns-3 : tie.Need-returns-3
-returns-3 c = search needs
+returns-3 c =
+    let entry = c .before .before .before .before .before .before .before .before .before .before .before .before .before .before .before .before .before .before in
+    let at-read-step = c .before .before .before .before .before .before .before .before .before .before .before .before .before in
+    let at-read3 = c .before .before .before .before .before .before .before .before .before .before .before in
+    let at-pervade = c .before .before .before .before .before .before in
+    let args = entry .args in
+    λ ts h.
+    let read = pervading-read (args .s .now) (at-read-step .read-step .ensures) (at-read3 .read3 .given .1) in
+    worked (args .s .now) (args .at) h (at-pervade .pervade .result .answer) _ (at-pervade .pervade .result .count) _ (steps.pervading _ _) read (at-pervade .pervade .ensures ts h)
 
--- src/steps.rt:33:1
+-- src/steps.rt:27:1
 same-length-9 : tie.Need-same-length-9
 same-length-9 c = search needs
 
--- src/steps.rt:33:1
+-- src/steps.rt:27:1
 same-length-10 : tie.Need-same-length-10
 same-length-10 c = search needs
 
--- src/steps.rt:33:1
+-- src/steps.rt:27:1
 same-length-11 : tie.Need-same-length-11
 same-length-11 c = search needs
 
--- src/steps.rt:33:1
+-- src/steps.rt:27:1
 returns-4 : tie.Need-returns-4
-returns-4 c = search needs
+returns-4 c =
+    let entry = c .before .before .before .before .before .before .before .before .before .before .before .before .before .before .before .before .before .before in
+    let at-read-step = c .before .before .before .before .before .before .before .before .before .before .before .before .before in
+    let at-read4 = c .before .before .before .before .before .before .before .before .before .before .before in
+    let at-join = c .before .before .before .before .before .before in
+    let args = entry .args in
+    λ ts h.
+    let read = join-read (args .s .now) (at-read-step .read-step .ensures) (at-read4 .read4 .given .1) in
+    worked (args .s .now) (args .at) h (at-join .join .result .answer) _ (at-join .join .result .count) _ steps.join read (at-join .join .ensures ts h)
 
--- src/steps.rt:33:1
+-- src/steps.rt:27:1
 same-length-12 : tie.Need-same-length-12
 same-length-12 c = search needs
 
--- src/steps.rt:33:1
+-- src/steps.rt:27:1
 same-length-13 : tie.Need-same-length-13
 same-length-13 c = search needs
 
--- src/steps.rt:33:1
+-- src/steps.rt:27:1
 same-length-14 : tie.Need-same-length-14
 same-length-14 c = search needs
 
--- src/steps.rt:33:1
+-- src/steps.rt:27:1
 returns-5 : tie.Need-returns-5
-returns-5 c = search needs
+returns-5 c =
+    let entry = c .before .before .before .before .before .before .before .before .before .before .before .before .before .before .before .before .before .before .before in
+    let at-read-step = c .before .before .before .before .before .before .before .before .before .before .before .before .before .before in
+    let at-read5 = c .before .before .before .before .before .before .before .before .before .before .before .before in
+    let at-validate = c .before .before .before .before .before .before in
+    let args = entry .args in
+    λ ts h.
+    validating-read (args .s .now) (at-read-step .read-step .ensures) (at-read5 .read5 .given .1) λ t e x.
+    worked (args .s .now) (args .at) h (at-validate .validate .result .answer) _ (at-validate .validate .result .count) _ (steps.validating t) e (at-validate .validate .ensures t ts (x .alone) h)
 
--- src/steps.rt:33:1
+-- src/steps.rt:27:1
 returns-6 : tie.Need-returns-6
-returns-6 c = λ ts h. rw (c .refuse .ensures) (work-unmarked (c .before .before .before .before .before .before .before .before .before .args .s .now) ts (c .before .before .before .before .before .before .before .before .before .args .at) (c .before .before .before .before .before .before .before .before .before .args .at) _ _ (sym (c .before .before .before .before .mark-at .ensures) ∙ ap (λ m. markedOf m (c .before .before .before .before .before .before .before .before .before .args .at)) (c .before .before .marked .given .1)))
+returns-6 c =
+    let entry = c .before .before .before .before .before .before .before .before .before in
+    let at-read-step = c .before .before .before .before in
+    let at-read6 = c .before .before in
+    let args = entry .args in
+    λ ts h.
+    rw (c .refuse .ensures) (unworked (args .s .now) (args .at) h (step-unread (args .s .now) (at-read-step .read-step .ensures) (at-read6 .read6 .given .1)))
 
 pub work-step-spec : {M : Type 1} → statement M
 work-step-spec =
     tie.close
     (tie.spec
-    mark-at-requires
-    enum-told
+    read-step-requires
+    enum-known-read
+    sub-put
+    part-put-start
+    part-put-end
     put-requires
-    enum-told-2
+    enum-known-read-2
     row-requires
-    enum-told-3
+    enum-known-read-3
     pervade-requires
-    enum-told-4
+    enum-known-read-4
     join-requires
-    enum-told-5
+    enum-known-read-5
+    sub-validate
+    part-validate-start
+    part-validate-end
     validate-requires
-    enum-known-marked
+    enum-known-read-6
     refuse-requires
     same-length
     same-length-2

@@ -1,0 +1,119 @@
+// One step as it is read, its rule left out: its mark, the stack, then its flag or type.
+use crate::StepRead;
+use crate::flag_at;
+use crate::flags::FlagRead;
+use crate::flags::flag_number;
+use crate::mark_at;
+use crate::marks::MarkRead;
+use crate::marks::Opcode;
+use crate::marks::mark_number;
+use crate::type_at;
+use crate::types::TypeRead;
+use crate::types::type_number;
+use crate::types::type_place;
+use limits::refusal::OVERFLOW;
+use limits::refusal::UNDERFLOW;
+use stack::MAX_STACK;
+ghost use mathlib.Core.Path.{_≡_};
+ghost use Prim.Native.Nat.{ℕ};
+ghost use Rattle.machine.specs.Steps as steps;
+ghost use Rattle.machine.specs.Steps.{aPut, aPervading, aValidating};
+ghost use Rattle.machine.specs.Sheet.{argumentFrom, stepFrom};
+ghost use Rattle.cursor.specs.Answers.{opcodeFor, StepIs};
+
+// The step whose mark stands at a place, on a stack of that height.
+pub fn read_step(s: &[u8], at: usize, height: usize) -> StepRead
+    ensures { λ r. ⌜ StepIs r (now (s .entry)) (stepFrom (now (s .entry)) height at at) ⌝ }
+{
+    let marked = mark_at(s, at);
+    let MarkRead::Got { opcode, next } = marked else {
+        return StepRead::Refused {
+            number: mark_number(marked),
+            place: at,
+        };
+    };
+    let taken = takes(opcode);
+    if height < taken {
+        return StepRead::Refused {
+            number: UNDERFLOW,
+            place: at,
+        };
+    }
+    if MAX_STACK <= height - taken {
+        return StepRead::Refused {
+            number: OVERFLOW,
+            place: at,
+        };
+    }
+    match opcode {
+        Opcode::Put => read_put(s, next),
+        Opcode::Row => StepRead::Row { next },
+        Opcode::Pervading => read_pervading(s, at, next),
+        Opcode::Join => StepRead::Join { next },
+        Opcode::Validating => read_validating(s, next),
+    }
+}
+
+// How many types a step takes off the stack.
+fn takes(opcode: Opcode) -> usize
+    ensures { λ r. ⌜ r ≡ steps.takes (opcodeFor opcode) ⌝ }
+{
+    match opcode {
+        Opcode::Put => 0,
+        Opcode::Row => 1,
+        Opcode::Pervading => 2,
+        Opcode::Join => 2,
+        Opcode::Validating => 1,
+    }
+}
+
+// A put whose mark ends at a place: its type.
+fn read_put(s: &[u8], start: usize) -> StepRead
+    ensures { λ r. ⌜ ((p : ℕ) → StepIs r (now (s .entry)) (argumentFrom (now (s .entry)) aPut p start)) ⌝ }
+{
+    let read = type_at(s, start);
+    let TypeRead::Got { next } = read else {
+        return StepRead::Refused {
+            number: type_number(read),
+            place: type_place(read),
+        };
+    };
+    StepRead::Put { start, next }
+}
+
+// A pervading: its flag, whose refusal names the mark.
+fn read_pervading(s: &[u8], mark: usize, at: usize) -> StepRead
+    ensures { λ r. ⌜ StepIs r (now (s .entry)) (argumentFrom (now (s .entry)) aPervading mark at) ⌝ }
+{
+    let read = flag_at(s, at);
+    let FlagRead::Got {
+        top_fill,
+        below_fill,
+        next,
+    } = read
+    else {
+        return StepRead::Refused {
+            number: flag_number(read),
+            place: mark,
+        };
+    };
+    StepRead::Pervading {
+        top_fill,
+        below_fill,
+        next,
+    }
+}
+
+// A validation: the type to be validated by.
+fn read_validating(s: &[u8], start: usize) -> StepRead
+    ensures { λ r. ⌜ ((p : ℕ) → StepIs r (now (s .entry)) (argumentFrom (now (s .entry)) aValidating p start)) ⌝ }
+{
+    let read = type_at(s, start);
+    let TypeRead::Got { next } = read else {
+        return StepRead::Refused {
+            number: type_number(read),
+            place: type_place(read),
+        };
+    };
+    StepRead::Validating { start, next }
+}

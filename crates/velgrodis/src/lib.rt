@@ -10,6 +10,8 @@ mod types;
 mod validating;
 mod values;
 
+pub use sheet::vg_check_sheet;
+
 // What every call answers. Its kind is 0: refused, with number and place; 1: a value, in `first` and `second`; 2: none. A
 // number that its kind does not have is 0.
 #[repr(C)]

@@ -1,11 +1,16 @@
 // What the first argument asks for.
 use crate::Asked;
+use crate::writing::complain;
 use check::same;
 ghost use mathlib.Core.Path.{_≡_};
 ghost use Rattle.streams.specs.Arguments.{AskedBy};
 
 // No argument of these programs is longer; one that is gets none of its bytes, and is unknown.
 const MAX_ARGUMENT: usize = 16;
+
+pub fn say_version() {
+    complain(b"velgrodis 1\n");
+}
 
 pub fn read_argument() -> Asked {
     if os::arg_count() < 2 {

@@ -21,6 +21,12 @@ pub fn write_to_end(fd: i32, bytes: &[u8]) -> Moved
     Moved { count, last }
 }
 
+// All of a text to standard output, or false: then some of it may be written, and the rest is not.
+pub fn write_whole(text: &[u8]) -> bool {
+    let written = write_to_end(libc::STDOUT_FILENO, text);
+    written.count == text.len()
+}
+
 // A sentence on standard error. If it cannot be written there is nowhere left to say so.
 pub fn complain(sentence: &[u8]) {
     write_to_end(libc::STDERR_FILENO, sentence);

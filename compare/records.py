@@ -78,12 +78,14 @@ def large():
 
 
 def full_sheet():
-    """An accepted sheet of just SHEET bytes: nine of the largest types and a tenth that makes up the length, joined."""
-    puts = b"PU" + largest() + (b"PU" + largest() + b"JN") * 8
-    rest = SHEET - len(puts) - len(b"PUJN")
-    fields, name = divmod(rest - len(of(named(b""))) - len(of(NUM, [2] * 7, [3] * 7)), len(full(NUM)))
-    last = of(named(b"n" * name, [full(NUM)] * fields + [of(NUM, [2] * 7, [3] * 7)]))
-    sheet = puts + b"PU" + last + b"JN"
+    """A sheet of just SHEET bytes, which leaves eight types.
+
+    Nine of the largest types are put and two of them joined to others, so that the stack is full twice; the last put
+    makes up the length.
+    """
+    put, join = b"PU", b"JN"
+    last = of(named(b"abc", [full(NUM)] * 31))
+    sheet = (put + largest()) * 8 + join + put + largest() + join + put + last
     assert len(sheet) == SHEET
     return sheet
 

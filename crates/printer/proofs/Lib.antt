@@ -1,1 +1,3 @@
-mod Laws
+mod CallLaws
+mod ProgramLaws
+mod InputLaws

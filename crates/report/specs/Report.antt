@@ -11,7 +11,7 @@ use Rattle.format.specs.Records.{writeTy}
 use Rattle.format.specs.Outcome.{Outcome, accepted, refused}
 use Rattle.machine.specs.SheetLimits.{scratchBytes, programBytes}
 use Rattle.machine.specs.Sheet.{sheetRun}
-use Rattle.machine.specs.Call.{writeTypes}
+use Rattle.machine.specs.Call.{writeTypes, zeroed, Called, called, sheetCall}
 use Rattle.text.specs.Digits.{hexOf, decimalOf}
 
 abbrev pub space : List ℕ
@@ -60,3 +60,16 @@ programOutcome s = cond (ltb programBytes (length s)) (refused tooShort 0) (shee
 -- What it prints: every line ends in a line feed, the last too.
 unfoldable pub printed : List ℕ → List ℕ
 printed s = reported lineFeed (programOutcome s) ++ lineFeed
+
+-- What a call leaves in the two buffers that it was lent: the result and the scratch.
+pub data Buffers : Type 0 where
+  buffers : List ℕ → List ℕ → Buffers
+
+abbrev pub leaves : Called → Buffers
+leaves (called o result scratch) = buffers result scratch
+
+-- The program's check as a call, with the buffers that it lends: a sheet of more bytes than it reads is a refusal like any other, which
+-- writes nothing to the result and after which the scratch is zero.
+unfoldable pub programCall : List ℕ → List ℕ → List ℕ → Called
+programCall s result scratch =
+    cond (ltb programBytes (length s)) (called (refused tooShort 0) result (zeroed scratch)) (sheetCall s result scratch)

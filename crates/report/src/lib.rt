@@ -4,3 +4,4 @@ mod parts;
 
 pub use lines::put_left;
 pub use lines::put_refusal;
+pub use parts::put;

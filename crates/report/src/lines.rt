@@ -18,11 +18,11 @@ ghost use Rattle.report.specs.Report.{headed, typeLine, typeLines, repor
 ghost use Rattle.report.specs.Room.{headRoom, lineRoom, linesRoom, textRoom};
 
 // A refusal.
-pub fn put_refusal(number: u8, place: usize, out: &mut [u8], at: usize) -> usize
+pub fn put_refusal(number: u64, place: u64, out: &mut [u8], at: usize) -> usize
     requires { ⌜ at + headRoom ≤ length (now out) ⌝ }
     ensures { λ r. ⌜ ((between : List ℕ) → Laid r at (now (out .entry)) (now (out .exit)) (reported between (refused number place))) ⌝ }
 {
-    put_head(b"no ", number as u64, place as u64, out, at)
+    put_head(b"no ", number, place, out, at)
 }
 
 // The types left, whose records stand one after the other in `bytes`.

@@ -1,0 +1,134 @@
+-- From the answer that hosts get of the sheet check to the call's outcome, and the types left as their bytes stand in the result.
+use Prim.Native.Nat.{ℕ, _+_, _*_, _≤_}
+use native.Mathlib.Omega.{arith}
+use native.Mathlib.Nat.{mul-le-mul-right}
+use mathlib.Core.Bool.{Bool, true, false, cond}
+use mathlib.Core.List.{List}
+use mathlib.Core.Path.{_≡_, refl, sym, _∙_, ap, subst}
+use lib.ListN.{length, take, length-take}
+use lib.Dec.{leb, ltb}
+use Rattle.model.specs.Refusals.{tooShort}
+use Rattle.model.specs.Types.{Ty}
+use Rattle.format.specs.ReaderLaws.{Bytes}
+use Rattle.format.specs.Outcome.{Outcome, accepted, refused, mapped}
+use Rattle.machine.specs.SheetLimits.{maxStack, scratchBytes}
+use Rattle.machine.specs.Sheet.{sheetRun}
+use Rattle.machine.specs.Call.{Tally, tally, Called, called, writeTypes, zeroed, atFront, handOver, sheetCall}
+use Rattle.machine.specs.CallLaws.{LeftBy, call-left}
+use Rattle.report.specs.Laid.{Laid}
+use Rattle.report.specs.Left.{LeftIs, Left}
+use Rattle.report.specs.Report.{reported, fitting, callOutcome}
+use Rattle.report.specs.Room.{textRoom}
+use Rattle.velgrodis.specs.Answers.{no, value, returned, checked}
+use Rattle.velgrodis.specs.declared.Answer.{Answer}
+
+-- ---- the answer as a host gets it
+
+module _ (s result scratch out after : List ℕ) (a : Answer) (e : returned a out after ≡ checked (sheetCall s result scratch)) where
+  -- a value: the types left
+  pub value-called : a .kind ≡ 1 → called (accepted (tally (a .first) (a .second))) out after ≡ sheetCall s result scratch
+  value-called k = by (sheetCall s result scratch) e
+    where
+      by : (x : Called) → returned a out after ≡ checked x → called (accepted (tally (a .first) (a .second))) out after ≡ x
+      by (called (accepted (tally n b)) r t) e =
+          let w : a ≡ value n b = cc in
+          let first : a .first ≡ n = ap (λ x. x .first) w in
+          let second : a .second ≡ b = ap (λ x. x .second) w in
+          cc
+      by (called (refused j p) r t) e = let w : a ≡ no j p = cc in absurd (omega (arith, ap (λ x. x .kind) w))
+
+  -- any other: a refusal
+  pub other-called : (a .kind ≡ 1 → ⊥) → called (refused (a .number) (a .place)) out after ≡ sheetCall s result scratch
+  other-called k = by (sheetCall s result scratch) e
+    where
+      by : (x : Called) → returned a out after ≡ checked x → called (refused (a .number) (a .place)) out after ≡ x
+      by (called (accepted (tally n b)) r t) e = let w : a ≡ value n b = cc in absurd (k (ap (λ x. x .kind) w))
+      by (called (refused j p) r t) e =
+          let w : a ≡ no j p = cc in
+          let number : a .number ≡ j = ap (λ x. x .number) w in
+          let place : a .place ≡ p = ap (λ x. x .place) w in
+          cc
+
+-- ---- the outcome of a call with buffers of any length
+
+abbrev tallied : List Ty → Tally
+tallied ts = tally (length ts) (length (writeTypes ts))
+
+abbrev answerOf : Called → Outcome Tally
+answerOf (called o result scratch) = o
+
+module _ (s result scratch : List ℕ) where
+  call-answers : answerOf (sheetCall s result scratch) ≡ mapped tallied (callOutcome s (length result) (length scratch))
+  unfolding sheetCall callOutcome handOver
+  call-answers = by (ltb (length scratch) scratchBytes) (sheetRun s)
+    where
+      fits : (ts : List Ty) (b : Bool) → answerOf (cond b (called (accepted (tallied ts)) (atFront (writeTypes ts) result) (zeroed scratch)) (called (refused tooShort (length s)) result (zeroed scratch))) ≡ mapped tallied (cond b (accepted ts) (refused tooShort (length s)))
+      fits ts true = refl
+      fits ts false = refl
+
+      by : (b : Bool) (o : Outcome (List Ty)) → answerOf (cond b (called (refused tooShort 0) result scratch) (handOver (length s) o result (zeroed scratch))) ≡ mapped tallied (cond b (refused tooShort 0) (fitting (length s) (length result) o))
+      by true o = refl
+      by false (accepted ts) = fits ts (leb (length (writeTypes ts)) (length result))
+      by false (refused k p) = refl
+
+  -- an outcome with types left is that of the run
+  accepted-run : {ts us : List Ty} → callOutcome s (length result) (length scratch) ≡ accepted us → sheetRun s ≡ accepted ts → us ≡ ts
+  unfolding callOutcome
+  accepted-run {ts} {us} e run = by (ltb (length scratch) scratchBytes) (rw run at e)
+    where
+      fits : (b : Bool) → cond b (accepted ts) (refused tooShort (length s)) ≡ accepted us → us ≡ ts
+      fits true e = let x : ts ≡ us = cc in sym x
+      fits false e = let z : _≡_ {A = ℕ} 0 1 = cc in absurd (omega arith)
+
+      by : (b : Bool) → cond b (refused tooShort 0) (fitting (length s) (length result) (accepted ts)) ≡ accepted us → us ≡ ts
+      by true e = let z : _≡_ {A = ℕ} 0 1 = cc in absurd (omega arith)
+      by false e = fits (leb (length (writeTypes ts)) (length result)) e
+
+  module _ (out after : List ℕ) where
+    refused-outcome : {k p : ℕ} → called (refused k p) out after ≡ sheetCall s result scratch → callOutcome s (length result) (length scratch) ≡ refused k p
+    refused-outcome {k} {p} e = by (callOutcome s (length result) (length scratch)) (ap answerOf e ∙ call-answers)
+      where
+        by : (o : Outcome (List Ty)) → refused k p ≡ mapped tallied o → o ≡ refused k p
+        by (refused j q) e = let x : j ≡ k = cc in let y : q ≡ p = cc in rw (x, y)
+        by (accepted ts) e = let z : _≡_ {A = ℕ} 0 1 = cc in absurd (omega arith)
+
+    left-outcome : {n b : ℕ} {ts : List Ty} → called (accepted (tally n b)) out after ≡ sheetCall s result scratch → LeftBy s n b out ts → callOutcome s (length result) (length scratch) ≡ accepted ts
+    left-outcome {n} {b} {ts} e l = by (callOutcome s (length result) (length scratch)) refl (ap answerOf e ∙ call-answers)
+      where
+        by : (o : Outcome (List Ty)) → callOutcome s (length result) (length scratch) ≡ o → accepted (tally n b) ≡ mapped tallied o → o ≡ accepted ts
+        by (refused j q) is e = let z : _≡_ {A = ℕ} 0 1 = cc in absurd (omega arith)
+        by (accepted us) is e = ap accepted (accepted-run is (l .run))
+
+    module _ (between : List ℕ) {r : ℕ} {d d₁ : List ℕ} where
+      pub laid-refused : {k p : ℕ} → called (refused k p) out after ≡ sheetCall s result scratch → Laid r 0 d d₁ (reported between (refused k p)) → Laid r 0 d d₁ (reported between (callOutcome s (length result) (length scratch)))
+      laid-refused e h = subst (λ o. Laid r 0 d d₁ (reported between o)) (sym (refused-outcome e)) h
+
+      pub laid-left : {n b : ℕ} {ts : List Ty} → called (accepted (tally n b)) out after ≡ sheetCall s result scratch → LeftBy s n b out ts → Laid r 0 d d₁ (reported between (accepted ts)) → Laid r 0 d d₁ (reported between (callOutcome s (length result) (length scratch)))
+      laid-left e l h = subst (λ o. Laid r 0 d d₁ (reported between o)) (sym (left-outcome e l)) h
+
+-- ---- the types left
+
+-- There are such types, and their bytes have room.
+pub record TypesLeft (s : List ℕ) (n b : ℕ) (out : List ℕ) : Type 0 where
+  pub types : List Ty
+  pub left : LeftBy s n b out types
+
+pub types-left : (s result scratch out after : List ℕ) {n b : ℕ} → Bytes s → called (accepted (tally n b)) out after ≡ sheetCall s result scratch → TypesLeft s n b out
+types-left s result scratch out after small e = call-left s result scratch small e λ ts l. record { types = ts; left = l }
+
+module _ {s : List ℕ} {n b : ℕ} {out : List ℕ} (t : TypesLeft s n b out) where
+  pub left-is : LeftIs (take b out) n (t .types)
+  left-is = let l = t .left in record { bytes = l .front; count = l .count; within = l .kept .within }
+
+  pub left-there : Left (take b out) n
+  left-there = record { types = t .types; there = left-is }
+
+  pub left-inside : b ≤ length out
+  left-inside = let l = t .left in omega (arith, l .bytes, ap length (l .front), length-take b out)
+
+  pub left-room : (k : ℕ) → textRoom k n (length (take b out)) ≤ textRoom k maxStack scratchBytes
+  left-room k =
+      let l = t .left in
+      let few : n ≤ maxStack = omega (arith, l .count, l .kept .few) in
+      let each : n * (k + 20 + 1) ≤ maxStack * (k + 20 + 1) = mul-le-mul-right (k + 20 + 1) few in
+      omega (arith, each, ap length (l .front), l .kept .suffices)

@@ -1,0 +1,44 @@
+-- What the program prints of its input (document 01, "The sheet program reads standard input"), told by what reading it left in a
+-- buffer. Of an input that could not be read to its end nothing is printed, and no lent byte changes.
+use Prim.Native.Nat.{ℕ, _≤_}
+use mathlib.Core.List.{List}
+use mathlib.Core.Path.{_≡_}
+use lib.ListN.{length, take}
+use Rattle.io.specs.Counts.{Counts}
+use Rattle.report.specs.Laid.{Laid}
+use Rattle.report.specs.Report.{printed, Buffers, buffers, leaves, programCall}
+use Rattle.streams.specs.declared.Answered.{Answered}
+use Rattle.streams.specs.declared.Answered.the-variants.{Bytes, Nothing, Failed}
+use Rattle.printer.specs.declared.Printed.{Printed}
+use Rattle.printer.specs.declared.Printed.the-variants.{Text, Unread}
+
+-- The input's first bytes stand at the front of the buffer, so many of them; a read that answered no byte has found its end.
+pub record ReadFrom (input buf : List ℕ) (count : ℕ) (last : Answered) : Type 0 where
+  pub front : take count buf ≡ take count input
+  pub there : count ≤ length input
+  pub whole : last ≡ Nothing → count ≡ length input
+
+-- The text of an input at the front of `out`, all behind it as lent, and both buffers as the program's call leaves them.
+pub record TextOf (input : List ℕ) (r : Printed) (result result₁ scratch scratch₁ out out₁ : List ℕ) : Type 0 where
+  pub size : ℕ
+  pub text : r ≡ Text size
+  pub laid : Laid size 0 out out₁ (printed input)
+  pub left : buffers result₁ scratch₁ ≡ leaves (programCall input result scratch)
+
+module _ (buf : List ℕ) (count : ℕ) (r : Printed) (result result₁ scratch scratch₁ out out₁ : List ℕ) where
+  -- Whatever input was read so, it is this input's text.
+  abbrev pub PrintsRead : Answered → Type 0
+  PrintsRead last = (input : List ℕ) → ReadFrom input buf count last → TextOf input r result result₁ scratch scratch₁ out out₁
+
+  abbrev pub PrintsNothing : Type 0
+  PrintsNothing = (r ≡ Unread) × (buffers result₁ scratch₁ ≡ buffers result scratch) × (out₁ ≡ out)
+
+abbrev pub Prints : Answered → List ℕ → ℕ → Printed → List ℕ → List ℕ → List ℕ → List ℕ → List ℕ → List ℕ → Type 0
+Prints (Bytes n) buf count r result result₁ scratch scratch₁ out out₁ = PrintsRead buf count r result result₁ scratch scratch₁ out out₁ (Bytes n)
+Prints Nothing buf count r result result₁ scratch scratch₁ out out₁ = PrintsRead buf count r result result₁ scratch scratch₁ out out₁ Nothing
+Prints Failed buf count r result result₁ scratch scratch₁ out out₁ = PrintsNothing buf count r result result₁ scratch scratch₁ out out₁
+
+-- A text lies within its buffer.
+abbrev pub Inside : Printed → List ℕ → Type 0
+Inside (Text n) out = Counts n out
+Inside Unread out = Unit {0}

@@ -1,0 +1,3 @@
+mod ToldLaws
+mod MovedLaws
+mod WordLaws

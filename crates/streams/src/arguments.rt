@@ -1,0 +1,34 @@
+// What the first argument asks for.
+use crate::Asked;
+use crate::writing::complain;
+use check::same;
+ghost use mathlib.Core.Path.{_≡_};
+ghost use Rattle.streams.specs.Arguments.{AskedBy};
+
+// No argument of these programs is longer; one that is gets none of its bytes, and is unknown.
+const MAX_ARGUMENT: usize = 16;
+
+pub fn say_version() {
+    complain(b"velgrodis 1\n");
+}
+
+pub fn read_argument() -> Asked {
+    if os::arg_count() < 2 {
+        return Asked::Work;
+    }
+    let mut argument = [0u8; MAX_ARGUMENT];
+    let n = os::arg(1, &mut argument);
+    meant(&argument[..n])
+}
+
+fn meant(argument: &[u8]) -> Asked
+    ensures { λ r. ⌜ AskedBy r (now (argument .entry)) ⌝ }
+{
+    if same(argument, b"--help") {
+        return Asked::Help;
+    }
+    if same(argument, b"--version") {
+        return Asked::Version;
+    }
+    Asked::Unknown
+}

@@ -11,8 +11,8 @@ use borrow.Author.Tests.{ltb-true, ltb-false, lt-ltb, le-ltb, le-leb, lt-leb}
 use Rattle.model.specs.Limits.{maxTypes}
 use Rattle.model.specs.Refusals.{ended, outOfRange, unmarked}
 use Rattle.model.specs.Types.{shape, Ty, ty, types}
-use Rattle.format.specs.Reader.{got, stopped, mapRead, byte, judged}
-use Rattle.format.specs.ReaderLaws.{Bytes, byte-there, byte-ended}
+use Rattle.format.specs.Reader.{Bytes, got, stopped, mapRead, byte, judged}
+use Rattle.format.specs.ReaderLaws.{byte-there, byte-ended}
 use Rattle.format.specs.Records.{orStop, writeShape, writeTy, readType}
 use Rattle.format.specs.Outcome.{lone}
 use Rattle.format.specs.ReadWrite.{read-write}

@@ -9,7 +9,7 @@ use lib.ListN.{length, take, length-take}
 use lib.Dec.{leb, ltb}
 use Rattle.model.specs.Refusals.{tooShort}
 use Rattle.model.specs.Types.{Ty}
-use Rattle.format.specs.ReaderLaws.{Bytes}
+use Rattle.format.specs.Reader.{Bytes}
 use Rattle.format.specs.Outcome.{Outcome, accepted, refused, mapped}
 use Rattle.machine.specs.SheetLimits.{maxStack, scratchBytes}
 use Rattle.machine.specs.Sheet.{sheetRun}

@@ -17,7 +17,7 @@ use Rattle.machine.specs.Run.{gives, Stack, step, steps}
 use Rattle.machine.specs.WellFormed.{WellFormed, heightAfter, typesLeft, Heights}
 use Rattle.machine.specs.Real.{RealShape, fits, realPervade, Feed, Feeds, realRow, keeps, ontoReal, realStep, goesOn, realRun}
 use Rattle.machine.specs.StepsTook.{skim-took}
-use Rattle.machine.specs.StepsHold.{following-gives}
+use Rattle.machine.specs.RunLaws.{following-gives}
 use Rattle.machine.specs.StepsReads.{step-room}
 use Rattle.machine.specs.SheetWorked.{step-height}
 use Rattle.machine.specs.Sheets.{left-within}

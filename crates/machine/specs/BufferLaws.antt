@@ -3,14 +3,13 @@
 -- stays as lent. Result bytes past the written length stay." Both are as long as before.
 use Prim.Native.Nat.{ℕ, _≤_, _<_}
 use native.Mathlib.Omega.{arith}
-use mathlib.Core.Bool.{Bool, true, false}
+use mathlib.Core.Bool.{Bool, true, false, cond}
 use mathlib.Core.List.{List, _++_}
-use mathlib.Core.Path.{_≡_, refl, _∙_}
+use mathlib.Core.Path.{_≡_, refl, sym, _∙_}
 use lib.ListN.{length, getD, drop, replicate, length-replicate, getD-replicate, List·getD-append}
 use lib.Seq.{drop-at}
 use lib.Dec.{leb, ltb}
-use borrow.Author.Tests.{leb-true, ltb-true, ltb-false, le-ltb}
-use Rattle.model.specs.Refusals.{tooShort}
+use borrow.Author.Tests.{leb-true, ltb-true, ltb-false}
 use Rattle.model.specs.Types.{Ty}
 use Rattle.format.specs.Outcome.{Outcome, accepted, refused}
 use Rattle.format.specs.DeliverLaws.{front-stays, front-length}
@@ -57,82 +56,69 @@ module _ (d : List ℕ) where
 
 -- ---- the call
 
-module _ (s result scratch : List ℕ) where
-  -- By continuation: the scratch is short and both stay; or it is zeroed and the call is refused, the result as lent; or it is zeroed
-  -- and bytes stand at the front of the result, which has room for them.
-  ways : {C : Type 0}
-      → (length scratch < scratchBytes → sheetCall s result scratch ≡ called (refused tooShort 0) result scratch → C)
-      → (scratchBytes ≤ length scratch → (k p : ℕ) → sheetCall s result scratch ≡ called (refused k p) result (zeroed scratch) → C)
-      → (scratchBytes ≤ length scratch → (n : ℕ) (w : List ℕ) → length w ≤ length result → sheetCall s result scratch ≡ called (accepted (tally n (length w))) (atFront w result) (zeroed scratch) → C)
-      → C
-  unfolding sheetCall handOver
-  ways {C} short kept laid = scratched (ltb (length scratch) scratchBytes) refl
-    where
-      fits : scratchBytes ≤ length scratch → (ts : List Ty) → sheetRun s ≡ accepted ts → (b : Bool) → leb (length (writeTypes ts)) (length result) ≡ b → C
-      fits enough ts e true h = laid enough (length ts) (writeTypes ts) (leb-true (length (writeTypes ts)) (length result) h) (rw (le-ltb (length scratch) scratchBytes enough, e, h))
-      fits enough ts e false h = kept enough tooShort (length s) (rw (le-ltb (length scratch) scratchBytes enough, e, h))
+-- one of two, by a test
+either : {A C : Type 0} (t : Bool) {x y z : A} → cond t x y ≡ z → (t ≡ true → x ≡ z → C) → (t ≡ false → y ≡ z → C) → C
+either true e f g = f refl e
+either false e f g = g refl e
 
-      run : scratchBytes ≤ length scratch → (o : Outcome (List Ty)) → sheetRun s ≡ o → C
-      run enough (refused k p) e = kept enough k p (rw (le-ltb (length scratch) scratchBytes enough, e))
-      run enough (accepted ts) e = fits enough ts e (leb (length (writeTypes ts)) (length result)) refl
+-- an answer that is no acceptance; and one whose bytes are w, if it is one, and which is no refusal
+abbrev Kept : Outcome Tally → Type 0
+Kept o = (n b : ℕ) → o ≡ accepted (tally n b) → ⊥
 
-      scratched : (b : Bool) → ltb (length scratch) scratchBytes ≡ b → C
-      scratched true h = short (ltb-true (length scratch) scratchBytes h) (rw h)
-      scratched false h = run (ltb-false (length scratch) scratchBytes h) (sheetRun s) refl
+record Wrote (o : Outcome Tally) (w : List ℕ) : Type 0 where
+  counts : (n b : ℕ) → o ≡ accepted (tally n b) → length w ≡ b
+  accepts : (k p : ℕ) → o ≡ refused k p → ⊥
 
-  module _ {o : Outcome Tally} {out after : List ℕ} (e : sheetCall s result scratch ≡ called o out after) where
-    -- Of each byte of a scratch that is long enough: zero below 39,936, as lent from there on.
-    pub scratch-zero : scratchBytes ≤ length scratch → (i z : ℕ) → i < scratchBytes → getD after i z ≡ 0
-    scratch-zero enough i z h =
-        ways
-        (λ short f. absurd (omega arith))
-        (λ _ k p f. let same : zeroed scratch ≡ after = cc in rw (← same) (zeroed-front scratch i z h))
-        (λ _ n w room f. let same : zeroed scratch ≡ after = cc in rw (← same) (zeroed-front scratch i z h))
+-- By continuation: the result is as lent, or bytes stand at its front, which has room for them. The other buffer is handed through.
+handed : {C : Type 0} (size : ℕ) (r : Outcome (List Ty)) (result scratch : List ℕ) {o : Outcome Tally} {out after : List ℕ} → handOver size r result scratch ≡ called o out after
+    → (result ≡ out → scratch ≡ after → Kept o → C)
+    → ((w : List ℕ) → length w ≤ length result → atFront w result ≡ out → scratch ≡ after → Wrote o w → C)
+    → C
+unfolding handOver
+handed size (refused k p) result scratch e kept laid = kept (cc) (cc) (λ n b f. let z : _≡_ {A = ℕ} 0 1 = cc in absurd (omega arith))
+handed size (accepted ts) result scratch e kept laid =
+    either (leb (length (writeTypes ts)) (length result)) e
+    (λ t f. laid (writeTypes ts) (leb-true (length (writeTypes ts)) (length result) t) (cc) (cc) record { counts = λ n b g. cc; accepts = λ k p g. let z : _≡_ {A = ℕ} 0 1 = cc in absurd (omega arith) })
+    (λ t f. kept (cc) (cc) (λ n b g. let z : _≡_ {A = ℕ} 0 1 = cc in absurd (omega arith)))
 
-    pub scratch-later : scratchBytes ≤ length scratch → (i z : ℕ) → scratchBytes ≤ i → getD after i z ≡ getD scratch i z
-    scratch-later enough i z h =
-        ways
-        (λ short f. absurd (omega arith))
-        (λ _ k p f. let same : zeroed scratch ≡ after = cc in rw (← same) (zeroed-behind scratch i z h))
-        (λ _ n w room f. let same : zeroed scratch ≡ after = cc in rw (← same) (zeroed-behind scratch i z h))
+module _ (s result scratch : List ℕ) {o : Outcome Tally} {out after : List ℕ} (e : sheetCall s result scratch ≡ called o out after) where
+  -- The scratch is short and stays, or is zeroed.
+  scratched : {C : Type 0} → (length scratch < scratchBytes → scratch ≡ after → C) → (scratchBytes ≤ length scratch → zeroed scratch ≡ after → C) → C
+  unfolding sheetCall
+  scratched short long =
+      either (ltb (length scratch) scratchBytes) e
+      (λ t f. short (ltb-true (length scratch) scratchBytes t) (cc))
+      (λ t f. handed (length s) (sheetRun s) result (zeroed scratch) f (λ r z u. long (ltb-false (length scratch) scratchBytes t) z) (λ w room l z u. long (ltb-false (length scratch) scratchBytes t) z))
 
-    -- Of a short one: all of it as lent.
-    pub scratch-short : length scratch < scratchBytes → after ≡ scratch
-    scratch-short less =
-        ways
-        (λ short f. cc)
-        (λ enough k p f. absurd (omega arith))
-        (λ enough n w room f. absurd (omega arith))
+  -- The result stays, or bytes stand at its front.
+  resulted : {C : Type 0} → (result ≡ out → Kept o → C) → ((w : List ℕ) → length w ≤ length result → atFront w result ≡ out → Wrote o w → C) → C
+  unfolding sheetCall
+  resulted kept laid =
+      either (ltb (length scratch) scratchBytes) e
+      (λ t f. kept (cc) (λ n b g. let z : _≡_ {A = ℕ} 0 1 = cc in absurd (omega arith)))
+      (λ t f. handed (length s) (sheetRun s) result (zeroed scratch) f (λ r z u. kept r u) (λ w room l z u. laid w room l u))
 
-    pub scratch-length : length after ≡ length scratch
-    scratch-length =
-        ways
-        (λ short f. let same : scratch ≡ after = cc in rw (← same))
-        (λ enough k p f. let same : zeroed scratch ≡ after = cc in rw (← same) (zeroed-length scratch enough))
-        (λ enough n w room f. let same : zeroed scratch ≡ after = cc in rw (← same) (zeroed-length scratch enough))
+  -- Of each byte of a scratch that is long enough: zero below 39,936, as lent from there on.
+  pub scratch-zero : scratchBytes ≤ length scratch → (i z : ℕ) → i < scratchBytes → getD after i z ≡ 0
+  scratch-zero enough i z h = scratched (λ short same. absurd (omega arith)) (λ _ same. rw (← same) (zeroed-front scratch i z h))
 
-    -- Of the result, after a refusal: all of it as lent.
-    pub result-refused : {k p : ℕ} → o ≡ refused k p → out ≡ result
-    result-refused r =
-        ways
-        (λ short f. cc)
-        (λ enough j q f. cc)
-        (λ enough n w room f. let z : _≡_ {A = ℕ} 0 1 = cc in absurd (omega arith))
+  pub scratch-later : scratchBytes ≤ length scratch → (i z : ℕ) → scratchBytes ≤ i → getD after i z ≡ getD scratch i z
+  scratch-later enough i z h = scratched (λ short same. absurd (omega arith)) (λ _ same. rw (← same) (zeroed-behind scratch i z h))
 
-    -- Of each byte past the b that were written: as lent.
-    pub result-past : {n b : ℕ} → o ≡ accepted (tally n b) → (i z : ℕ) → b ≤ i → getD out i z ≡ getD result i z
-    result-past {n} {b} r i z h =
-        ways
-        (λ short f. let z : _≡_ {A = ℕ} 0 1 = cc in absurd (omega arith))
-        (λ enough j q f. let z : _≡_ {A = ℕ} 0 1 = cc in absurd (omega arith))
-        (λ enough m w room f.
-        let count : length w ≡ b = cc in
-        let laid : atFront w result ≡ out = cc in
-        rw (← laid) (front-stays w result i z (omega arith)))
+  -- Of a short one: all of it as lent.
+  pub scratch-short : length scratch < scratchBytes → after ≡ scratch
+  scratch-short less = scratched (λ _ same. sym same) (λ enough same. absurd (omega arith))
 
-    pub result-length : length out ≡ length result
-    result-length =
-        ways
-        (λ short f. let same : result ≡ out = cc in rw (← same))
-        (λ enough k p f. let same : result ≡ out = cc in rw (← same))
-        (λ enough n w room f. let laid : atFront w result ≡ out = cc in rw (← laid) (front-length w result room))
+  pub scratch-length : length after ≡ length scratch
+  scratch-length = scratched (λ short same. rw (← same)) (λ enough same. rw (← same) (zeroed-length scratch enough))
+
+  -- Of the result, after a refusal: all of it as lent.
+  pub result-refused : {k p : ℕ} → o ≡ refused k p → out ≡ result
+  result-refused {k} {p} r = resulted (λ same u. sym same) (λ w room laid u. absurd (u .accepts k p r))
+
+  -- Of each byte past the b that were written: as lent.
+  pub result-past : {n b : ℕ} → o ≡ accepted (tally n b) → (i z : ℕ) → b ≤ i → getD out i z ≡ getD result i z
+  result-past {n} {b} r i z h = resulted (λ same u. absurd (u n b r)) (λ w room laid u. rw (← laid) (front-stays w result i z (omega (arith, u .counts n b r))))
+
+  pub result-length : length out ≡ length result
+  result-length = resulted (λ same u. rw (← same)) (λ w room laid u. rw (← laid) (front-length w result room))

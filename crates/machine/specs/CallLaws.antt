@@ -19,7 +19,7 @@ use Rattle.machine.specs.Steps.{Step}
 use Rattle.machine.specs.Run.{gives, Stack, step, steps}
 use Rattle.machine.specs.Sheet.{sheetRun}
 use Rattle.machine.specs.Call.{tally, called, writeTypes, zeroed, atFront, handOver, sheetCall}
-use Rattle.machine.specs.StepsHold.{following-gives}
+use Rattle.machine.specs.RunLaws.{following-gives}
 use Rattle.machine.specs.StepsWithin.{writeTypes-suffices}
 use Rattle.machine.specs.StepsReads.{step-room}
 use Rattle.machine.specs.Sheets.{accepted-steps, left-within}

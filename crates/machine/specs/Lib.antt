@@ -7,6 +7,7 @@ pub mod WellFormed
 pub mod Real
 pub mod Conditions
 pub mod Examples
+pub mod RunLaws
 pub mod SheetSteps
 pub mod StepsTook
 pub mod StepsReads

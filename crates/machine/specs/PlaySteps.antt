@@ -7,19 +7,18 @@ use mathlib.Core.List.{List, [], _∷_, map}
 use mathlib.Core.Option.{Option, none, some}
 use mathlib.Core.Path.{_≡_, refl, ap}
 use lib.ListN.{length}
-use borrow.Author.Tests.{lt-ltb}
 use Rattle.model.specs.Refusals.{unpervaded}
 use Rattle.model.specs.Types.{Shape, ty, shapeOf}
 use Rattle.model.specs.Within.{All}
 use Rattle.rules.specs.Pervade.{pervade}
 use Rattle.rules.specs.Scalars.{union}
-use Rattle.machine.specs.SheetLimits.{maxStack}
 use Rattle.machine.specs.Steps.{Step, put, row, pervading, join, validating, flagByte}
-use Rattle.machine.specs.Run.{Answer, gives, refuses, following, orRefuses, Stack, onto, pervadeTypes, step, steps}
+use Rattle.machine.specs.Run.{Answer, gives, refuses, following, orRefuses, Stack, onto, steps}
 use Rattle.machine.specs.WellFormed.{heightAfter, Heights}
 use Rattle.machine.specs.Real.{RealShape, realPervade, Feeds, realStep, ontoReal, goesOn, realRun}
 use Rattle.machine.specs.Conditions.{PutOrPervade, puts}
 use Rattle.machine.specs.Play.{Move, lay, mix, laid, Enough, heightLeft, mixed, play}
+use Rattle.machine.specs.RunLaws.{step-put, pervadeTypes-is, step-pervading}
 
 -- a flag byte 0 fills neither side
 pub unfilled : (f g : Bool) → flagByte f g ≡ 0 → (f ≡ false) × (g ≡ false)
@@ -54,18 +53,18 @@ verdict none = refuses unpervaded
 verdict (some l) = gives l
 
 pub steps-play : (xs : List Step) (st : Stack) → All PutOrPervade xs → Heights xs (length st) → shapes (steps xs st) ≡ verdict (play (pervade false false) (moves xs) (map shapeOf st))
-unfolding steps step play pervadeTypes
+unfolding steps play
 steps-play [] st p h = refl
 steps-play (put t ∷ xs) st p h =
     let n : suc (length st - 0) ≡ suc (length st) = omega arith in
-    rw (lt-ltb (length st) maxStack (omega (arith, h .1))) (steps-play xs (t ∷ st) (p .1) (rw n at (h .2)))
+    rw (step-put t st (omega (arith, h .1))) (steps-play xs (t ∷ st) (p .1) (rw n at (h .2)))
 steps-play (row ∷ xs) st p h = absurd (p .0)
 steps-play (pervading f g ∷ xs) [] p h = absurd (omega (arith, h .0))
 steps-play (pervading f g ∷ xs) (t ∷ []) p h = absurd (omega (arith, h .0))
 steps-play (pervading f g ∷ xs) (ty s k ∷ ty t l ∷ st) p h =
     let n : suc (suc (suc (length st)) - 2) ≡ suc (length st) = omega arith in
     let (a, b) = unfilled f g (p .0) in
-    rw (a, b) (go (pervade false false s t) (λ x. steps-play xs (ty x (union k l) ∷ st) (p .1) (rw n at (h .2))))
+    rw (a, b, step-pervading false false (ty s k) (ty t l) st, pervadeTypes-is false false s t k l) (go (pervade false false s t) (λ x. steps-play xs (ty x (union k l) ∷ st) (p .1) (rw n at (h .2))))
   where
     go : (r : Option Shape) → ((x : Shape) → shapes (steps xs (ty x (union k l) ∷ st)) ≡ verdict (play (pervade false false) (moves xs) (x ∷ map shapeOf st))) → shapes (following (onto st (following (orRefuses r unpervaded) (λ x. gives (ty x (union k l))))) (λ st₁. steps xs st₁)) ≡ verdict (mixed (pervade false false) r (λ x. play (pervade false false) (moves xs) (x ∷ map shapeOf st)))
     go none i = refl

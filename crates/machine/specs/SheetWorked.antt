@@ -19,7 +19,7 @@ use Rattle.machine.specs.Steps.{Step, put, row, pervading, join, validat
 use Rattle.machine.specs.Run.{Answer, gives, refuses, following, aside, Stack, onto, pervadeTypes, step, steps}
 use Rattle.machine.specs.Sheet.{placed, stepFrom, workFrom, sheetFrom, skimFrom}
 use Rattle.machine.specs.SheetSteps.{toEnd-end, toEnd-more}
-use Rattle.machine.specs.StepsHold.{following-gives}
+use Rattle.machine.specs.RunLaws.{following-gives}
 use Rattle.machine.specs.StepsTook.{ended-or, stepAndMore}
 
 -- ---- heights

@@ -11,7 +11,6 @@ use lib.Dec.{ltb}
 use Rattle.model.specs.Refusals.{unpervaded, overflow}
 use Rattle.model.specs.Types.{Shape, shape, ty, shapeOf}
 use Rattle.model.specs.Within.{All}
-use Rattle.format.specs.Outcome.{Outcome, accepted, refused}
 use Rattle.rules.specs.Shapes.{rowShape, joinShapes}
 use Rattle.rules.specs.Pervade.{pervade}
 use Rattle.rules.specs.Scalars.{union}
@@ -21,13 +20,14 @@ use Rattle.validation.specs.Validate.{validate}
 use Rattle.validation.specs.ValidateLaws.{validate-shape}
 use Rattle.machine.specs.SheetLimits.{maxStack}
 use Rattle.machine.specs.Steps.{Step, put, row, pervading, join, validating}
-use Rattle.machine.specs.Run.{Answer, gives, refuses, following, orRefuses, aside, Stack, pervadeTypes, step, steps}
+use Rattle.machine.specs.Run.{gives, following, orRefuses, aside, Stack, pervadeTypes, step, steps}
 use Rattle.machine.specs.Real.{RealShape, fits, Holds, realPervade, Feed, Feeds, realRow, keeps, ontoReal, realStep, goesOn, realRun, FitsPut, FitsPuts}
 use Rattle.machine.specs.Conditions.{namesClosing, NamesNoClosing, FillsNothing, JoinsAlike, Along}
 use Rattle.machine.specs.Bare.{Bare}
 use Rattle.machine.specs.PervadeHolds.{pervade-holds}
 use Rattle.machine.specs.RulesHold.{row-holds, join-holds, merge-holds}
 use Rattle.machine.specs.PlaySteps.{unfilled}
+use Rattle.machine.specs.RunLaws.{following-gives, orRefuses-gives, aside-gives, cond-gives}
 
 -- Each type holds the real shape beside it, and names no closing size.
 abbrev pub Held : Stack → List RealShape → Type 0
@@ -42,22 +42,6 @@ pub bare-of : (s : Shape) → namesClosing s ≡ false → Bare s
 bare-of (shape o none) h = tt
 bare-of (shape o (some [])) h = tt
 bare-of (shape o (some (d ∷ c))) h = let z : _≡_ {A = ℕ} 0 1 = cc in absurd (omega arith)
-
-pub following-gives : {A B C : Type 0} (a : Answer A) {f : A → Answer B} {b : B} → following a f ≡ gives b → ((x : A) → a ≡ gives x → f x ≡ gives b → C) → C
-following-gives (gives x) e k = k x refl e
-following-gives (refuses n) e k = let z : _≡_ {A = ℕ} 0 1 = cc in absurd (omega arith)
-
-pub orRefuses-gives : {A C : Type 0} (o : Option A) (n : ℕ) {a : A} → orRefuses o n ≡ gives a → (o ≡ some a → C) → C
-orRefuses-gives none n e k = let z : _≡_ {A = ℕ} 0 1 = cc in absurd (omega arith)
-orRefuses-gives (some x) n e k = k (cc)
-
-pub aside-gives : {A C : Type 0} (o : Outcome A) {a : A} → aside o ≡ gives a → (o ≡ accepted a → C) → C
-aside-gives (accepted x) e k = k (cc)
-aside-gives (refused n p) e k = let z : _≡_ {A = ℕ} 0 1 = cc in absurd (omega arith)
-
-pub cond-gives : {A C : Type 0} (t : Bool) (n : ℕ) {a b : A} → cond t (gives a) (refuses n) ≡ gives b → (a ≡ b → C) → C
-cond-gives true n e k = k (cc)
-cond-gives false n e k = let z : _≡_ {A = ℕ} 0 1 = cc in absurd (omega arith)
 
 cond-some : {A C : Type 0} (t : Bool) {a b : A} → cond t (some a) none ≡ some b → (t ≡ true → a ≡ b → C) → C
 cond-some true e k = k refl (cc)

@@ -28,7 +28,7 @@ use Rattle.machine.specs.SheetLimits.{maxStack}
 use Rattle.machine.specs.Steps.{Step, put, row, pervading, join, validating, StepWithin}
 use Rattle.machine.specs.Run.{Answer, gives, orRefuses, aside, Stack, onto, pervadeTypes, step, steps}
 use Rattle.machine.specs.Call.{writeTypes}
-use Rattle.machine.specs.StepsHold.{following-gives, orRefuses-gives, aside-gives, cond-gives}
+use Rattle.machine.specs.RunLaws.{following-gives, orRefuses-gives, aside-gives, cond-gives}
 
 -- ---- one step
 

@@ -19,8 +19,8 @@ use Rattle.format.specs.Records.{dimOf, writeTy}
 use Rattle.format.specs.Outcome.{Outcome, accepted, refused, mapped, bound, lone}
 use Rattle.format.specs.ReadWrite.{lone-write}
 use Rattle.format.specs.WriteRead.{write-lone}
-use Rattle.number.specs.Class.{Class, notANumber, infinite, fraction, whole, larger, classOfWhole, classOf, magnitude}
-use Rattle.number.specs.Size.{SizeOutcome, size, unknown as unknownSize, refused as noSize, sizeOfWhole, sizeOf, listedDim}
+use Rattle.number.specs.Class.{Class, notANumber, infinite, fraction, whole, larger, classOf, magnitude}
+use Rattle.number.specs.Size.{SizeOutcome, size, unknown as unknownSize, refused as noSize, sizeOf, listedDim}
 use Rattle.number.specs.Sizes.{SizesOutcome, sizes, refusedAt, before, atIndex, sizesFrom, listedDims}
 use Rattle.val.specs.declared.Value as declared
 use Rattle.val.specs.declared.Value.the-variants.{Num, List as Listed, Of}

@@ -6,7 +6,7 @@ use native.Mathlib.Omega.{arith}
 use mathlib.Core.Bool.{Bool, true, false, cond}
 use mathlib.Core.List.{List}
 use mathlib.Core.Option.{Option, some}
-use mathlib.Core.Path.{_≡_, refl, sym, ap}
+use mathlib.Core.Path.{_≡_, refl, sym, _∙_, ap}
 use lib.Dec.{leb}
 use borrow.Author.Tests.{leb-false, lt-leb}
 use Rattle.model.specs.Limits.{maxTypes, maxDepth, maxFields}
@@ -18,7 +18,7 @@ use Rattle.validation.specs.CheckShape.{Side, unsided, checkShape}
 use Rattle.validation.specs.AsFields.{measured, copied, asFields}
 use Rattle.validation.specs.CheckScalar.{_>>=_, inTurn, superset, Content, eachField, onAll, onDef, checkScalar, checkFields}
 use Rattle.validation.specs.Validate.{validate, checkScalarOnly}
-use Rattle.validation.specs.OutcomeLaws.{inTurn-accepted}
+use Rattle.validation.specs.OutcomeLaws.{all-on-all, def-on-def, inTurn-accepted}
 use Rattle.validation.specs.KeepsLaws.{Keeping, checkScalar-keeps}
 use Rattle.validation.specs.FitsLaws.{fits, fieldsFit, fits-counts, fits-true, fieldsFit-true, fieldsFit-of, outermost-fits, all-fits, def-fits, field-fits, rest-fits}
 
@@ -61,16 +61,14 @@ module _ (keeps : Scalar → Bool) (t : Shape) (l : Scalar) (h : whollyAny (ty t
 -- ---- into boxes
 
 pub on-all-all : (o a : ℕ) (s t : Shape) (k l : Scalar) → onAll (checkScalar k) s k (fits o a) (boxAll t l) ≡ mapped boxOf (inTurn (checkScalar k (fits (suc o) (suc a)) t l) (checkShape unsided s t))
-unfolding onAll
-on-all-all o a s t k l = ap (λ c. mapped boxOf (inTurn (checkScalar k c t l) (checkShape unsided s t))) (all-fits o a t)
+on-all-all o a s t k l = all-on-all (checkScalar k) s t k l (fits o a) ∙ ap (λ c. mapped boxOf (inTurn (checkScalar k c t l) (checkShape unsided s t))) (all-fits o a t)
 
 pub on-all-def : (o a : ℕ) (s : Shape) (k : Scalar) (m : Option (List ℕ)) (g : Fields) → onAll (checkScalar k) s k (fits o a) (boxDef m g) ≡ mapped (boxDef m) (eachField (checkScalar k) s (fieldsFit (suc o) (suc a)) g)
 unfolding onAll
 on-all-def o a s k m g = ap (λ c. mapped (boxDef m) (eachField (checkScalar k) s c g)) (def-fits o a m)
 
 pub on-def-def : (o a : ℕ) (n m : Option (List ℕ)) (f g : Fields) → onDef (checkFields f) n f (fits o a) (boxDef m g) ≡ mapped (boxDef m) (checkFields f (fieldsFit (suc o) (suc a)) g)
-unfolding onDef
-on-def-def o a n m f g = ap (λ c. mapped (boxDef m) (checkFields f c g)) (def-fits o a m)
+on-def-def o a n m f g = def-on-def (checkFields f) n m f g (fits o a) ∙ ap (λ c. mapped (boxDef m) (checkFields f c g)) (def-fits o a m)
 
 -- the limits are kept when a box's content is begun
 pub all-begun : (o a : ℕ) (t : Shape) (l : Scalar) → fits o a (boxAll t l) ≡ true → fits (suc o) (suc a) l ≡ true

@@ -4,7 +4,7 @@ use Prim.Native.Nat.{ℕ}
 use mathlib.Core.Bool.{Bool, true, false, cond}
 use mathlib.Core.List.{List}
 use mathlib.Core.Option.{Option, none, some}
-use mathlib.Core.Path.{refl, ap}
+use mathlib.Core.Path.{_≡_, refl, _∙_, ap}
 use lib.Dec.{leb}
 use Rattle.model.specs.Limits.{maxFields}
 use Rattle.model.specs.Refusals.{tooMany}
@@ -15,16 +15,17 @@ use Rattle.validation.specs.CheckShape.{Side, unsided, checkShape}
 use Rattle.validation.specs.AsFields.{measured, fieldsFor, asBox, copied, named, asFields}
 use Rattle.validation.specs.CheckScalar.{_>>=_, inTurn, superset, unlessAny, Content, eachField, onAll, onDef, checkScalar, checkFields}
 use Rattle.validation.specs.Validate.{outermost, validate}
+use Rattle.validation.specs.OutcomeLaws.{scalar-first, over-at-once}
 use Rattle.validation.specs.Claims.{unlimited, validateUnlimited, LimitsOnly, over, free}
 
 -- ---- what the rules are made of
 
 measured-limits : (keeps : Scalar → Bool) (k : Scalar) → LimitsOnly (measured keeps k) (accepted k)
-measured-limits keeps k = go (keeps k)
+measured-limits keeps k = go (keeps k) refl
   where
-    go : (t : Bool) → LimitsOnly (cond t (accepted k) (refused tooMany 0)) (accepted k)
-    go true = free refl
-    go false = over refl
+    go : (t : Bool) → keeps k ≡ t → LimitsOnly (measured keeps k) (accepted k)
+    go true h = free (rw h)
+    go false h = over (over-at-once keeps k h)
 
 either-limits : {A : Type 0} (t : Bool) (r r′ q q′ : Outcome A) → LimitsOnly r r′ → LimitsOnly q q′ → LimitsOnly (cond t r q) (cond t r′ q′)
 either-limits true r r′ q q′ h k = h
@@ -39,7 +40,7 @@ then-limits r q f g (free e) k = rw e (go q)
     go (refused n p) = free refl
 
 inTurn-limits : (r q : Outcome Scalar) (s : Outcome Shape) → LimitsOnly r q → LimitsOnly (inTurn r s) (inTurn q s)
-inTurn-limits r q s (over e) = over (ap (λ x. inTurn x s) e)
+inTurn-limits r q s (over e) = over (ap (λ x. inTurn x s) e ∙ scalar-first tooMany 0 s)
 inTurn-limits r q s (free e) = free (ap (λ x. inTurn x s) e)
 
 mapped-limits : {A B : Type 0} (f : A → B) (r q : Outcome A) → LimitsOnly r q → LimitsOnly (mapped f r) (mapped f q)

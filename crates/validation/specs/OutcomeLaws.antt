@@ -1,16 +1,39 @@
--- What an accepted outcome says of its parts, one law for each form that the rules are written in. By continuation, so that the
--- values between the parts are variables.
+-- What the forms that the rules of validation are written in come to; and what an accepted outcome says of its parts, one law for each
+-- form, by continuation, so that the values between the parts are variables.
 use Prim.Native.Nat.{ℕ}
 use native.Mathlib.Omega.{arith}
 use mathlib.Core.Bool.{Bool, true, false, _&&_, cond}
-use mathlib.Core.Path.{_≡_, refl}
+use mathlib.Core.List.{List}
+use mathlib.Core.Option.{Option}
+use mathlib.Core.Path.{_≡_, refl, ap}
 use Rattle.model.specs.Refusals.{tooMany, wrongScalar}
-use Rattle.model.specs.Types.{Shape, Scalar, boxAll, Fields, field, Ty, ty, boxOf, fieldOf}
+use Rattle.model.specs.Types.{Shape, Scalar, boxAll, boxDef, Fields, field, Ty, ty, boxOf, fieldOf}
 use Rattle.format.specs.Outcome.{Outcome, accepted, refused, mapped}
 use Rattle.rules.specs.Scalars.{supersetOf}
 use Rattle.rules.specs.Types.{whollyAny}
+use Rattle.validation.specs.CheckShape.{unsided, checkShape}
 use Rattle.validation.specs.AsFields.{measured}
-use Rattle.validation.specs.CheckScalar.{_>>=_, inTurn, superset, unlessAny}
+use Rattle.validation.specs.CheckScalar.{_>>=_, inTurn, superset, unlessAny, Content, onAll, onDef}
+
+-- ---- the forms
+
+-- Scalar first: its refusal is answered, whatever the shape's.
+pub scalar-first : (n p : ℕ) (q : Outcome Shape) → inTurn (refused n p) q ≡ refused n p
+scalar-first n p q = refl
+
+-- 5 comes at the change that takes the type over.
+pub over-at-once : (keeps : Scalar → Bool) (k : Scalar) → keeps k ≡ false → measured keeps k ≡ refused tooMany 0
+over-at-once keeps k h = ap (λ b. cond b (accepted k) (refused tooMany 0)) h
+
+-- What a box holds is validated unsided.
+pub all-on-all : (content : Content) (s t : Shape) (k l : Scalar) (keeps : Scalar → Bool) → onAll content s k keeps (boxAll t l) ≡ mapped boxOf (inTurn (content (λ x. keeps (boxAll t x)) t l) (checkShape unsided s t))
+unfolding onAll
+all-on-all content s t k l keeps = refl
+
+-- Of two Defs the contents are validated, and their counts are not compared.
+pub def-on-def : (contents : (Fields → Bool) → Fields → Outcome Fields) (n m : Option (List ℕ)) (f g : Fields) (keeps : Scalar → Bool) → onDef contents n f keeps (boxDef m g) ≡ mapped (boxDef m) (contents (λ h. keeps (boxDef m h)) g)
+unfolding onDef
+def-on-def contents n m f g keeps = refl
 
 -- ---- tests
 

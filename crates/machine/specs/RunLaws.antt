@@ -1,0 +1,58 @@
+-- What put, pervade and join make of the stack, the top first (document 01, "The sheet, added"); and what an answer that gives something
+-- says of its parts, by continuation.
+use Prim.Native.Nat.{ℕ, _<_}
+use native.Mathlib.Omega.{arith}
+use mathlib.Core.Bool.{Bool, true, false, cond}
+use mathlib.Core.List.{_∷_}
+use mathlib.Core.Option.{Option, none, some}
+use mathlib.Core.Path.{_≡_, refl, ap}
+use lib.ListN.{length}
+use borrow.Author.Tests.{lt-ltb}
+use Rattle.model.specs.Refusals.{unpervaded, overflow}
+use Rattle.model.specs.Types.{Shape, Scalar, Ty, ty}
+use Rattle.format.specs.Outcome.{Outcome, accepted, refused}
+use Rattle.rules.specs.Pervade.{pervade}
+use Rattle.rules.specs.Scalars.{union}
+use Rattle.rules.specs.Types.{joinTypes}
+use Rattle.machine.specs.SheetLimits.{maxStack}
+use Rattle.machine.specs.Steps.{put, pervading, join}
+use Rattle.machine.specs.Run.{Answer, gives, refuses, following, orRefuses, aside, Stack, onto, pervadeTypes, step}
+
+-- ---- the top is the first
+
+-- A put has room below eight types.
+pub step-put : (t : Ty) (st : Stack) → length st < maxStack → step (put t) st ≡ gives (t ∷ st)
+unfolding step
+step-put t st h = ap (λ b. cond b (gives (t ∷ st)) (refuses overflow)) (lt-ltb (length st) maxStack h)
+
+-- A pervading that cannot be is refused, unless its shapes are filled.
+pub pervadeTypes-is : (f g : Bool) (s t : Shape) (k l : Scalar) → pervadeTypes f g (ty s k) (ty t l) ≡ following (orRefuses (pervade f g s t) unpervaded) (λ x. gives (ty x (union k l)))
+unfolding pervadeTypes
+pervadeTypes-is f g s t k l = refl
+
+-- The flag's bit 0 fills the top, bit 1 the one below.
+pub step-pervading : (fillsTop fillsBelow : Bool) (top below : Ty) (st : Stack) → step (pervading fillsTop fillsBelow) (top ∷ below ∷ st) ≡ onto st (pervadeTypes fillsTop fillsBelow top below)
+unfolding step
+step-pervading f g t u st = refl
+
+pub step-join : (top below : Ty) (st : Stack) → step join (top ∷ below ∷ st) ≡ gives (joinTypes top below ∷ st)
+unfolding step
+step-join t u st = refl
+
+-- ---- answers
+
+pub following-gives : {A B C : Type 0} (a : Answer A) {f : A → Answer B} {b : B} → following a f ≡ gives b → ((x : A) → a ≡ gives x → f x ≡ gives b → C) → C
+following-gives (gives x) e k = k x refl e
+following-gives (refuses n) e k = let z : _≡_ {A = ℕ} 0 1 = cc in absurd (omega arith)
+
+pub orRefuses-gives : {A C : Type 0} (o : Option A) (n : ℕ) {a : A} → orRefuses o n ≡ gives a → (o ≡ some a → C) → C
+orRefuses-gives none n e k = let z : _≡_ {A = ℕ} 0 1 = cc in absurd (omega arith)
+orRefuses-gives (some x) n e k = k (cc)
+
+pub aside-gives : {A C : Type 0} (o : Outcome A) {a : A} → aside o ≡ gives a → (o ≡ accepted a → C) → C
+aside-gives (accepted x) e k = k (cc)
+aside-gives (refused n p) e k = let z : _≡_ {A = ℕ} 0 1 = cc in absurd (omega arith)
+
+pub cond-gives : {A C : Type 0} (t : Bool) (n : ℕ) {a b : A} → cond t (gives a) (refuses n) ≡ gives b → (a ≡ b → C) → C
+cond-gives true n e k = k (cc)
+cond-gives false n e k = let z : _≡_ {A = ℕ} 0 1 = cc in absurd (omega arith)

@@ -115,7 +115,7 @@ fn finish(
 ) {
     match read {
         Answered::Failed => complain(
-            b"calls: standard input could not be read on; what was not read whole gets no answer.\n",
+            b"calls: standard input could not be read any further; a line that was not read whole gets no answer.\n",
         ),
         _ => {
             if !last_line(line, held, input, result, out) {

@@ -12,7 +12,8 @@ use Rattle.calls.proofs.words.part.Reads as part-reads
 use Rattle.streams.proofs.read_some.Reads as read-some-reads
 
 abbrev Inv-loop : tie.InvT-loop
-Inv-loop chunk₀ line₀ input₀ result₀ out₀ held₀ turns₀ chunk line input result out held turns = (length chunk ≡ length chunk₀) × (length line ≡ length line₀) × (length input ≡ length input₀) × (length result ≡ length result₀) × (length out ≡ length out₀)
+Inv-loop chunk₀ line₀ input₀ result₀ out₀ held₀ turns₀ chunk line input result out held turns =
+    (length chunk ≡ length chunk₀) × (length line ≡ length line₀) × (length input ≡ length input₀) × (length result ≡ length result₀) × (length out ≡ length out₀)
 
 abbrev μ-loop : tie.MeasureT-loop
 μ-loop chunk₀ line₀ input₀ result₀ out₀ held₀ turns₀ chunk line input result out held turns = turns

@@ -107,11 +107,14 @@ module _ (s result scratch : List ℕ) where
         by (refused j q) is e = let z : _≡_ {A = ℕ} 0 1 = cc in absurd (omega arith)
         by (accepted us) is e = ap accepted (accepted-run is (l .run))
 
+    abbrev outcome : Outcome (List Ty)
+    outcome = callOutcome s (length result) (length scratch)
+
     module _ (between : List ℕ) {r : ℕ} {d d₁ : List ℕ} where
-      pub laid-refused : {k p : ℕ} → called (refused k p) out after ≡ sheetCall s result scratch → Reports between r d d₁ (refused k p) → Reports between r d d₁ (callOutcome s (length result) (length scratch))
+      pub laid-refused : {k p : ℕ} → called (refused k p) out after ≡ sheetCall s result scratch → Reports between r d d₁ (refused k p) → Reports between r d d₁ outcome
       laid-refused e h = subst (Reports between r d d₁) (sym (refused-outcome e)) h
 
-      pub laid-left : {n b : ℕ} {ts : List Ty} → called (accepted (tally n b)) out after ≡ sheetCall s result scratch → LeftBy s n b out ts → Reports between r d d₁ (accepted ts) → Reports between r d d₁ (callOutcome s (length result) (length scratch))
+      pub laid-left : {n b : ℕ} {ts : List Ty} → called (accepted (tally n b)) out after ≡ sheetCall s result scratch → LeftBy s n b out ts → Reports between r d d₁ (accepted ts) → Reports between r d d₁ outcome
       laid-left e l h = subst (Reports between r d d₁) (sym (left-outcome e l)) h
 
 -- ---- the types left

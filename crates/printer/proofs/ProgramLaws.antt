@@ -78,8 +78,8 @@ module _ (s : List ℕ) where
           left = ap (buffers result) z ∙ ap leaves (sym (call-long result scratch h));
         }
 
-    module _ (small : Bytes s) (wide : scratchBytes ≤ length result) (enough : scratchBytes ≤ length scratch) where
-      pub done-run : {result₁ : List ℕ} → length s ≤ programBytes → Reports lineFeed r d d₁ (callOutcome s (length result) (length scratch)) → buffers result₁ scratch₁ ≡ leaves (sheetCall s result scratch) → Done r result result₁ scratch scratch₁ d d₁
+    module _ {result₁ : List ℕ} (small : Bytes s) (wide : scratchBytes ≤ length result) (enough : scratchBytes ≤ length scratch) where
+      pub done-run : length s ≤ programBytes → Reports lineFeed r d d₁ (callOutcome s (length result) (length scratch)) → buffers result₁ scratch₁ ≡ leaves (sheetCall s result scratch) → Done r result result₁ scratch scratch₁ d d₁
       done-run h l k =
           record {
             laid = subst (Reports lineFeed r d d₁) (roomy-run small _ _ wide enough ∙ sym (outcome-run h)) l;

@@ -1,7 +1,8 @@
-// Answers, rendered as lines into the output, which is written in large pieces.
+// Answers, rendered as lines into the output, which is written in large pieces and has room for each.
 use crate::words::nth;
 use crate::words::part;
 use limits::UNKNOWN;
+use streams::write_whole;
 use text::Placed;
 use text::put_bytes;
 use text::put_decimal;
@@ -9,8 +10,6 @@ use text::put_hex;
 use velgrodis::Answer as Crossed;
 use velgrodis::NOTHING;
 use velgrodis::VALUE;
-ghost use mathlib.Core.Path.{_≡_};
-ghost use Prim.Native.Nat.{min};
 
 // What a line comes to. Bytes, and those of a stretch, a type, a text or a whole line, are the first of the result; a size is all ones for
 // unknown; a fault is one of `fault`.
@@ -79,10 +78,9 @@ pub(crate) fn without_value(a: Crossed) -> Answer {
     }
 }
 
-// One line, after the answers that stand in `out` up to `end`. Answers where it ends. Apart from what stands in the result
+// One line, after the answers that stand in `out` up to `at`. Answers where it ends. Apart from what stands in the result
 // a line takes less than 64 bytes.
-pub(crate) fn say(answer: Answer, result: &[u8], out: &mut [u8], end: usize) -> usize {
-    let at = room_for(64, &*out, end);
+pub(crate) fn say(answer: Answer, result: &[u8], out: &mut [u8], at: usize) -> usize {
     match answer {
         Answer::Bytes(n) => say_bytes(part(result, 0, n), out, at),
         Answer::Stretch { start, length } => say_stretch(start, part(result, 0, length), out, at),
@@ -99,9 +97,9 @@ pub(crate) fn say(answer: Answer, result: &[u8], out: &mut [u8], end: usize) -> 
     }
 }
 
-// Writes what stands in `out` up to `end`.
-pub(crate) fn flush(out: &[u8], end: usize) {
-    io::write_all(1, part(out, 0, end));
+// Writes what stands in `out` up to `end`. Answers whether all of it could be written.
+pub(crate) fn flush(out: &[u8], end: usize) -> bool {
+    write_whole(part(out, 0, end))
 }
 
 fn say_bytes(bytes: &[u8], out: &mut [u8], at: usize) -> usize {
@@ -121,17 +119,9 @@ fn say_stretch(start: usize, bytes: &[u8], out: &mut [u8], at: usize) -> usize {
 }
 
 // Bytes in hexadecimal, and the line's end.
-fn say_hex(bytes: &[u8], out: &mut [u8], start: usize) -> usize {
-    let mut end = start;
-    let mut from = 0usize;
-    while from < bytes.len() {
-        let to = least(bytes.len(), from + 4096);
-        let room = room_for(8192, &*out, end);
-        end = after(put_hex(part(bytes, from, to), &mut *out, room));
-        from = to;
-    }
-    let room = room_for(1, &*out, end);
-    put(b"\n", out, room)
+fn say_hex(bytes: &[u8], out: &mut [u8], at: usize) -> usize {
+    let end = after(put_hex(bytes, &mut *out, at));
+    put(b"\n", out, end)
 }
 
 fn say_size(n: u64, out: &mut [u8], at: usize) -> usize {
@@ -153,26 +143,15 @@ fn say_bits(bits: u64, out: &mut [u8], at: usize) -> usize {
     put(b"\n", out, end)
 }
 
-// A text of less than 256 bytes.
 fn say_text(text: &[u8], out: &mut [u8], at: usize) -> usize {
     let start = put(b"ok ", &mut *out, at);
-    let room = room_for(256, &*out, start);
-    let end = put(text, &mut *out, room);
-    put(b"\n", out, end)
+    say_line(text, out, start)
 }
 
 // A text that is the whole answer.
-fn say_line(text: &[u8], out: &mut [u8], start: usize) -> usize {
-    let mut end = start;
-    let mut from = 0usize;
-    while from < text.len() {
-        let to = least(text.len(), from + 4096);
-        let room = room_for(4096, &*out, end);
-        end = put(part(text, from, to), &mut *out, room);
-        from = to;
-    }
-    let room = room_for(1, &*out, end);
-    put(b"\n", out, room)
+fn say_line(text: &[u8], out: &mut [u8], at: usize) -> usize {
+    let end = put(text, &mut *out, at);
+    put(b"\n", out, end)
 }
 
 fn say_refused(number: u64, place: u64, out: &mut [u8], at: usize) -> usize {
@@ -198,26 +177,9 @@ pub(crate) fn put(bytes: &[u8], out: &mut [u8], at: usize) -> usize {
     after(put_bytes(bytes, out, at))
 }
 
-// A place in `out` that n bytes have room after: the end of what stands there, or the front, once that is written.
-fn room_for(n: usize, out: &[u8], end: usize) -> usize {
-    if end <= out.len() {
-        if n <= out.len() - end {
-            return end;
-        }
-    }
-    flush(out, end);
-    0
-}
-
 pub(crate) fn after(placed: Placed) -> usize {
     match placed {
         Placed::To(next) => next,
         Placed::NoRoom => 0,
     }
-}
-
-fn least(a: usize, b: usize) -> usize
-    ensures { λ r. ⌜ r ≡ min a b ⌝ }
-{
-    if a < b { a } else { b }
 }

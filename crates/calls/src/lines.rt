@@ -1,14 +1,18 @@
 // Lines, put together from the pieces in which the input comes.
+use crate::answers::flush;
 use crate::answers::say;
 use crate::requests::answered;
 use crate::words::part;
 ghost use Prim.Native.Nat.{_≤_, _<_};
 ghost use lib.ListN.{length};
 
-// How much of the line under way is held, and where the answers end that are not written yet.
+// Answers wait until they have so many bytes or more is to be read.
+pub const PIECE: usize = 65536;
+
+// How much of the line under way is held, and whether all answers so far could be written.
 pub struct Progress {
     pub held: usize,
-    pub end: usize,
+    pub heard: bool,
 }
 
 // What a piece gave to the line under way, and where the piece goes on after it.
@@ -18,7 +22,7 @@ pub struct Taken {
     pub whole: bool,
 }
 
-// Answers the lines that end in a piece, and holds the rest of it.
+// Answers the lines that end in a piece, as long as the answers can be written, and holds the rest of it.
 pub(crate) fn feed(
     piece: &[u8],
     line: &mut [u8],
@@ -43,23 +47,36 @@ pub(crate) fn feed(
                 end,
             );
             n = 0;
+            if PIECE <= end {
+                if !flush(&*out, end) {
+                    return Progress {
+                        held: 0,
+                        heard: false,
+                    };
+                }
+                end = 0;
+            }
         }
     }
-    Progress { held: n, end }
+    Progress {
+        held: n,
+        heard: flush(&*out, end),
+    }
 }
 
-// The last line may lack its line feed.
+// The last line may lack its line feed. Answers whether its answer could be written.
 pub(crate) fn last_line(
     line: &[u8],
     held: usize,
     input: &mut [u8],
     result: &mut [u8],
     out: &mut [u8],
-) -> usize {
+) -> bool {
     if held == 0 {
-        return 0;
+        return true;
     }
-    answer(part(line, 0, held), input, result, out, 0)
+    let end = answer(part(line, 0, held), input, result, &mut *out, 0);
+    flush(&*out, end)
 }
 
 fn answer(line: &[u8], input: &mut [u8], result: &mut [u8], out: &mut [u8], end: usize) -> usize {

@@ -51,6 +51,10 @@ module _ (s result scratch out after : List ℕ) (a : Answer) (e : returned a ou
 
 -- ---- the outcome of a call with buffers of any length
 
+-- an outcome's text at the front of a buffer
+abbrev pub Reports : List ℕ → ℕ → List ℕ → List ℕ → Outcome (List Ty) → Type 0
+Reports between r d d₁ o = Laid r 0 d d₁ (reported between o)
+
 abbrev tallied : List Ty → Tally
 tallied ts = tally (length ts) (length (writeTypes ts))
 
@@ -58,11 +62,15 @@ abbrev answerOf : Called → Outcome Tally
 answerOf (called o result scratch) = o
 
 module _ (s result scratch : List ℕ) where
+  -- types that have room in the result, or not
+  abbrev offered : List Ty → Bool → Called
+  offered ts b = cond b (called (accepted (tallied ts)) (atFront (writeTypes ts) result) (zeroed scratch)) (called (refused tooShort (length s)) result (zeroed scratch))
+
   call-answers : answerOf (sheetCall s result scratch) ≡ mapped tallied (callOutcome s (length result) (length scratch))
   unfolding sheetCall callOutcome handOver
   call-answers = by (ltb (length scratch) scratchBytes) (sheetRun s)
     where
-      fits : (ts : List Ty) (b : Bool) → answerOf (cond b (called (accepted (tallied ts)) (atFront (writeTypes ts) result) (zeroed scratch)) (called (refused tooShort (length s)) result (zeroed scratch))) ≡ mapped tallied (cond b (accepted ts) (refused tooShort (length s)))
+      fits : (ts : List Ty) (b : Bool) → answerOf (offered ts b) ≡ mapped tallied (cond b (accepted ts) (refused tooShort (length s)))
       fits ts true = refl
       fits ts false = refl
 
@@ -99,12 +107,15 @@ module _ (s result scratch : List ℕ) where
         by (refused j q) is e = let z : _≡_ {A = ℕ} 0 1 = cc in absurd (omega arith)
         by (accepted us) is e = ap accepted (accepted-run is (l .run))
 
-    module _ (between : List ℕ) {r : ℕ} {d d₁ : List ℕ} where
-      pub laid-refused : {k p : ℕ} → called (refused k p) out after ≡ sheetCall s result scratch → Laid r 0 d d₁ (reported between (refused k p)) → Laid r 0 d d₁ (reported between (callOutcome s (length result) (length scratch)))
-      laid-refused e h = subst (λ o. Laid r 0 d d₁ (reported between o)) (sym (refused-outcome e)) h
+    abbrev outcome : Outcome (List Ty)
+    outcome = callOutcome s (length result) (length scratch)
 
-      pub laid-left : {n b : ℕ} {ts : List Ty} → called (accepted (tally n b)) out after ≡ sheetCall s result scratch → LeftBy s n b out ts → Laid r 0 d d₁ (reported between (accepted ts)) → Laid r 0 d d₁ (reported between (callOutcome s (length result) (length scratch)))
-      laid-left e l h = subst (λ o. Laid r 0 d d₁ (reported between o)) (sym (left-outcome e l)) h
+    module _ (between : List ℕ) {r : ℕ} {d d₁ : List ℕ} where
+      pub laid-refused : {k p : ℕ} → called (refused k p) out after ≡ sheetCall s result scratch → Reports between r d d₁ (refused k p) → Reports between r d d₁ outcome
+      laid-refused e h = subst (Reports between r d d₁) (sym (refused-outcome e)) h
+
+      pub laid-left : {n b : ℕ} {ts : List Ty} → called (accepted (tally n b)) out after ≡ sheetCall s result scratch → LeftBy s n b out ts → Reports between r d d₁ (accepted ts) → Reports between r d d₁ outcome
+      laid-left e l h = subst (Reports between r d d₁) (sym (left-outcome e l)) h
 
 -- ---- the types left
 

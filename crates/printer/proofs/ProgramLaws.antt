@@ -20,6 +20,7 @@ use Rattle.report.specs.Report.{lineFeed, reported, fitting, callOutcome, progr
 use Rattle.report.specs.Room.{printRoom}
 use Rattle.report.proofs.LineLaws.{length-refused, length-accepted}
 use Rattle.report.proofs.TextLaws.{laid-then}
+use Rattle.printer.proofs.CallLaws.{Reports}
 
 module _ (s : List ℕ) where
   -- ---- too long
@@ -70,19 +71,20 @@ module _ (s : List ℕ) where
     pub left : buffers result₁ scratch₁ ≡ leaves (programCall s result scratch)
 
   module _ {r : ℕ} {result scratch scratch₁ d d₁ : List ℕ} where
-    pub done-long : programBytes < length s → Laid r 0 d d₁ (reported lineFeed (refused tooShort 0)) → scratch₁ ≡ zeroed scratch → Done r result result scratch scratch₁ d d₁
+    pub done-long : programBytes < length s → Reports lineFeed r d d₁ (refused tooShort 0) → scratch₁ ≡ zeroed scratch → Done r result result scratch scratch₁ d d₁
     done-long h l z =
         record {
-          laid = subst (λ o. Laid r 0 d d₁ (reported lineFeed o)) (sym (outcome-long h)) l;
+          laid = subst (Reports lineFeed r d d₁) (sym (outcome-long h)) l;
           left = ap (buffers result) z ∙ ap leaves (sym (call-long result scratch h));
         }
 
-    pub done-run : {result₁ : List ℕ} → Bytes s → scratchBytes ≤ length result → scratchBytes ≤ length scratch → length s ≤ programBytes → Laid r 0 d d₁ (reported lineFeed (callOutcome s (length result) (length scratch))) → buffers result₁ scratch₁ ≡ leaves (sheetCall s result scratch) → Done r result result₁ scratch scratch₁ d d₁
-    done-run small wide enough h l k =
-        record {
-          laid = subst (λ o. Laid r 0 d d₁ (reported lineFeed o)) (roomy-run small _ _ wide enough ∙ sym (outcome-run h)) l;
-          left = k ∙ ap leaves (sym (call-run result scratch h));
-        }
+    module _ {result₁ : List ℕ} (small : Bytes s) (wide : scratchBytes ≤ length result) (enough : scratchBytes ≤ length scratch) where
+      pub done-run : length s ≤ programBytes → Reports lineFeed r d d₁ (callOutcome s (length result) (length scratch)) → buffers result₁ scratch₁ ≡ leaves (sheetCall s result scratch) → Done r result result₁ scratch scratch₁ d d₁
+      done-run h l k =
+          record {
+            laid = subst (Reports lineFeed r d d₁) (roomy-run small _ _ wide enough ∙ sym (outcome-run h)) l;
+            left = k ∙ ap leaves (sym (call-run result scratch h));
+          }
 
   -- ---- the last line feed
 

@@ -6,7 +6,7 @@ use mathlib.Core.Path.{_≡_}
 use lib.ListN.{length, take}
 use Rattle.io.specs.Counts.{Counts}
 use Rattle.report.specs.Laid.{Laid}
-use Rattle.report.specs.Report.{printed, Buffers, buffers, leaves, programCall}
+use Rattle.report.specs.Report.{printed, buffers, leaves, programCall}
 use Rattle.streams.specs.declared.Answered.{Answered}
 use Rattle.streams.specs.declared.Answered.the-variants.{Bytes, Nothing, Failed}
 use Rattle.printer.specs.declared.Printed.{Printed}
@@ -25,18 +25,15 @@ pub record TextOf (input : List ℕ) (r : Printed) (result result₁ scratch scr
   pub laid : Laid size 0 out out₁ (printed input)
   pub left : buffers result₁ scratch₁ ≡ leaves (programCall input result scratch)
 
-module _ (buf : List ℕ) (count : ℕ) (r : Printed) (result result₁ scratch scratch₁ out out₁ : List ℕ) where
-  -- Whatever input was read so, it is this input's text.
-  abbrev pub PrintsRead : Answered → Type 0
-  PrintsRead last = (input : List ℕ) → ReadFrom input buf count last → TextOf input r result result₁ scratch scratch₁ out out₁
+-- No text, and all as lent.
+abbrev pub NoText : Printed → List ℕ → List ℕ → List ℕ → List ℕ → List ℕ → List ℕ → Type 0
+NoText r result result₁ scratch scratch₁ out out₁ = (r ≡ Unread) × (buffers result₁ scratch₁ ≡ buffers result scratch) × (out₁ ≡ out)
 
-  abbrev pub PrintsNothing : Type 0
-  PrintsNothing = (r ≡ Unread) × (buffers result₁ scratch₁ ≡ buffers result scratch) × (out₁ ≡ out)
-
+-- What the last read answered decides; a text is that of whatever input was read so.
 abbrev pub Prints : Answered → List ℕ → ℕ → Printed → List ℕ → List ℕ → List ℕ → List ℕ → List ℕ → List ℕ → Type 0
-Prints (Bytes n) buf count r result result₁ scratch scratch₁ out out₁ = PrintsRead buf count r result result₁ scratch scratch₁ out out₁ (Bytes n)
-Prints Nothing buf count r result result₁ scratch scratch₁ out out₁ = PrintsRead buf count r result result₁ scratch scratch₁ out out₁ Nothing
-Prints Failed buf count r result result₁ scratch scratch₁ out out₁ = PrintsNothing buf count r result result₁ scratch scratch₁ out out₁
+Prints (Bytes n) buf count r result result₁ scratch scratch₁ out out₁ = (input : List ℕ) → ReadFrom input buf count (Bytes n) → TextOf input r result result₁ scratch scratch₁ out out₁
+Prints Nothing buf count r result result₁ scratch scratch₁ out out₁ = (input : List ℕ) → ReadFrom input buf count Nothing → TextOf input r result result₁ scratch scratch₁ out out₁
+Prints Failed buf count r result result₁ scratch scratch₁ out out₁ = NoText r result result₁ scratch scratch₁ out out₁
 
 -- A text lies within its buffer.
 abbrev pub Inside : Printed → List ℕ → Type 0

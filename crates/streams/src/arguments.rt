@@ -2,10 +2,9 @@
 use crate::Asked;
 use crate::writing::complain;
 use check::same;
-ghost use mathlib.Core.Path.{_≡_};
 ghost use Rattle.streams.specs.Arguments.{AskedBy};
 
-// No argument of these programs is longer; one that is gets none of its bytes, and is unknown.
+// No word that is known is longer. Of a longer argument no byte is had, and that is no word that is known.
 const MAX_ARGUMENT: usize = 16;
 
 pub fn say_version() {

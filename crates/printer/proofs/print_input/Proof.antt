@@ -35,7 +35,8 @@ returns-2 : tie.Need-returns-2
 returns-2 c =
     let entry = c .before .before .before .before .before .before .before .before .before .before .before .before .before .before .before .before in
     let text = c .before .before .before .before .before .before .print-sheet .ensures in
-    (prints-text _ _ _ _ _ _ _ _ (entry .pre .0) (text .0 .0) (text .1) (entry .args .last) (c .before .before .before .before .before .before .before .before .before .before .before .match .keys2) (entry .pre .1 .0), (text .0 .1, sym (length-take-le _ _ (text .0 .1))))
+    let unfailed = c .before .before .before .before .before .before .before .before .before .before .before .match .keys2 in
+    (prints-text _ _ _ _ _ _ _ _ (entry .pre .0) (text .0 .0) (text .1) (entry .args .last) unfailed (entry .pre .1 .0), (text .0 .1, sym (length-take-le _ _ (text .0 .1))))
 
 pub print-input-spec : {M : Type 1} → statement M
 print-input-spec =

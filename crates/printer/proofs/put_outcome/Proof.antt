@@ -28,7 +28,8 @@ same-length-2 c = search needs
 returns : tie.Need-returns
 returns c =
     let args = c .before .before .before .before .before .before .before .before .before .before .before .before .before .args in
-    let done = done-long (args .sheet .now) (omega (arith, c .before .before .before .before .before .before .before .before .if1 .taken)) (c .before .before .put-refusal .ensures lineFeed) (c .before .before .before .before .before .before .clear .ensures) in
+    let cleared = c .before .before .before .before .before .before in
+    let done = done-long (args .sheet .now) (omega (arith, cleared .before .before .if1 .taken)) (c .before .before .put-refusal .ensures lineFeed) (cleared .clear .ensures) in
     (done .laid, done .left)
 
 slice-aggregate-put-call : tie.Need-slice-aggregate-put-call
@@ -51,7 +52,8 @@ returns-2 c =
     let start = c .before .before .before .before .before .before .before .before .before .before .before .before .before .before .before in
     let entry = start .before in
     let call = c .before .before .before .before .before .before .put-call .ensures in
-    let done = done-run (entry .args .sheet .now) (λ i. omega (arith, start .shared-slice-known .given i)) (entry .pre .0) (entry .pre .1 .0) (omega (arith, c .before .before .before .before .before .before .before .before .before .before .before .if1 .left)) (call .0) (call .1) in
+    let fits = c .before .before .before .before .before .before .before .before .before .before .before .if1 .left in
+    let done = done-run (entry .args .sheet .now) (λ i. omega (arith, start .shared-slice-known .given i)) (entry .pre .0) (entry .pre .1 .0) (omega (arith, fits)) (call .0) (call .1) in
     (done .laid, done .left)
 
 pub put-outcome-spec : {M : Type 1} → statement M

@@ -25,12 +25,12 @@ pub step-put : (t : Ty) (st : Stack) → length st < maxStack → step (put t) s
 unfolding step
 step-put t st h = ap (λ b. cond b (gives (t ∷ st)) (refuses overflow)) (lt-ltb (length st) maxStack h)
 
--- A pervading that cannot be is refused, unless its shapes are filled.
+-- Of two types it is the pervading of their shapes, or refusal 8, with the union of their scalars.
 pub pervadeTypes-is : (f g : Bool) (s t : Shape) (k l : Scalar) → pervadeTypes f g (ty s k) (ty t l) ≡ following (orRefuses (pervade f g s t) unpervaded) (λ x. gives (ty x (union k l)))
 unfolding pervadeTypes
 pervadeTypes-is f g s t k l = refl
 
--- The flag's bit 0 fills the top, bit 1 the one below.
+-- The first fill is the top's, the second that of the one below.
 pub step-pervading : (fillsTop fillsBelow : Bool) (top below : Ty) (st : Stack) → step (pervading fillsTop fillsBelow) (top ∷ below ∷ st) ≡ onto st (pervadeTypes fillsTop fillsBelow top below)
 unfolding step
 step-pervading f g t u st = refl

@@ -19,7 +19,7 @@ use Rattle.machine.specs.Steps.{Step, put, row, pervading, join, validat
 use Rattle.machine.specs.Run.{Answer, gives, refuses, following, aside, Stack, onto, pervadeTypes, step, steps}
 use Rattle.machine.specs.Sheet.{placed, stepFrom, workFrom, sheetFrom, skimFrom}
 use Rattle.machine.specs.SheetSteps.{toEnd-end, toEnd-more}
-use Rattle.machine.specs.RunLaws.{following-gives}
+use Rattle.machine.specs.RunLaws.{step-join, following-gives}
 use Rattle.machine.specs.StepsTook.{ended-or, stepAndMore}
 
 -- ---- heights
@@ -41,7 +41,7 @@ step-height (pervading f g) (t ∷ []) st₁ e = let z : _≡_ {A = ℕ} 0 1 = c
 step-height (pervading f g) (t ∷ u ∷ st) st₁ e = omega (arith, onto-height st (pervadeTypes f g t u) e)
 step-height join [] st₁ e = let z : _≡_ {A = ℕ} 0 1 = cc in absurd (omega arith)
 step-height join (t ∷ []) st₁ e = let z : _≡_ {A = ℕ} 0 1 = cc in absurd (omega arith)
-step-height join (t ∷ u ∷ st) st₁ e = let w : joinTypes t u ∷ st ≡ st₁ = cc in rw (← w) (omega arith)
+step-height join (t ∷ u ∷ st) st₁ e = let w : joinTypes t u ∷ st ≡ st₁ = cc (step-join t u st) in rw (← w) (omega arith)
 step-height (validating spec) [] st₁ e = let z : _≡_ {A = ℕ} 0 1 = cc in absurd (omega arith)
 step-height (validating spec) (t ∷ st) st₁ e = omega (arith, onto-height st (aside (validate unsided spec t)) e)
 

@@ -28,7 +28,7 @@ use Rattle.machine.specs.SheetLimits.{maxStack}
 use Rattle.machine.specs.Steps.{Step, put, row, pervading, join, validating, StepWithin}
 use Rattle.machine.specs.Run.{Answer, gives, orRefuses, aside, Stack, onto, pervadeTypes, step, steps}
 use Rattle.machine.specs.Call.{writeTypes}
-use Rattle.machine.specs.RunLaws.{following-gives, orRefuses-gives, aside-gives, cond-gives}
+use Rattle.machine.specs.RunLaws.{step-join, following-gives, orRefuses-gives, aside-gives, cond-gives}
 
 -- ---- one step
 
@@ -57,7 +57,7 @@ step-within (pervading f g) (t ∷ []) st₁ w h e = let z : _≡_ {A = ℕ} 0 1
 step-within (pervading f g) (t ∷ u ∷ st) st₁ w h e = onto-within st (pervadeTypes f g t u) (h .1 .1) (λ x k. pervadeTypes-within f g t u x (h .0) (h .1 .0) k) e
 step-within join [] st₁ w h e = let z : _≡_ {A = ℕ} 0 1 = cc in absurd (omega arith)
 step-within join (t ∷ []) st₁ w h e = let z : _≡_ {A = ℕ} 0 1 = cc in absurd (omega arith)
-step-within join (t ∷ u ∷ st) st₁ w h e = let y : joinTypes t u ∷ st ≡ st₁ = cc in rw (← y) (joinTypes-within t u (h .0) (h .1 .0), h .1 .1)
+step-within join (t ∷ u ∷ st) st₁ w h e = let y : joinTypes t u ∷ st ≡ st₁ = cc (step-join t u st) in rw (← y) (joinTypes-within t u (h .0) (h .1 .0), h .1 .1)
 step-within (validating spec) [] st₁ w h e = let z : _≡_ {A = ℕ} 0 1 = cc in absurd (omega arith)
 step-within (validating spec) (t ∷ st) st₁ w h e =
     onto-within st (aside (validate unsided spec t)) (h .1) (λ x k. aside-gives (validate unsided spec t) k λ e₁. validate-within unsided spec t x w (h .0) e₁) e

@@ -1,5 +1,5 @@
--- The numbers of the table occur: for each of its lists a call that is refused with each number that the list has and the reading of a
--- type does not give it already. Each holds by computation.
+-- Refusals of public calls by computation: the reading of a type, and what the kinds of calls add to it. Not every number of every call
+-- is here; those of a sheet but 7 are worked in `machine` (Examples).
 use Prim.Native.Nat.{ℕ, zero, suc, _^_}
 use mathlib.Core.List.{List, [], _∷_, _++_}
 use mathlib.Core.Path.{_≡_, refl}

@@ -58,13 +58,10 @@ fn after_type(s: &[u8], at: usize) -> usize
     ensures { λ r. ⌜ r ≡ afterType (now (s .entry)) at ⌝ }
 {
     let answer = read_type(s, at, MAX_DEPTH, MAX_TYPES);
-    match answer {
-        Answer::Got { value: _, next } => next,
-        Answer::Refused {
-            number: _,
-            place: _,
-        } => at,
-    }
+    let Answer::Got { value: _, next } = answer else {
+        return at;
+    };
+    next
 }
 
 // The place after as many types.

@@ -38,20 +38,15 @@ pub fn span_at(s: &[u8], at: usize) -> Span
     ensures { λ r. ⌜ (r .types ≤ maxTypes) × ((p : Shape) (k : Scalar) → Placed (now (s .entry)) at p k → (r .types ≡ suc (inside k)) × (r .end ≡ onward true at p k)) ⌝ }
 {
     let answer = read_type(s, at, MAX_DEPTH, MAX_TYPES);
-    match answer {
-        Answer::Got { value, next } => {
-            if MAX_TYPES < value {
-                return Span { types: 0, end: at };
-            }
-            Span {
-                types: MAX_TYPES - value,
-                end: next,
-            }
-        }
-        Answer::Refused {
-            number: _,
-            place: _,
-        } => Span { types: 0, end: at },
+    let Answer::Got { value, next } = answer else {
+        return Span { types: 0, end: at };
+    };
+    if MAX_TYPES < value {
+        return Span { types: 0, end: at };
+    }
+    Span {
+        types: MAX_TYPES - value,
+        end: next,
     }
 }
 

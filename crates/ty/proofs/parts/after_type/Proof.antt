@@ -8,7 +8,6 @@ use Rattle.ty.proofs.parts.after_type.Statement.{statement}
 use Rattle.ty.proofs.parts.after_type.Tie as tie
 use Rattle.ty.proofs.parts.after_type.Reads as reads
 use Rattle.ty.proofs.parts.after_type.Lts as lts
-use Rattle.record.proofs.read_type.Reads as read-type-reads
 
 read-type-requires : tie.Need-read-type-requires
 read-type-requires c κs = search needs
@@ -20,10 +19,18 @@ enum-told : tie.Need-enum-told
 enum-told c = search needs
 
 returns : tie.Need-returns
-returns c = past-got (λ t. 32 - types t) (c .before .before .before .before .before .args .at) (readType (c .before .before .before .before .before .args .s .now) (c .before .before .before .before .before .args .at)) (known (c .before .before .before .read-type .ensures) (c .before .answer .given .1))
+returns c =
+    let entry = c .before .before .before .before in
+    let at-read-type = c .before .before in
+    let args = entry .args in
+    past-stopped (λ t. 32 - types t) (args .at) (readType (args .s .now) (args .at)) (told (at-read-type .read-type .ensures) (c .enum-told .given .1))
 
 returns-2 : tie.Need-returns-2
-returns-2 c = past-stopped (λ t. 32 - types t) (c .before .before .before .before .args .at) (readType (c .before .before .before .before .args .s .now) (c .before .before .before .before .args .at)) (told (c .before .before .read-type .ensures) (c .enum-told .given .1))
+returns-2 c =
+    let entry = c .before .before .before .before .before in
+    let at-read-type = c .before .before .before in
+    let args = entry .args in
+    past-got (λ t. 32 - types t) (args .at) (readType (args .s .now) (args .at)) (known (at-read-type .read-type .ensures) (c .before .answer .given .1))
 
 pub after-type-spec : {M : Type 1} → statement M
 after-type-spec =

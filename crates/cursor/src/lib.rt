@@ -1,6 +1,7 @@
 // A cursor over a sheet's bytes, and the steps that are read through it. The borrow checker covers no function over a struct
 // that holds a slice, so those here are few and thin, and proved by hand: each takes the cursor apart for a covered function
-// that reads one record from slice and place, and hands its answer on, in which the place then reached stands.
+// that reads one record from slice and place, and hands its answer on, in which the place then reached stands. The next
+// record's cursor is made there: one cursor for a whole step would bring the step's branches into a walk by hand.
 mod flags;
 mod marks;
 mod steps;

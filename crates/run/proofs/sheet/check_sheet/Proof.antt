@@ -11,35 +11,35 @@ use Rattle.run.proofs.sheet.check_sheet.Lts as lts
 use Rattle.run.proofs.sheet.run_sheet.Reads as run-sheet-reads
 use Rattle.stack.proofs.clear.Reads as clear-reads
 
--- src/sheet.rt:34:9
+-- src/sheet.rt:33:9
 returns : tie.Need-returns
 returns c = sym (call-short (c .before .before .before .before .args .sheet .now) (c .before .before .before .before .args .result .now) (c .before .before .before .before .args .scratch .now) (c .if1 .taken))
 
--- src/sheet.rt:39:49
+-- src/sheet.rt:38:49
 slice-relend-prefix-run-sheet : tie.Need-slice-relend-prefix-run-sheet
 slice-relend-prefix-run-sheet c = search needs
 
--- src/sheet.rt:39:49
+-- src/sheet.rt:38:49
 slice-aggregate-run-sheet : tie.Need-slice-aggregate-run-sheet
 slice-aggregate-run-sheet c = sym (length-take-le 39936 (c .before .before .before .before .before .before .args .scratch .now) (c .before .before .if1 .left))
 
--- src/sheet.rt:39:9
+-- src/sheet.rt:38:9
 run-sheet-requires : tie.Need-run-sheet-requires
 run-sheet-requires c κs = rw (length-take-le 39936 (c .before .before .before .before .before .before .args .scratch .now) (c .before .before .if1 .left)) (omega arith)
 
--- src/sheet.rt:40:5
+-- src/sheet.rt:39:5
 clear-requires : tie.Need-clear-requires
 clear-requires c κs = search needs
 
--- src/sheet.rt:30:1
+-- src/sheet.rt:29:1
 same-length : tie.Need-same-length
 same-length c = search needs
 
--- src/sheet.rt:30:1
+-- src/sheet.rt:29:1
 same-length-2 : tie.Need-same-length-2
 same-length-2 c = search needs
 
--- src/sheet.rt:30:1
+-- src/sheet.rt:29:1
 returns-2 : tie.Need-returns-2
 returns-2 c = call-runs (c .before .before .before .before .before .before .before .before .before .before .before .before .before .before .before .args .sheet .now) (c .before .before .before .before .before .before .before .before .before .before .before .before .before .before .before .args .result .now) (c .before .before .before .before .before .before .before .before .before .before .before .before .before .before .before .args .scratch .now) (c .before .before .before .before .before .before .before .before .run-sheet .result) _ (c .before .before .before .before .before .before .before .before .before .before .before .if1 .left) (c .before .before .before .before .before .before .before .before .run-sheet .ensures) (c .before .before .clear .ensures ∙ zeroed-same _ (c .before .before .before .before .before .before .before .before .before .before .before .before .before .before .before .args .scratch .now) (drop-at (c .before .before .before .before .before .before .before .before .run-sheet .last .1 .1 .0) (drop 39936 (c .before .before .before .before .before .before .before .before .before .before .before .before .before .before .before .args .scratch .now)) 39936 (c .before .before .before .before .before .before .before .before .run-sheet .kept .1 .1 .0 ∙ length-take-le 39936 (c .before .before .before .before .before .before .before .before .before .before .before .before .before .before .before .args .scratch .now) (c .before .before .before .before .before .before .before .before .before .before .before .if1 .left))))
 

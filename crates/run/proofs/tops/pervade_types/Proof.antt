@@ -21,38 +21,38 @@ use Rattle.join.proofs.write_union.Reads as write-union-reads
 use Rattle.record.proofs.lone_shape.Reads as lone-shape-reads
 use Rattle.shape.proofs.pervade_dyn_shapes.Reads as pervade-dyn-shapes-reads
 
--- src/tops.rt:85:39
+-- src/tops.rt:87:39
 lone-shape-requires : tie.Need-lone-shape-requires
 lone-shape-requires c κs = first-good _ _ (c .before .before .before .pre)
 
--- src/tops.rt:85:54
+-- src/tops.rt:87:54
 lone-shape-requires-2 : tie.Need-lone-shape-requires-2
 lone-shape-requires-2 c κs = second-good _ _ (c .before .before .before .before .pre)
 
--- src/tops.rt:85:9
+-- src/tops.rt:87:9
 pervade-dyn-shapes-requires : tie.Need-pervade-dyn-shapes-requires
 pervade-dyn-shapes-requires c κs = search needs
 
--- src/tops.rt:88:9
+-- src/tops.rt:90:9
 enum-told : tie.Need-enum-told
 enum-told c = search needs
 
--- src/tops.rt:88:9
+-- src/tops.rt:90:9
 returns : tie.Need-returns
 returns c = sym (deliver-refused _ (by-scalars (lone (c .before .before .before .before .before .before .before .before .args .a .now)) (lone (c .before .before .before .before .before .before .before .before .args .b .now)) (c .before .before .before .before .lone-shape .ensures) (c .before .before .before .lone-shape2 .ensures) (λ t u. mapped writeTy (atStart (pervadeTypes (c .before .before .before .before .before .before .before .before .args .a-fill) (c .before .before .before .before .before .before .before .before .args .b-fill) t u))) (λ k l. refused unpervaded 0) (λ k l. shapes-clash (c .before .before .before .before .before .before .before .before .args .a-fill) (c .before .before .before .before .before .before .before .before .args .b-fill) (shapeFor (c .before .before .before .before .lone-shape .result)) (shapeFor (c .before .before .before .lone-shape2 .result)) k l (sym (c .before .before .pervade-dyn-shapes .ensures) ∙ ap (λ v. shapeBeside v (shapeFor (c .before .before .pervade-dyn-shapes .result .shape))) (c .enum-told .given .1))) ∙ both-refuse (lone (c .before .before .before .before .before .before .before .before .args .a .now)) (lone (c .before .before .before .before .before .before .before .before .args .b .now)) (c .before .before .before .before .before .before .before .before .pre) unpervaded 0))
 
 enum-told-2 : tie.Need-enum-told-2
 enum-told-2 c = search needs
 
--- src/tops.rt:94:5
+-- src/tops.rt:96:5
 write-union-requires : tie.Need-write-union-requires
 write-union-requires c κs = (c .before .before .before .before .before .before .before .before .before .before .pre)
 
--- src/tops.rt:82:1
+-- src/tops.rt:84:1
 same-length : tie.Need-same-length
 same-length c = search needs
 
--- src/tops.rt:82:1
+-- src/tops.rt:84:1
 returns-2 : tie.Need-returns-2
 returns-2 c = c .before .before .write-union .ensures ∙ ap (λ o. deliver o (c .before .before .before .before .before .before .before .before .before .before .before .before .before .args .out .now)) (sym (by-scalars (lone (c .before .before .before .before .before .before .before .before .before .before .before .before .before .args .a .now)) (lone (c .before .before .before .before .before .before .before .before .before .before .before .before .before .args .b .now)) (c .before .before .before .before .before .before .before .before .before .lone-shape .ensures) (c .before .before .before .before .before .before .before .before .lone-shape2 .ensures) (λ t u. mapped writeTy (atStart (pervadeTypes (c .before .before .before .before .before .before .before .before .before .before .before .before .before .args .a-fill) (c .before .before .before .before .before .before .before .before .before .before .before .before .before .args .b-fill) t u))) (λ k l. accepted (writeTy (ty (shapeFor (c .before .before .before .before .before .before .before .pervade-dyn-shapes .result .shape)) (union k l)))) (λ k l. shapes-pervade (c .before .before .before .before .before .before .before .before .before .before .before .before .before .args .a-fill) (c .before .before .before .before .before .before .before .before .before .before .before .before .before .args .b-fill) (shapeFor (c .before .before .before .before .before .before .before .before .before .lone-shape .result)) (shapeFor (c .before .before .before .before .before .before .before .before .lone-shape2 .result)) k l (sym (c .before .before .before .before .before .before .before .pervade-dyn-shapes .ensures) ∙ ap (λ v. shapeBeside v (shapeFor (c .before .before .before .before .before .before .before .pervade-dyn-shapes .result .shape))) (c .before .before .before .before .before .enum-told2 .given .1)))))
 

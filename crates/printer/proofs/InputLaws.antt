@@ -12,13 +12,12 @@ use denote.Enum.Declared.{tagOf}
 use types.Run.{OneOf, miss}
 use Rattle.machine.specs.SheetLimits.{programBytes}
 use Rattle.report.specs.Laid.{Laid}
-use Rattle.report.specs.Report.{lineFeed, reported, programOutcome, buffers, leaves, programCall, printed}
-use Rattle.streams.specs.Streams.{Stopped, ToTheEnd}
+use Rattle.report.specs.Report.{lineFeed, reported, buffers, leaves, programCall, printed}
+use Rattle.streams.specs.Streams.{ToTheEnd}
 use Rattle.streams.specs.declared.Answered.{Answered}
 use Rattle.streams.specs.declared.Answered.the-variants.{Bytes, Nothing, Failed}
 use Rattle.streams.proofs.Answered.{the-type}
 use Rattle.printer.specs.Input.{ReadFrom, TextOf, Prints}
-use Rattle.printer.specs.declared.Printed.{Printed}
 use Rattle.printer.specs.declared.Printed.the-variants.{Text, Unread}
 use Rattle.printer.proofs.ProgramLaws.{outcome-long, call-long}
 

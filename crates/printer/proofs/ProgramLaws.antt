@@ -2,7 +2,7 @@
 use Prim.Native.Nat.{ℕ, _+_, _≤_, _<_}
 use native.Mathlib.Omega.{arith}
 use mathlib.Core.Bool.{Bool, true, false}
-use mathlib.Core.List.{List, _++_}
+use mathlib.Core.List.{List}
 use mathlib.Core.Path.{_≡_, refl, sym, _∙_, ap, subst}
 use lib.ListN.{length}
 use lib.Dec.{ltb}
@@ -16,7 +16,7 @@ use Rattle.machine.specs.Sheet.{sheetRun}
 use Rattle.machine.specs.Call.{called, writeTypes, zeroed, sheetCall}
 use Rattle.machine.specs.CallLaws.{Few, run-few}
 use Rattle.report.specs.Laid.{Laid}
-use Rattle.report.specs.Report.{lineFeed, reported, fitting, callOutcome, programOutcome, Buffers, buffers, leaves, programCall, printed}
+use Rattle.report.specs.Report.{lineFeed, reported, fitting, callOutcome, programOutcome, buffers, leaves, programCall, printed}
 use Rattle.report.specs.Room.{printRoom}
 use Rattle.report.proofs.LineLaws.{length-refused, length-accepted}
 use Rattle.report.proofs.TextLaws.{laid-then}

@@ -1,7 +1,6 @@
 -- What reads and writes answer, and when there is no more to move. POSIX's `read` and `write` answer how many bytes they moved, at
 -- most as many as they were lent, or a negative number where they failed; a read that answers 0 has found the input's end.
 use Prim.Native.Nat.{ℕ, zero, suc, _≤_, _<_}
-use mathlib.Core.Path.{_≡_}
 use lib.IntN.{ℤ, pos, negsuc}
 use Rattle.streams.specs.declared.Answered.{Answered}
 use Rattle.streams.specs.declared.Answered.the-variants.{Bytes, Nothing, Failed}

@@ -260,55 +260,86 @@ call-told (vg-as-dims kind x list t sizes) =
     (bound-numbered valueAsDims (handedIn kind x list t) (handed-with lone-sizes-written kind x list t) (as-dims-with (refl, (refl, (refl, tt)))))
 call-told (vg-check-sheet sheet result scratch) = sheet-told ofSheetCall (sheetCall sheet result scratch) (call-numbered sheet result scratch)
 
--- And these are of the thirteen.
+-- ---- the lists are of the thirteen
+
+sizes-thirteen : All (Among thirteen) ofSizes
+sizes-thirteen = (refl, tt)
+
+lone-thirteen : All (Among thirteen) ofLone
+lone-thirteen = (refl, (refl, (refl, (refl, (refl, (refl, tt))))))
+
+written-thirteen : All (Among thirteen) ofWritten
+written-thirteen = (refl, (refl, (refl, (refl, (refl, (refl, (refl, tt)))))))
+
+pervaded-thirteen : All (Among thirteen) ofPervaded
+pervaded-thirteen = (refl, (refl, (refl, (refl, (refl, (refl, (refl, (refl, tt))))))))
+
+shape-checked-thirteen : All (Among thirteen) ofShapeChecked
+shape-checked-thirteen = (refl, (refl, (refl, (refl, (refl, (refl, (refl, (refl, tt))))))))
+
+validated-thirteen : All (Among thirteen) ofValidated
+validated-thirteen = (refl, (refl, (refl, (refl, (refl, (refl, (refl, (refl, (refl, tt)))))))))
+
+size-thirteen : All (Among thirteen) ofSize
+size-thirteen = (refl, (refl, (refl, (refl, (refl, (refl, (refl, tt)))))))
+
+sizes-written-thirteen : All (Among thirteen) ofSizesWritten
+sizes-written-thirteen = (refl, (refl, (refl, (refl, (refl, (refl, (refl, (refl, tt))))))))
+
+result-thirteen : All (Among thirteen) ofResult
+result-thirteen = (refl, tt)
+
+sheet-call-thirteen : All (Among thirteen) ofSheetCall
+sheet-call-thirteen = (refl, (refl, (refl, (refl, (refl, (refl, (refl, (refl, (refl, (refl, (refl, tt)))))))))))
+
 pub numbers-thirteen : (c : Call) → All (Among thirteen) (numbersOf c)
-numbers-thirteen (vg-dim-cmp a b) = (refl, tt)
-numbers-thirteen (vg-dim-cmp-defined a b) = (refl, tt)
-numbers-thirteen (vg-dim-max a b) = (refl, tt)
-numbers-thirteen (vg-dim-join a b) = (refl, tt)
-numbers-thirteen (vg-dim-compatible a b) = (refl, tt)
-numbers-thirteen (vg-dim-row-compatible a b) = (refl, tt)
-numbers-thirteen (vg-merge a b result) = (refl, (refl, (refl, (refl, (refl, (refl, (refl, tt)))))))
-numbers-thirteen (vg-join-shapes a b result) = (refl, (refl, (refl, (refl, (refl, (refl, (refl, tt)))))))
-numbers-thirteen (vg-compatible-shapes a b) = (refl, (refl, (refl, (refl, (refl, (refl, tt))))))
-numbers-thirteen (vg-row-shape t result) = (refl, (refl, (refl, (refl, (refl, (refl, (refl, tt)))))))
-numbers-thirteen (vg-shape-is-any t) = (refl, (refl, (refl, (refl, (refl, (refl, tt))))))
-numbers-thirteen (vg-shape-is-scalar t) = (refl, (refl, (refl, (refl, (refl, (refl, tt))))))
-numbers-thirteen (vg-row-count t) = (refl, (refl, (refl, (refl, (refl, (refl, tt))))))
-numbers-thirteen (vg-rank t) = (refl, (refl, (refl, (refl, (refl, (refl, tt))))))
-numbers-thirteen (vg-pervade flag a b result) = (refl, (refl, (refl, (refl, (refl, (refl, (refl, (refl, tt))))))))
-numbers-thirteen (vg-union a b result) = (refl, (refl, (refl, (refl, (refl, (refl, (refl, tt)))))))
-numbers-thirteen (vg-unrefine t result) = (refl, (refl, (refl, (refl, (refl, (refl, (refl, tt)))))))
-numbers-thirteen (vg-superset a b) = (refl, (refl, (refl, (refl, (refl, (refl, tt))))))
-numbers-thirteen (vg-compatible-scalars a b) = (refl, (refl, (refl, (refl, (refl, (refl, tt))))))
-numbers-thirteen (vg-compatible-with-boxes a b) = (refl, (refl, (refl, (refl, (refl, (refl, tt))))))
-numbers-thirteen (vg-compare a b) = (refl, (refl, (refl, (refl, (refl, (refl, tt))))))
-numbers-thirteen (vg-read t) = (refl, (refl, (refl, (refl, (refl, (refl, tt))))))
-numbers-thirteen (vg-shape-record t result) = (refl, (refl, (refl, (refl, (refl, (refl, (refl, tt)))))))
-numbers-thirteen (vg-scalar-record t result) = (refl, (refl, (refl, (refl, (refl, (refl, (refl, tt)))))))
-numbers-thirteen (vg-row t result) = (refl, (refl, (refl, (refl, (refl, (refl, (refl, tt)))))))
-numbers-thirteen (vg-first-row t result) = (refl, (refl, (refl, (refl, (refl, (refl, (refl, tt)))))))
-numbers-thirteen (vg-last-row t result) = (refl, (refl, (refl, (refl, (refl, (refl, (refl, tt)))))))
-numbers-thirteen (vg-nth-row t n result) = (refl, (refl, (refl, (refl, (refl, (refl, (refl, tt)))))))
-numbers-thirteen (vg-unboxed t result) = (refl, (refl, (refl, (refl, (refl, (refl, (refl, tt)))))))
-numbers-thirteen (vg-as-boxes t result) = (refl, (refl, (refl, (refl, (refl, (refl, (refl, tt)))))))
-numbers-thirteen (vg-field t n) = (refl, (refl, (refl, (refl, (refl, (refl, tt))))))
-numbers-thirteen (vg-join a b result) = (refl, (refl, (refl, (refl, (refl, (refl, (refl, tt)))))))
-numbers-thirteen (vg-validate side spec t result) = (refl, (refl, (refl, (refl, (refl, (refl, (refl, (refl, (refl, tt)))))))))
-numbers-thirteen (vg-check-shape side spec t result) = (refl, (refl, (refl, (refl, (refl, (refl, (refl, (refl, tt))))))))
-numbers-thirteen (vg-check-scalar spec t result) = (refl, (refl, (refl, (refl, (refl, (refl, (refl, (refl, (refl, tt)))))))))
-numbers-thirteen (vg-val-ty kind x list t result) = (refl, (refl, (refl, (refl, (refl, (refl, (refl, tt)))))))
-numbers-thirteen (vg-val-spec kind x list t result) = (refl, (refl, (refl, (refl, (refl, (refl, (refl, (refl, tt))))))))
-numbers-thirteen (vg-val-scalar kind x list t result) = (refl, (refl, (refl, (refl, (refl, (refl, (refl, tt)))))))
-numbers-thirteen (vg-nums-scalar list result) = (refl, tt)
-numbers-thirteen (vg-val-row-count kind x list t) = (refl, (refl, (refl, (refl, (refl, (refl, tt))))))
-numbers-thirteen (vg-val-rank kind x list t) = (refl, (refl, (refl, (refl, (refl, (refl, tt))))))
-numbers-thirteen (vg-val-row kind x list t before result) = (refl, (refl, (refl, (refl, (refl, (refl, (refl, tt)))))))
-numbers-thirteen (vg-val-first-row kind x list t before result) = (refl, (refl, (refl, (refl, (refl, (refl, (refl, tt)))))))
-numbers-thirteen (vg-val-last-row kind x list t before result) = (refl, (refl, (refl, (refl, (refl, (refl, (refl, tt)))))))
-numbers-thirteen (vg-as-dim kind x list t) = (refl, (refl, (refl, (refl, (refl, (refl, (refl, tt)))))))
-numbers-thirteen (vg-as-dims kind x list t sizes) = (refl, (refl, (refl, (refl, (refl, (refl, (refl, (refl, tt))))))))
-numbers-thirteen (vg-check-sheet sheet result scratch) = (refl, (refl, (refl, (refl, (refl, (refl, (refl, (refl, (refl, (refl, (refl, tt)))))))))))
+numbers-thirteen (vg-dim-cmp a b) = sizes-thirteen
+numbers-thirteen (vg-dim-cmp-defined a b) = sizes-thirteen
+numbers-thirteen (vg-dim-max a b) = sizes-thirteen
+numbers-thirteen (vg-dim-join a b) = sizes-thirteen
+numbers-thirteen (vg-dim-compatible a b) = sizes-thirteen
+numbers-thirteen (vg-dim-row-compatible a b) = sizes-thirteen
+numbers-thirteen (vg-merge a b result) = written-thirteen
+numbers-thirteen (vg-join-shapes a b result) = written-thirteen
+numbers-thirteen (vg-compatible-shapes a b) = lone-thirteen
+numbers-thirteen (vg-row-shape t result) = written-thirteen
+numbers-thirteen (vg-shape-is-any t) = lone-thirteen
+numbers-thirteen (vg-shape-is-scalar t) = lone-thirteen
+numbers-thirteen (vg-row-count t) = lone-thirteen
+numbers-thirteen (vg-rank t) = lone-thirteen
+numbers-thirteen (vg-pervade flag a b result) = pervaded-thirteen
+numbers-thirteen (vg-union a b result) = written-thirteen
+numbers-thirteen (vg-unrefine t result) = written-thirteen
+numbers-thirteen (vg-superset a b) = lone-thirteen
+numbers-thirteen (vg-compatible-scalars a b) = lone-thirteen
+numbers-thirteen (vg-compatible-with-boxes a b) = lone-thirteen
+numbers-thirteen (vg-compare a b) = lone-thirteen
+numbers-thirteen (vg-read t) = lone-thirteen
+numbers-thirteen (vg-shape-record t result) = written-thirteen
+numbers-thirteen (vg-scalar-record t result) = written-thirteen
+numbers-thirteen (vg-row t result) = written-thirteen
+numbers-thirteen (vg-first-row t result) = written-thirteen
+numbers-thirteen (vg-last-row t result) = written-thirteen
+numbers-thirteen (vg-nth-row t n result) = written-thirteen
+numbers-thirteen (vg-unboxed t result) = written-thirteen
+numbers-thirteen (vg-as-boxes t result) = written-thirteen
+numbers-thirteen (vg-field t n) = lone-thirteen
+numbers-thirteen (vg-join a b result) = written-thirteen
+numbers-thirteen (vg-validate side spec t result) = validated-thirteen
+numbers-thirteen (vg-check-shape side spec t result) = shape-checked-thirteen
+numbers-thirteen (vg-check-scalar spec t result) = validated-thirteen
+numbers-thirteen (vg-val-ty kind x list t result) = written-thirteen
+numbers-thirteen (vg-val-spec kind x list t result) = sizes-written-thirteen
+numbers-thirteen (vg-val-scalar kind x list t result) = written-thirteen
+numbers-thirteen (vg-nums-scalar list result) = result-thirteen
+numbers-thirteen (vg-val-row-count kind x list t) = lone-thirteen
+numbers-thirteen (vg-val-rank kind x list t) = lone-thirteen
+numbers-thirteen (vg-val-row kind x list t before result) = written-thirteen
+numbers-thirteen (vg-val-first-row kind x list t before result) = written-thirteen
+numbers-thirteen (vg-val-last-row kind x list t before result) = written-thirteen
+numbers-thirteen (vg-as-dim kind x list t) = size-thirteen
+numbers-thirteen (vg-as-dims kind x list t sizes) = sizes-written-thirteen
+numbers-thirteen (vg-check-sheet sheet result scratch) = sheet-call-thirteen
 
 -- "One of thirteen."
 pub call-thirteen : (c : Call) → Told thirteen (answerOf c)

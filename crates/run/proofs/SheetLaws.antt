@@ -73,7 +73,7 @@ module _ (s : List ℕ) where
 -- ---- the types left
 
 module _ (size : ℕ) (us : List Ty) (result out x : List ℕ) where
-  pub handed-over : {n : ℕ} → delivery (accepted n) out ≡ deliver (accepted (writeTypes us)) result → called (accepted (tally (length us) n)) out x ≡ handOver size (accepted us) result x
+  handed-over : {n : ℕ} → delivery (accepted n) out ≡ deliver (accepted (writeTypes us)) result → called (accepted (tally (length us) n)) out x ≡ handOver size (accepted us) result x
   unfolding deliver handOver
   handed-over {n} e = go (leb (length (writeTypes us)) (length result)) e
     where
@@ -83,6 +83,10 @@ module _ (size : ℕ) (us : List Ty) (result out x : List ℕ) where
           let b : out ≡ writeTypes us ++ drop (length (writeTypes us)) result = cc in
           rw (a, b)
       go false e = let z : _≡_ {A = ℕ} 0 1 = cc in absurd (omega arith)
+
+  -- the same of a count that is known to be theirs
+  pub handed-count : {n count : ℕ} → length us ≡ count → delivery (accepted n) out ≡ deliver (accepted (writeTypes us)) result → called (accepted (tally count n)) out x ≡ handOver size (accepted us) result x
+  handed-count h e = rw (← h) (handed-over e)
 
   pub not-handed : {k p : ℕ} → delivery (refused k p) out ≡ deliver (accepted (writeTypes us)) result → called (refused k size) out x ≡ handOver size (accepted us) result x
   unfolding deliver handOver

@@ -26,11 +26,12 @@ digit-glyph d h = go (ltb d 10) refl
 
 -- ---- bytes
 
-abbrev pub Bytes : List ℕ → Type 0
-Bytes [] = Unit {0}
-Bytes (b ∷ s) = (b < 256) × Bytes s
+-- Every element is a byte, as the list goes.
+abbrev pub EachByte : List ℕ → Type 0
+EachByte [] = Unit {0}
+EachByte (b ∷ s) = (b < 256) × EachByte s
 
-areDigits-hexOf : (s : List ℕ) → Bytes s → areDigits 16 (hexOf s) ≡ true
+areDigits-hexOf : (s : List ℕ) → EachByte s → areDigits 16 (hexOf s) ≡ true
 unfolding areDigits hexOf
 areDigits-hexOf [] h = refl
 areDigits-hexOf (b ∷ s) h =
@@ -43,10 +44,10 @@ unfolding hexOf
 length-hexOf [] = refl
 length-hexOf (b ∷ s) = omega (arith, length-hexOf s)
 
-pub isHex-hexOf : (s : List ℕ) → Bytes s → isHex (hexOf s) ≡ true
+pub isHex-hexOf : (s : List ℕ) → EachByte s → isHex (hexOf s) ≡ true
 isHex-hexOf s h = rw (eq-eqb (length (hexOf s) % 2) 0 (omega (arith, length-hexOf s))) (areDigits-hexOf s h)
 
-pub unhex-hexOf : (s : List ℕ) → Bytes s → unhex (hexOf s) ≡ s
+pub unhex-hexOf : (s : List ℕ) → EachByte s → unhex (hexOf s) ≡ s
 unfolding unhex hexOf
 unhex-hexOf [] h = refl
 unhex-hexOf (b ∷ s) h =

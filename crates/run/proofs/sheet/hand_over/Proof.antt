@@ -3,7 +3,7 @@ use mathlib.Core.List.{[], reverse}
 use lib.ListN.{length, length-reverse}
 use Rattle.lent.specs.Written.{delivered}
 use Rattle.stack.specs.StackLaws.{holds-count}
-use Rattle.run.proofs.SheetLaws.{handed-over, not-handed}
+use Rattle.run.proofs.SheetLaws.{handed-count, not-handed}
 use borrow.Author.Needs.{needs}
 use Rattle.run.proofs.sheet.hand_over.Statement.{statement}
 use Rattle.run.proofs.sheet.hand_over.Tie as tie
@@ -29,7 +29,12 @@ same-length c = search needs
 
 -- src/sheet.rt:93:1
 returns : tie.Need-returns
-returns c = λ ts h. let c₁ = holds-count (c .before .before .before .before .before .before .before .before .before .before .args .lengths .now) (c .before .before .before .before .before .before .before .before .before .before .args .count) (c .before .before .before .before .before .before .before .before .before .before .args .scratch .now) h in let c₂ = length-reverse ts in let e : length (reverse ts) ≡ c .before .before .before .before .before .before .before .before .before .before .args .count = c₂ ∙ c₁ in rw (← e) (handed-over (c .before .before .before .before .before .before .before .before .before .before .args .size) (reverse ts) (c .before .before .before .before .before .before .before .before .before .before .args .result .now) (c .before .before .before .before .before .write-types .last .1 .1 .1 .0) [] (sym (ap (λ r. delivered r (c .before .before .before .before .before .write-types .last .1 .1 .1 .0)) (c .before .n .given .1)) ∙ c .before .before .before .before .before .write-types .ensures ts h))
+returns c = λ ts h.
+    let args = c .before .before .before .before .before .before .before .before .before .before .args in
+    let wrote = c .before .before .before .before .before .write-types in
+    let out = wrote .last .1 .1 .1 .0 in
+    let many : length (reverse ts) ≡ args .count = length-reverse ts ∙ holds-count (args .lengths .now) (args .count) (args .scratch .now) h in
+    handed-count (args .size) (reverse ts) (args .result .now) out [] many (sym (ap (λ r. delivered r out) (c .before .n .given .1)) ∙ wrote .ensures ts h)
 
 -- src/sheet.rt:93:1
 same-length-2 : tie.Need-same-length-2
@@ -37,7 +42,11 @@ same-length-2 c = search needs
 
 -- src/sheet.rt:93:1
 returns-2 : tie.Need-returns-2
-returns-2 c = λ ts h. not-handed (c .before .before .before .before .before .before .before .before .before .before .args .size) (reverse ts) (c .before .before .before .before .before .before .before .before .before .before .args .result .now) (c .before .before .before .before .before .write-types .last .1 .1 .1 .0) [] (sym (ap (λ r. delivered r (c .before .before .before .before .before .write-types .last .1 .1 .1 .0)) (c .before .number .given .1)) ∙ c .before .before .before .before .before .write-types .ensures ts h)
+returns-2 c = λ ts h.
+    let args = c .before .before .before .before .before .before .before .before .before .before .args in
+    let wrote = c .before .before .before .before .before .write-types in
+    let out = wrote .last .1 .1 .1 .0 in
+    not-handed (args .size) (reverse ts) (args .result .now) out [] (sym (ap (λ r. delivered r out) (c .before .number .given .1)) ∙ wrote .ensures ts h)
 
 pub hand-over-spec : {M : Type 1} → statement M
 hand-over-spec =

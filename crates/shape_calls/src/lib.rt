@@ -12,8 +12,6 @@ pub use bytes::row_shape;
 pub use bytes::shape_is_any;
 pub use bytes::shape_is_scalar;
 pub use bytes::shape_rank;
-pub use lent::Counted;
-pub use lent::Tested;
 pub use numbers::dim_cmp;
 pub use numbers::dim_cmp_defined;
 pub use numbers::dim_compatible;

@@ -10,7 +10,6 @@ pub use arguments::say_version;
 pub use reading::read_some;
 pub use reading::read_to_end;
 pub use writing::complain;
-pub use writing::write_to_end;
 pub use writing::write_whole;
 
 // What one read or write answered: so many bytes; none, which of a read says that the input has ended; or that it failed.

@@ -6,7 +6,7 @@ ghost use lib.ListN.{length};
 ghost use Rattle.streams.specs.Streams.{Within, ToTheEnd};
 
 // Writes until all is written, or a write takes nothing or fails: a short one is continued.
-pub fn write_to_end(fd: i32, bytes: &[u8]) -> Moved
+fn write_to_end(fd: i32, bytes: &[u8]) -> Moved
     ensures { λ r. ⌜ ToTheEnd (r .count) (r .last) (length (now (bytes .entry))) ⌝ }
 {
     let mut count = 0usize;

@@ -2,7 +2,7 @@
 use crate::words::nth;
 use crate::words::part;
 use limits::UNKNOWN;
-use streams::write_whole;
+use streams::write_out;
 use text::Placed;
 use text::put_bytes;
 use text::put_decimal;
@@ -99,7 +99,9 @@ pub(crate) fn say(answer: Answer, result: &[u8], out: &mut [u8], at: usize) -> u
 
 // Writes what stands in `out` up to `end`. Answers whether all of it could be written.
 pub(crate) fn flush(out: &[u8], end: usize) -> bool {
-    write_whole(part(out, 0, end))
+    let text = part(out, 0, end);
+    let written = write_out(text);
+    written.count == text.len()
 }
 
 fn say_bytes(bytes: &[u8], out: &mut [u8], at: usize) -> usize {

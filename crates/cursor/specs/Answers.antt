@@ -52,7 +52,7 @@ TypeIs (Untyped k p) s at o = o ≡ stopped k p
 
 -- ---- a step
 
--- The step that was read; a type of its is the one whose bytes stand from start to next.
+-- The step that was read; if it has a type, that is the one whose bytes stand from start to next.
 abbrev pub StepIs : StepRead → List ℕ → Read Step → Type 0
 StepIs (APut start next) s o = (t : Ty) × (o ≡ got (put t) next) × Stretch s start next t
 StepIs (ARow next) s o = o ≡ got row next

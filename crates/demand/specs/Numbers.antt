@@ -1,5 +1,5 @@
--- Demand 1, "gets its result or one of thirteen numbered refusals": which of document 01's "Thirteen ways of saying no" each can
--- have, as lists of their names.
+-- Demand 1, "gets its result or one of thirteen numbered refusals": which of document 01's "Thirteen ways of saying no" a record,
+-- a lone type, a sheet and the sheet call can have, as lists of their names.
 use Prim.Native.Nat.{ℕ}
 use mathlib.Core.List.{List, [], _∷_}
 use mathlib.Core.Path.{_≡_}

@@ -1,5 +1,5 @@
--- The numbers of document 01 as they stand there, once: the thirteen refusals, by their table, and the limits of a type. Everything
--- else cites the names.
+-- The numbers of document 01 as they stand there, once: the thirteen refusals, by their table, and the limits of a type (the bytes of
+-- a name: `format`, Examples). Everything else cites the names.
 use Prim.Native.Nat.{ℕ, _-_, _^_}
 use mathlib.Core.List.{List, [], _∷_}
 use mathlib.Core.Path.{_≡_, refl}

@@ -199,6 +199,6 @@ numbersOf (vg-as-dim kind x list t) = ofSize
 numbersOf (vg-as-dims kind x list t sizes) = ofSizesWritten
 numbersOf (vg-check-sheet sheet result scratch) = ofSheetCall
 
--- An answer is no refusal (kind 0), or its number is one of these.
+-- An answer of kind 0, which is a refusal, has one of these numbers.
 abbrev pub Told : List ℕ → Answer → Type 0
 Told ns r = r .kind ≡ 0 → Among ns (r .number)

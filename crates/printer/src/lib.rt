@@ -5,6 +5,7 @@ use report::put_left;
 use report::put_refusal;
 use stack::clear;
 use streams::Answered;
+use streams::Moved;
 use velgrodis::VALUE;
 use velgrodis::vg_check_sheet;
 ghost use mathlib.Core.Path.{_≡_};
@@ -33,24 +34,25 @@ pub enum Printed {
     Unread,
 }
 
-// The text of what reading to the end left in a buffer: so many bytes, and what the last read answered. The buffer is longer than a
-// sheet may be, so that a longer one is told.
+// The text of what reading to the end left in a buffer, told by what that answered: so many bytes, and what the last read said. The
+// buffer is longer than a sheet may be, so that a longer one is told.
 pub fn print_input(
     buf: &[u8],
-    count: usize,
-    last: Answered,
+    read: Moved,
     result: &mut [u8],
     scratch: &mut [u8],
     out: &mut [u8],
 ) -> Printed
     requires { ⌜ programBytes < length (now buf) ⌝ }
-    requires { ⌜ ToTheEnd count last (length (now buf)) ⌝ }
+    requires { ⌜ ToTheEnd (read .count) (read .last) (length (now buf)) ⌝ }
     requires { ⌜ scratchBytes ≤ length (now result) ⌝ }
     requires { ⌜ scratchBytes ≤ length (now scratch) ⌝ }
     requires { ⌜ printRoom ≤ length (now out) ⌝ }
-    ensures { λ r. ⌜ Prints last (now (buf .entry)) count r (now (result .entry)) (now (result .exit)) (now (scratch .entry)) (now (scratch .exit)) (now (out .entry)) (now (out .exit)) ⌝ }
+    ensures { λ r. ⌜ Prints (read .last) (now (buf .entry)) (read .count) r (now (result .entry)) (now (result .exit)) (now (scratch .entry)) (now (scratch .exit)) (now (out .entry)) (now (out .exit)) ⌝ }
     ensures { λ r. ⌜ Inside r (now (out .exit)) ⌝ }
 {
+    let count = read.count;
+    let last = read.last;
     match last {
         Answered::Failed => Printed::Unread,
         _ => Printed::Text(print_sheet(&buf[..count], result, scratch, out)),

@@ -68,8 +68,8 @@ pub data Buffers : Type 0 where
 abbrev pub leaves : Called → Buffers
 leaves (called o result scratch) = buffers result scratch
 
--- The program's check as a call, with the buffers that it lends: a sheet of more bytes than it reads is a refusal like any other, which
--- writes nothing to the result and after which the scratch is zero.
+-- The program's check as a call, with the buffers that it lends, a scratch that is long enough among them: a sheet of more bytes than it
+-- reads is a refusal like any other, which writes nothing to the result and after which the scratch is zero.
 unfoldable pub programCall : List ℕ → List ℕ → List ℕ → Called
 programCall s result scratch =
     cond (ltb programBytes (length s)) (called (refused tooShort 0) result (zeroed scratch)) (sheetCall s result scratch)

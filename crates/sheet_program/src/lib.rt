@@ -10,7 +10,7 @@ use streams::complain;
 use streams::read_argument;
 use streams::read_to_end;
 use streams::say_version;
-use streams::write_whole;
+use streams::write_out;
 
 // With an argument nothing is read, so that nobody takes its answer for that of a file named there.
 pub fn run() {
@@ -46,9 +46,7 @@ fn check_input() {
     let mut scratch = [0u8; SCRATCH_BYTES];
     let mut out = [0u8; TEXT];
     let read = read_to_end(&mut sheet);
-    let count = read.count;
-    let last = read.last;
-    let printed = print_input(&sheet, count, last, &mut result, &mut scratch, &mut out);
+    let printed = print_input(&sheet, read, &mut result, &mut scratch, &mut out);
     match printed {
         Printed::Text(n) => hand_out(&out[..n]),
         Printed::Unread => complain(
@@ -58,7 +56,8 @@ fn check_input() {
 }
 
 fn hand_out(text: &[u8]) {
-    if !write_whole(text) {
+    let written = write_out(text);
+    if written.count < text.len() {
         complain(b"sheet: the answer could not be written whole to standard output.\n");
     }
 }

@@ -1,5 +1,5 @@
-// The standard streams of a program, and its first argument. What a read or a write answered is kept, so that a program cannot take
-// a failed one for the end, or a part for all.
+// The standard streams of a program, and its first argument. What a read or a write answered is kept, so that a program can tell a
+// failed one from the end, and a part from all.
 mod arguments;
 mod reading;
 mod told;
@@ -10,7 +10,7 @@ pub use arguments::say_version;
 pub use reading::read_some;
 pub use reading::read_to_end;
 pub use writing::complain;
-pub use writing::write_whole;
+pub use writing::write_out;
 
 // What one read or write answered: so many bytes; none, which of a read says that the input has ended; or that it failed.
 pub enum Answered {

@@ -21,10 +21,11 @@ fn write_to_end(fd: i32, bytes: &[u8]) -> Moved
     Moved { count, last }
 }
 
-// All of a text to standard output, or false: then some of it may be written, and the rest is not.
-pub fn write_whole(text: &[u8]) -> bool {
-    let written = write_to_end(libc::STDOUT_FILENO, text);
-    written.count == text.len()
+// To standard output.
+pub fn write_out(text: &[u8]) -> Moved
+    ensures { λ r. ⌜ ToTheEnd (r .count) (r .last) (length (now (text .entry))) ⌝ }
+{
+    write_to_end(libc::STDOUT_FILENO, text)
 }
 
 // A sentence on standard error. If it cannot be written there is nowhere left to say so.

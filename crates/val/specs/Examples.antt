@@ -1,14 +1,14 @@
 -- Examples of values, beside the paper's cases (crate `cases`): what it and the Rust say of the corners, and the row of a list's type.
 -- Each holds by computation.
 use mathlib.Core.List.{List, [], _∷_}
-use mathlib.Core.Option.{none}
+use mathlib.Core.Option.{none, some}
 use mathlib.Core.Path.{_≡_, refl}
 use lib.Ieee.{Float, nan}
-use Rattle.model.specs.Refusals.{outOfRange, oversized}
+use Rattle.model.specs.Refusals.{outOfRange, oversized, notASize}
 use Rattle.model.specs.Types.{Dim, static, unknown}
 use Rattle.format.specs.Outcome.{accepted, refused}
 use Rattle.number.specs.Sizes.{sizesFrom}
-use Rattle.number.specs.Examples.{minusZero, half, one, two, three, huge, infinity, eightOnes}
+use Rattle.number.specs.Examples.{minusZero, half, one, two, three, huge, infinity, minusInfinity, eightOnes}
 use Rattle.rules.specs.Shapes.{rowShape}
 use Rattle.rules.specs.Types.{rowScalar, rowBy, intoRow, intoFirstRow, intoLastRow}
 use Rattle.val.specs.Values.{number, numbers, numTy, numbersTy, lengthDim, valueTy, anySized, valueSpec, valueAsDim, valueAsDims, rowNumber, rowTyped, listRow, listFirst, listLast, valueRow, valueFirstRow, valueLastRow}
@@ -19,6 +19,11 @@ use Rattle.val.specs.Values.{number, numbers, numTy, numbersTy, lengthDi
 pub a-number : (valueTy (number nan) ≡ accepted numTy) × (valueSpec (number three) ≡ accepted (anySized (static 3 ∷ []))) × (valueSpec (number infinity) ≡ accepted (anySized (unknown ∷ [])))
 unfolding valueTy valueSpec
 a-number = (refl, refl, refl)
+
+-- minus infinity is refused by `spec`, and ? for `as_dim` (case (g))
+pub minus-infinity : (valueSpec (number minusInfinity) ≡ refused notASize 0) × (valueAsDim (number minusInfinity) ≡ accepted (some unknown))
+unfolding valueSpec valueAsDim
+minus-infinity = (refl, refl)
 
 pub a-list : (valueTy (numbers (nan ∷ two ∷ [])) ≡ accepted (numbersTy (static 2))) × (valueSpec (numbers (two ∷ minusZero ∷ [])) ≡ accepted (anySized (static 2 ∷ static 0 ∷ [])))
 unfolding valueTy lengthDim valueSpec sizesFrom

@@ -1,14 +1,14 @@
 -- The numbers by which a host says what it means and is answered, as numerals, in the order of include/velgrodis.h.
 use Prim.Native.Nat.{ℕ}
 use mathlib.Core.Bool.{true, false}
-use mathlib.Core.List.{List, []}
-use mathlib.Core.Option.{none, some}
+use mathlib.Core.List.{List}
+use mathlib.Core.Option.{none}
 use mathlib.Core.Path.{_≡_, refl}
 use lib.Ieee.{Float}
-use Rattle.model.specs.Types.{static, unknown}
-use Rattle.format.specs.Outcome.{Outcome, accepted, refused, mapped, lone}
+use Rattle.model.specs.Types.{unknown}
+use Rattle.format.specs.Outcome.{accepted, refused, mapped, lone}
 use Rattle.rules.specs.Sizes.{less, same, more}
-use Rattle.validation.specs.CheckShape.{Side, unsided, left, right}
+use Rattle.validation.specs.CheckShape.{unsided, left, right}
 use Rattle.shape_calls.specs.Calls.{pervadeCall}
 use Rattle.val.specs.Values.{number, numbers, typed}
 use Rattle.velgrodis.specs.declared.Answer.{Answer}

@@ -2,7 +2,6 @@
 -- made of. A law for each form that the exports answer.
 use Prim.Native.Nat.{ℕ}
 use mathlib.Core.Bool.{Bool, true, false, cond}
-use mathlib.Core.List.{List}
 use mathlib.Core.Option.{Option, none, some}
 use mathlib.Core.Path.{_≡_, refl}
 use lib.Dec.{eqb}
@@ -13,8 +12,8 @@ use Rattle.rules.specs.Sizes.{Order, less, same, more}
 use Rattle.rules.specs.Types.{Stretch, stretch}
 use Rattle.ty.specs.Calls.{Given, given}
 use Rattle.val.specs.Values.{RowDelivery, handed as rowNumber, written as rowWritten}
-use Rattle.machine.specs.Call.{Tally, tally, Called, called}
-use Rattle.velgrodis.specs.Answers.{answered, orNothing, dimmed, counted, tested, sized, sizedOrNone, compared, found, Handed, handed, written, listed, RowHanded, rowHanded, rowed, Returned, returned, checked}
+use Rattle.machine.specs.Call.{tally, Called, called}
+use Rattle.velgrodis.specs.Answers.{counted, tested, sized, sizedOrNone, compared, found, Handed, handed, written, listed, RowHanded, rowHanded, rowed, Returned, returned, checked}
 use Rattle.format.specs.ReadWrite.{dim-number}
 use Rattle.velgrodis.specs.declared.Answer.{Answer}
 

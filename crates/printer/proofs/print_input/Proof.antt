@@ -20,7 +20,7 @@ print-sheet-requires c κs = search needs
 returns : tie.Need-returns
 returns c =
     let args = c .before .before .before .before .before .before .args in
-    (prints-nothing _ _ _ _ _ (args .last) (c .before .match .keys1), tt)
+    (prints-nothing _ _ _ _ _ (args .read .last) (c .before .match .keys1), tt)
 
 same-length : tie.Need-same-length
 same-length c = search needs
@@ -36,7 +36,7 @@ returns-2 c =
     let entry = c .before .before .before .before .before .before .before .before .before .before .before .before .before .before .before .before in
     let text = c .before .before .before .before .before .before .print-sheet .ensures in
     let unfailed = c .before .before .before .before .before .before .before .before .before .before .before .match .keys2 in
-    (prints-text _ _ _ _ _ _ _ _ (entry .pre .0) (text .0 .0) (text .1) (entry .args .last) unfailed (entry .pre .1 .0), (text .0 .1, sym (length-take-le _ _ (text .0 .1))))
+    (prints-text _ _ _ _ _ _ _ _ (entry .pre .0) (text .0 .0) (text .1) (entry .args .read .last) unfailed (entry .pre .1 .0), (text .0 .1, sym (length-take-le _ _ (text .0 .1))))
 
 pub print-input-spec : {M : Type 1} → statement M
 print-input-spec =

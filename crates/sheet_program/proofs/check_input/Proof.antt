@@ -40,12 +40,12 @@ enum-known-printed c = search needs
 array-share-prefix-out : tie.Need-array-share-prefix-out
 array-share-prefix-out c =
     let call = c .before .before .before .before .before .before .print-input in
-    text-inside (call .last .1 .1 .1 .1 .1 .0) (c .before .printed .given .1) (call .ensures .1) .0
+    text-inside (call .last .1 .1 .1 .1 .0) (c .before .printed .given .1) (call .ensures .1) .0
 
 slice-aggregate-hand-out : tie.Need-slice-aggregate-hand-out
 slice-aggregate-hand-out c =
     let call = c .before .before .before .before .before .before .before .print-input in
-    text-inside (call .last .1 .1 .1 .1 .1 .0) (c .before .before .printed .given .1) (call .ensures .1) .1
+    text-inside (call .last .1 .1 .1 .1 .0) (c .before .before .printed .given .1) (call .ensures .1) .1
 
 hand-out-requires : tie.Need-hand-out-requires
 hand-out-requires c κs = search needs

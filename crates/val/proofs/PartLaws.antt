@@ -62,13 +62,13 @@ module _ (xs : List Float) {r : Counted} (e : countedDim r ≡ lengthDim xs) whe
 -- ---- specs
 
 module _ (x : Float) {r : Sized} (e : sizeOutcome r ≡ listedDim x) where
-  pub spec-sized : {n : ℕ} {ds : List Dim} → r ≡ Size n → ds ≡ dimOf n ∷ [] → mapped writeTy (valueSpec (number x)) ≡ accepted (closedRecord ds 9)
-  unfolding valueSpec
-  spec-sized h l = ap (λ o. mapped writeTy (mapped anyOfSize o)) (alone-sized e h) ∙ ap accepted (write-closed _ any ∙ written-any _ ∙ ap (λ d. closedRecord d 9) (sym l))
-
   pub spec-unsized : {k : ℕ} → r ≡ Refused k → mapped writeTy (valueSpec (number x)) ≡ refused k 0
   unfolding valueSpec
   spec-unsized h = ap (λ o. mapped writeTy (mapped anyOfSize o)) (alone-refused e h)
+
+  pub spec-sized : {n : ℕ} {ds : List Dim} → r ≡ Size n → ds ≡ dimOf n ∷ [] → mapped writeTy (valueSpec (number x)) ≡ accepted (closedRecord ds 9)
+  unfolding valueSpec
+  spec-sized h l = ap (λ o. mapped writeTy (mapped anyOfSize o)) (alone-sized e h) ∙ ap accepted (write-closed _ any ∙ written-any _ ∙ ap (λ d. closedRecord d 9) (sym l))
 
 module _ (xs : List Float) (list : List ℕ) {r : Answer} (e : answerOutcome r list ≡ listedDims xs) where
   pub spec-listed : {n : ℕ} → r ≡ Count n → mapped writeTy (valueSpec (numbers xs)) ≡ accepted (closedRecord (map dimOf (take n list)) 9)

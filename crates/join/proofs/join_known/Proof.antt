@@ -36,7 +36,9 @@ join-requires c κs = search needs
 
 -- src/lib.rt:42:5
 write-union-requires : tie.Need-write-union-requires
-write-union-requires c κs = c .before .before .before .before .before .before .before .pre
+write-union-requires c κs =
+    let entry = c .before .before .before .before .before .before .before in
+    entry .pre
 
 -- src/lib.rt:37:1
 same-length : tie.Need-same-length
@@ -45,7 +47,14 @@ same-length c = search needs
 -- src/lib.rt:37:1
 returns : tie.Need-returns
 unfolding joinTypes
-returns c = c .before .before .write-union .ensures ∙ ap (λ o. deliver o (c .before .before .before .before .before .before .before .before .before .before .args .result .now)) (sym (by-scalars (lone (c .before .before .before .before .before .before .before .before .before .before .args .a .now)) (lone (c .before .before .before .before .before .before .before .before .before .before .args .b .now)) (c .before .before .before .before .before .before .lone-shape .ensures) (c .before .before .before .before .before .lone-shape2 .ensures) (λ t u. accepted (writeTy (joinTypes t u))) (λ k l. accepted (writeTy (ty (shapeFor (c .before .before .before .before .join .result)) (union k l)))) (λ k l. ap (λ s. accepted (writeTy (ty s (union k l)))) (sym (c .before .before .before .before .join .ensures)))))
+returns c =
+    let entry = c .before .before .before .before .before .before .before .before .before .before in
+    let at-lone-shape = c .before .before .before .before .before .before in
+    let at-lone-shape2 = c .before .before .before .before .before in
+    let at-join = c .before .before .before .before in
+    let at-write-union = c .before .before in
+    let args = entry .args in
+    at-write-union .write-union .ensures ∙ ap (λ o. deliver o (args .result .now)) (sym (by-scalars (lone (args .a .now)) (lone (args .b .now)) (at-lone-shape .lone-shape .ensures) (at-lone-shape2 .lone-shape2 .ensures) (λ t u. accepted (writeTy (joinTypes t u))) (λ k l. accepted (writeTy (ty (shapeFor (at-join .join .result)) (union k l)))) (λ k l. ap (λ s. accepted (writeTy (ty s (union k l)))) (sym (at-join .join .ensures)))))
 
 pub join-known-spec : {M : Type 1} → statement M
 join-known-spec =

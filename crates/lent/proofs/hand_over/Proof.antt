@@ -19,7 +19,11 @@ same-length : tie.Need-same-length
 same-length c = search needs
 
 returns-2 : tie.Need-returns-2
-returns-2 c = ap (delivery (accepted (length (c .before .before .before .before .before .before .before .args .src .now)))) (c .before .before .lay .ensures) ∙ sym (deliver-fits _ refl (c .before .before .before .before .if1 .left))
+returns-2 c =
+    let entry = c .before .before .before .before .before .before .before in
+    let at-if1 = c .before .before .before .before in
+    let at-lay = c .before .before in
+    ap (delivery (accepted (length (entry .args .src .now)))) (at-lay .lay .ensures) ∙ sym (deliver-fits _ refl (at-if1 .if1 .left))
 
 pub hand-over-spec : {M : Type 1} → statement M
 hand-over-spec = tie.close (tie.spec returns lay-requires same-length returns-2)

@@ -37,13 +37,23 @@ loop-less : tie.Need-loop-less Inv-loop μ-loop
 loop-less c = search needs
 
 loop-again : tie.Need-loop-again Inv-loop μ-loop
-loop-again c = (omega arith, search needs, ap (λ (d : List ℕ). set d (c .before .before .before .args .at + c .before .before .loop .i) (getD (c .before .before .before .args .src .now) (c .before .before .loop .i) 0)) (c .before .before .loop .inv .2) ∙ rw add-one (paste-suc (c .before .before .before .args .dst .now) (c .before .before .before .args .at) (c .before .before .before .args .src .now) (c .before .before .loop .i) 0 (omega arith) (omega arith)))
+loop-again c =
+    let entry = c .before .before .before in
+    let at-loop = c .before .before in
+    let args = entry .args in
+    (omega arith, search needs, ap (λ (d : List ℕ). set d (args .at + at-loop .loop .i) (getD (args .src .now) (at-loop .loop .i) 0)) (at-loop .loop .inv .2) ∙ rw add-one (paste-suc (args .dst .now) (args .at) (args .src .now) (at-loop .loop .i) 0 (omega arith) (omega arith)))
 
 same-length : tie.Need-same-length Inv-loop μ-loop
 same-length c = c .before .loop .inv .1
 
 returns : tie.Need-returns Inv-loop μ-loop
-returns c = let s = c .before .before .args .src .now in let d = c .before .before .args .dst .now in let e : c .before .loop .i ≡ length s = omega arith in c .before .loop .inv .2 ∙ ap (λ (k : ℕ). paste d (c .before .before .args .at) s k) e ∙ ap (λ x. take (c .before .before .args .at) d ++ x ++ drop (c .before .before .args .at + length s) d) (take-length s)
+returns c =
+    let entry = c .before .before in
+    let args = entry .args in
+    let s = args .src .now in
+    let d = args .dst .now in
+    let e : c .before .loop .i ≡ length s = omega arith in
+    c .before .loop .inv .2 ∙ ap (λ (k : ℕ). paste d (args .at) s k) e ∙ ap (λ x. take (args .at) d ++ x ++ drop (args .at + length s) d) (take-length s)
 
 pub lay-spec : {M : Type 1} → statement M
 lay-spec =

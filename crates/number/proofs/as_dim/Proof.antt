@@ -12,7 +12,9 @@ enum-told : tie.Need-enum-told
 enum-told c = search needs
 
 returns : tie.Need-returns
-returns c = infinite-unknown (c .before .before .before .args .x) (c .enum-told .given .0 .0) cc
+returns c =
+    let entry = c .before .before .before in
+    infinite-unknown (entry .args .x) (c .enum-told .given .0 .0) cc
 
 listed-dim-requires : tie.Need-listed-dim-requires
 listed-dim-requires c κs = search needs

@@ -19,7 +19,9 @@ returns-2 c =
     simp (ne-eqb (magnitude x) 0 (some-magnitude x (s .args .negative) (s .pre) (c .before .if1 .left)), c .if2 .taken)
 
 float-to-int-t4 : tie.Need-float-to-int-t4
-float-to-int-t4 c = let s = c .before .before .before in may-cast (s .args .x) (rw (c .before .if2 .left) at (s .pre))
+float-to-int-t4 c =
+    let s = c .before .before .before in
+    may-cast (s .args .x) (rw (c .before .if2 .left) at (s .pre))
 
 returns-3 : tie.Need-returns-3
 returns-3 c =

@@ -6,16 +6,24 @@ use Rattle.number.proofs.classify_bits.Statement.{statement}
 use Rattle.number.proofs.classify_bits.Tie as tie
 
 returns : tie.Need-returns
-returns c = bits-infinite (c .before .before .args .bits) (c .before .if1 .taken) (c .if2 .taken)
+returns c =
+    let entry = c .before .before in
+    bits-infinite (entry .args .bits) (c .before .if1 .taken) (c .if2 .taken)
 
 returns-2 : tie.Need-returns-2
-returns-2 c = bits-nan (c .before .before .args .bits) (c .before .if1 .taken) (c .if2 .left)
+returns-2 c =
+    let entry = c .before .before in
+    bits-nan (entry .args .bits) (c .before .if1 .taken) (c .if2 .left)
 
 returns-3 : tie.Need-returns-3
-returns-3 c = bits-zero (c .before .before .before .args .bits) (c .before .if3 .taken) (c .if4 .taken)
+returns-3 c =
+    let entry = c .before .before .before in
+    bits-zero (entry .args .bits) (c .before .if3 .taken) (c .if4 .taken)
 
 returns-4 : tie.Need-returns-4
-returns-4 c = bits-tiny (c .before .before .before .args .bits) (c .before .if3 .taken) (c .if4 .left)
+returns-4 c =
+    let entry = c .before .before .before in
+    bits-tiny (entry .args .bits) (c .before .if3 .taken) (c .if4 .left)
 
 add-classify-normal : tie.Need-add-classify-normal
 add-classify-normal c = search needs

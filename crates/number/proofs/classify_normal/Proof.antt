@@ -17,7 +17,10 @@ shl-one : tie.Need-shl-one
 shl-one c = search needs
 
 rem-if3 : tie.Need-rem-if3
-rem-if3 c = let n = 1075 - c .before .before .args .exponent in rw (shifted n (omega arith)) (pow-pos n)
+rem-if3 c =
+    let entry = c .before .before in
+    let n = 1075 - entry .args .exponent in
+    rw (shifted n (omega arith)) (pow-pos n)
 
 returns-2 : tie.Need-returns-2
 returns-2 c =

@@ -25,7 +25,9 @@ returns c =
     (c .refuse-dims .ensures .0 ∙ sym many, omega arith)
 
 loop-holds : tie.Need-loop-holds Inv-loop μ-loop
-loop-holds c = (search needs, search needs, walk-starts (c .before .before .args .xs .now) [])
+loop-holds c =
+    let entry = c .before .before in
+    (search needs, search needs, walk-starts (entry .args .xs .now) [])
 
 mul-listed-dim : tie.Need-mul-listed-dim Inv-loop μ-loop
 mul-listed-dim c =

@@ -12,7 +12,9 @@ enum-told : tie.Need-enum-told
 enum-told c = search needs
 
 slice-aggregate-print-sheet : tie.Need-slice-aggregate-print-sheet
-slice-aggregate-print-sheet c = sym (length-take-le _ _ (c .before .before .before .before .before .before .pre .1 .0 .inside))
+slice-aggregate-print-sheet c =
+    let entry = c .before .before .before .before .before .before in
+    sym (length-take-le _ _ (entry .pre .1 .0 .inside))
 
 print-sheet-requires : tie.Need-print-sheet-requires
 print-sheet-requires c κs = search needs

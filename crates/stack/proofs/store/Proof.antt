@@ -32,7 +32,12 @@ same-length-2 c = search needs
 
 -- src/lib.rt:47:1
 returns : tie.Need-returns
-returns c = λ count ts t there h v e. rw (c .before .before .lay .ensures) (stored (c .before .before .before .before .before .before .before .args .lengths .now) count (c .before .before .before .before .before .before .before .args .scratch .now) (c .before .before .before .before .before .before .before .args .k) (c .before .before .before .before .before .before .before .args .ty .now) (c .before .before .before .before .before .before .before .pre .0) there ts t h v e (c .before .before .before .before .before .before .before .pre .1))
+returns c =
+    let entry = c .before .before .before .before .before .before .before in
+    let at-lay = c .before .before in
+    let args = entry .args in
+    λ count ts t there h v e.
+    rw (at-lay .lay .ensures) (stored (args .lengths .now) count (args .scratch .now) (args .k) (args .ty .now) (entry .pre .0) there ts t h v e (entry .pre .1))
 
 pub store-spec : {M : Type 1} → statement M
 store-spec =

@@ -11,7 +11,10 @@ shape-known-requires c κs = type-shaped (c .before .args .s .now) (c .before .a
 
 -- src/lib.rt:71:1
 returns : tie.Need-returns
-returns c = λ d t h. shape-is (c .before .before .args .s .now) (c .before .before .args .at) d (c .shape-known .result) (c .shape-known .ensures) t h
+returns c =
+    let entry = c .before .before in
+    let args = entry .args in
+    λ d t h. shape-is (args .s .now) (args .at) d (c .shape-known .result) (c .shape-known .ensures) t h
 
 pub shape-at-spec : {M : Type 1} → statement M
 shape-at-spec = tie.close (tie.spec shape-known-requires returns)

@@ -21,7 +21,10 @@ cast-result-2 : tie.Need-cast-result-2
 cast-result-2 c = search needs
 
 returns-2 : tie.Need-returns-2
-returns-2 c = c .size-count .ensures .0 ∙ sym (ap countOf (open-is (c .before .before .before .args .shape) (c .before .before .if1 .left)))
+returns-2 c =
+    let entry = c .before .before .before in
+    let at-if1 = c .before .before in
+    c .size-count .ensures .0 ∙ sym (ap countOf (open-is (entry .args .shape) (at-if1 .if1 .left)))
 
 pub closing-count-spec : {M : Type 1} → statement M
 closing-count-spec =

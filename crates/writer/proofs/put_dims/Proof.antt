@@ -22,7 +22,10 @@ size-count-requires : tie.Need-size-count-requires Inv-loop μ-loop
 size-count-requires c κs = search needs
 
 loop-holds : tie.Need-loop-holds Inv-loop μ-loop
-loop-holds c = (search needs, search needs, search needs, lay-none (c .before .before .args .out .now) (c .before .before .args .start) (c .before .before .args .t3 .sizes) (c .before .before .args .t3 .count))
+loop-holds c =
+    let entry = c .before .before in
+    let args = entry .args in
+    (search needs, search needs, search needs, lay-none (args .out .now) (args .start) (args .t3 .sizes) (args .t3 .count))
 
 mul-put-number : tie.Need-mul-put-number Inv-loop μ-loop
 mul-put-number c = search needs
@@ -43,13 +46,27 @@ loop-less : tie.Need-loop-less Inv-loop μ-loop
 loop-less c = search needs
 
 loop-again : tie.Need-loop-again Inv-loop μ-loop
-loop-again c = let n : c .before .before .before .before .before .before .before .size-count .result ≡ length (dimsOf (c .before .before .before .before .before .before .before .before .before .args .t3)) = c .before .before .before .before .before .before .before .size-count .ensures .0 in let h : c .before .before .before .before .before .before .loop .i < length (dimsOf (c .before .before .before .before .before .before .before .before .before .args .t3)) = omega arith in (omega arith, omega arith, c .before .before .put-number .kept .0 ∙ c .before .before .before .before .before .before .loop .inv .2, c .before .before .put-number .ensures ∙ lay-more (c .before .before .before .before .before .before .before .before .before .args .out .now) (c .before .before .before .before .before .before .before .before .before .args .start) (c .before .before .before .before .before .before .before .before .before .args .t3 .sizes) (c .before .before .before .before .before .before .before .before .before .args .t3 .count) (c .before .before .before .before .before .before .loop .out) (c .before .before .before .before .before .before .loop .i) (c .before .before .before .before .before .before .loop .at) h (c .before .before .before .before .before .before .before .before .before .pre) (c .before .before .before .before .before .before .loop .inv .1) (c .before .before .before .before .before .before .loop .inv .3))
+loop-again c =
+    let entry = c .before .before .before .before .before .before .before .before .before in
+    let at-size-count = c .before .before .before .before .before .before .before in
+    let at-loop = c .before .before .before .before .before .before in
+    let at-put-number = c .before .before in
+    let args = entry .args in
+    let n : at-size-count .size-count .result ≡ length (dimsOf (args .t3)) = at-size-count .size-count .ensures .0 in
+    let h : at-loop .loop .i < length (dimsOf (args .t3)) = omega arith in
+    (omega arith, omega arith, at-put-number .put-number .kept .0 ∙ at-loop .loop .inv .2, at-put-number .put-number .ensures ∙ lay-more (args .out .now) (args .start) (args .t3 .sizes) (args .t3 .count) (at-loop .loop .out) (at-loop .loop .i) (at-loop .loop .at) h (entry .pre) (at-loop .loop .inv .1) (at-loop .loop .inv .3))
 
 same-length : tie.Need-same-length Inv-loop μ-loop
 same-length c = c .before .loop .inv .2
 
 returns : tie.Need-returns Inv-loop μ-loop
-returns c = let n : c .before .before .size-count .result ≡ length (dimsOf (c .before .before .before .before .args .t3)) = c .before .before .size-count .ensures .0 in let e : c .before .loop .i ≡ length (dimsOf (c .before .before .before .before .args .t3)) = omega arith in (omega arith, lay-all (c .before .before .before .before .args .out .now) (c .before .before .before .before .args .start) (c .before .before .before .before .args .t3 .sizes) (c .before .before .before .before .args .t3 .count) (c .before .loop .out) (c .before .loop .i) e (c .before .loop .inv .3))
+returns c =
+    let entry = c .before .before .before .before in
+    let at-size-count = c .before .before in
+    let args = entry .args in
+    let n : at-size-count .size-count .result ≡ length (dimsOf (args .t3)) = at-size-count .size-count .ensures .0 in
+    let e : c .before .loop .i ≡ length (dimsOf (args .t3)) = omega arith in
+    (omega arith, lay-all (args .out .now) (args .start) (args .t3 .sizes) (args .t3 .count) (c .before .loop .out) (c .before .loop .i) e (c .before .loop .inv .3))
 
 pub put-dims-spec : {M : Type 1} → statement M
 put-dims-spec =

@@ -25,28 +25,57 @@ cast-put-head : tie.Need-cast-put-head
 cast-put-head c = search needs
 
 put-head-requires : tie.Need-put-head-requires
-put-head-requires c κs = omega (arith, length-record (dimsOf (c .before .before .before .before .before .args .shape .dims)) (closingFor (c .before .before .before .before .before .args .shape)), c .before .before .before .before .before .pre)
+put-head-requires c κs =
+    let entry = c .before .before .before .before .before in
+    let args = entry .args in
+    omega (arith, length-record (dimsOf (args .shape .dims)) (closingFor (args .shape)), entry .pre)
 
 add-put-dims : tie.Need-add-put-dims
 add-put-dims c = search needs
 
 put-dims-requires : tie.Need-put-dims-requires
-put-dims-requires c κs = omega (arith, length-record (dimsOf (c .before .before .before .before .before .before .before .before .before .args .shape .dims)) (closingFor (c .before .before .before .before .before .before .before .before .before .args .shape)), c .before .before .before .before .before .before .before .before .before .pre, c .before .before .before .put-head .kept .0)
+put-dims-requires c κs =
+    let entry = c .before .before .before .before .before .before .before .before .before in
+    let at-put-head = c .before .before .before in
+    let args = entry .args in
+    omega (arith, length-record (dimsOf (args .shape .dims)) (closingFor (args .shape)), entry .pre, at-put-head .put-head .kept .0)
 
 same-length : tie.Need-same-length
 same-length c = search needs
 
 returns : tie.Need-returns
-returns c = (omega (arith, length-record (dimsOf (c .before .before .before .before .before .before .before .before .before .before .before .before .before .args .shape .dims)) (closingFor (c .before .before .before .before .before .before .before .before .before .before .before .before .before .args .shape)), ap (λ x. length (listOf x)) (closed-is (c .before .before .before .before .before .before .before .before .before .before .before .before .before .args .shape) (c .if1 .taken)), c .before .before .before .put-dims .ensures .0), lay-closed (c .before .before .before .before .before .before .before .before .before .before .before .before .before .args .out .now) (c .before .before .before .before .before .before .before .before .before .before .before .before .before .args .at) (dimsOf (c .before .before .before .before .before .before .before .before .before .before .before .before .before .args .shape .dims)) (closingFor (c .before .before .before .before .before .before .before .before .before .before .before .before .before .args .shape)) (c .before .before .before .before .before .before .before .before .before .before .before .before .before .pre) (c .before .before .before .before .before .before .before .before .size-count .ensures .0) (c .before .before .before .before .before .before .before .before .before .before .closing-count .ensures) (closed-is (c .before .before .before .before .before .before .before .before .before .before .before .before .before .args .shape) (c .if1 .taken)) (c .before .before .before .before .before .before .before .put-head .ensures) (c .before .before .before .put-dims .ensures .1))
+returns c =
+    let entry = c .before .before .before .before .before .before .before .before .before .before .before .before .before in
+    let at-closing-count = c .before .before .before .before .before .before .before .before .before .before in
+    let at-size-count = c .before .before .before .before .before .before .before .before in
+    let at-put-head = c .before .before .before .before .before .before .before in
+    let at-put-dims = c .before .before .before in
+    let args = entry .args in
+    (omega (arith, length-record (dimsOf (args .shape .dims)) (closingFor (args .shape)), ap (λ x. length (listOf x)) (closed-is (args .shape) (c .if1 .taken)), at-put-dims .put-dims .ensures .0), lay-closed (args .out .now) (args .at) (dimsOf (args .shape .dims)) (closingFor (args .shape)) (entry .pre) (at-size-count .size-count .ensures .0) (at-closing-count .closing-count .ensures) (closed-is (args .shape) (c .if1 .taken)) (at-put-head .put-head .ensures) (at-put-dims .put-dims .ensures .1))
 
 put-dims-requires-2 : tie.Need-put-dims-requires-2
-put-dims-requires-2 c κs = omega (arith, length-record (dimsOf (c .before .before .before .before .before .before .before .before .before .before .before .before .before .before .before .args .shape .dims)) (closingFor (c .before .before .before .before .before .before .before .before .before .before .before .before .before .before .before .args .shape)), ap (λ x. length (listOf x)) (open-is (c .before .before .before .before .before .before .before .before .before .before .before .before .before .before .before .args .shape) (c .before .before .if1 .left)), c .before .before .before .before .before .before .before .before .before .before .before .before .before .before .before .pre, c .before .before .before .before .before .before .before .before .before .put-head .kept .0, c .before .before .before .before .before .put-dims .kept .0, c .before .before .before .before .before .put-dims .ensures .0)
+put-dims-requires-2 c κs =
+    let entry = c .before .before .before .before .before .before .before .before .before .before .before .before .before .before .before in
+    let at-put-head = c .before .before .before .before .before .before .before .before .before in
+    let at-put-dims = c .before .before .before .before .before in
+    let at-if1 = c .before .before in
+    let args = entry .args in
+    omega (arith, length-record (dimsOf (args .shape .dims)) (closingFor (args .shape)), ap (λ x. length (listOf x)) (open-is (args .shape) (at-if1 .if1 .left)), entry .pre, at-put-head .put-head .kept .0, at-put-dims .put-dims .kept .0, at-put-dims .put-dims .ensures .0)
 
 same-length-2 : tie.Need-same-length-2
 same-length-2 c = search needs
 
 returns-2 : tie.Need-returns-2
-returns-2 c = (omega (arith, length-record (dimsOf (c .before .before .before .before .before .before .before .before .before .before .before .before .before .before .before .before .before .before .args .shape .dims)) (closingFor (c .before .before .before .before .before .before .before .before .before .before .before .before .before .before .before .before .before .before .args .shape)), ap (λ x. length (listOf x)) (open-is (c .before .before .before .before .before .before .before .before .before .before .before .before .before .before .before .before .before .before .args .shape) (c .before .before .before .before .before .if1 .left)), c .before .before .before .before .before .before .before .before .put-dims .ensures .0, c .before .before .put-dims2 .ensures .0), lay-open (c .before .before .before .before .before .before .before .before .before .before .before .before .before .before .before .before .before .before .args .out .now) (c .before .before .before .before .before .before .before .before .before .before .before .before .before .before .before .before .before .before .args .at) (dimsOf (c .before .before .before .before .before .before .before .before .before .before .before .before .before .before .before .before .before .before .args .shape .dims)) (closingFor (c .before .before .before .before .before .before .before .before .before .before .before .before .before .before .before .before .before .before .args .shape)) (c .before .before .before .before .before .before .before .before .before .before .before .before .before .before .before .before .before .before .pre) (c .before .before .before .before .before .before .before .before .before .before .before .before .before .size-count .ensures .0) (c .before .before .before .before .before .before .before .before .before .before .before .before .before .before .before .closing-count .ensures) (open-is (c .before .before .before .before .before .before .before .before .before .before .before .before .before .before .before .before .before .before .args .shape) (c .before .before .before .before .before .if1 .left)) (c .before .before .before .before .before .before .before .before .put-dims .ensures .0) (c .before .before .before .before .before .before .before .before .before .before .before .before .put-head .ensures) (c .before .before .before .before .before .before .before .before .put-dims .ensures .1) (c .before .before .put-dims2 .ensures .1))
+returns-2 c =
+    let entry = c .before .before .before .before .before .before .before .before .before .before .before .before .before .before .before .before .before .before in
+    let at-closing-count = c .before .before .before .before .before .before .before .before .before .before .before .before .before .before .before in
+    let at-size-count = c .before .before .before .before .before .before .before .before .before .before .before .before .before in
+    let at-put-head = c .before .before .before .before .before .before .before .before .before .before .before .before in
+    let at-put-dims = c .before .before .before .before .before .before .before .before in
+    let at-if1 = c .before .before .before .before .before in
+    let at-put-dims2 = c .before .before in
+    let args = entry .args in
+    (omega (arith, length-record (dimsOf (args .shape .dims)) (closingFor (args .shape)), ap (λ x. length (listOf x)) (open-is (args .shape) (at-if1 .if1 .left)), at-put-dims .put-dims .ensures .0, at-put-dims2 .put-dims2 .ensures .0), lay-open (args .out .now) (args .at) (dimsOf (args .shape .dims)) (closingFor (args .shape)) (entry .pre) (at-size-count .size-count .ensures .0) (at-closing-count .closing-count .ensures) (open-is (args .shape) (at-if1 .if1 .left)) (at-put-dims .put-dims .ensures .0) (at-put-head .put-head .ensures) (at-put-dims .put-dims .ensures .1) (at-put-dims2 .put-dims2 .ensures .1))
 
 pub put-shape-spec : {M : Type 1} → statement M
 put-shape-spec =

@@ -22,7 +22,11 @@ add-start : tie.Need-add-start
 add-start c = search needs
 
 returns : tie.Need-returns
-returns c = let d = c .before .before .before .args .shape in let e : length (listOf (closingFor d)) ≡ 0 = ap (λ x. length (listOf x)) (closed-is d (c .if1 .taken)) in (omega (arith, length-record (dimsOf (d .dims)) (closingFor d), c .before .size-count .ensures .0), omega (arith, c .before .size-count .ensures .1))
+returns c =
+    let entry = c .before .before .before in
+    let d = entry .args .shape in
+    let e : length (listOf (closingFor d)) ≡ 0 = ap (λ x. length (listOf x)) (closed-is d (c .if1 .taken)) in
+    (omega (arith, length-record (dimsOf (d .dims)) (closingFor d), c .before .size-count .ensures .0), omega (arith, c .before .size-count .ensures .1))
 
 size-count-requires-2 : tie.Need-size-count-requires-2
 size-count-requires-2 c κs = search needs
@@ -34,7 +38,13 @@ add-result : tie.Need-add-result
 add-result c = search needs
 
 returns-2 : tie.Need-returns-2
-returns-2 c = let d = c .before .before .before .before .before .args .shape in let e : length (listOf (closingFor d)) ≡ length (dimsOf (d .suffix)) = ap (λ x. length (listOf x)) (open-is d (c .before .before .if1 .left)) in (omega (arith, length-record (dimsOf (d .dims)) (closingFor d), c .before .before .before .size-count .ensures .0, c .size-count2 .ensures .0), omega (arith, c .before .before .before .size-count .ensures .1, c .size-count2 .ensures .1))
+returns-2 c =
+    let entry = c .before .before .before .before .before in
+    let at-size-count = c .before .before .before in
+    let at-if1 = c .before .before in
+    let d = entry .args .shape in
+    let e : length (listOf (closingFor d)) ≡ length (dimsOf (d .suffix)) = ap (λ x. length (listOf x)) (open-is d (at-if1 .if1 .left)) in
+    (omega (arith, length-record (dimsOf (d .dims)) (closingFor d), at-size-count .size-count .ensures .0, c .size-count2 .ensures .0), omega (arith, at-size-count .size-count .ensures .1, c .size-count2 .ensures .1))
 
 pub shape-length-spec : {M : Type 1} → statement M
 shape-length-spec =

@@ -22,7 +22,10 @@ same-length : tie.Need-same-length
 same-length c = search needs
 
 returns-2 : tie.Need-returns-2
-returns-2 c = deliver-wrote _ refl (omega (arith, c .before .before .before .before .before .shape-length .ensures .0)) (c .before .before .before .before .before .shape-length .ensures .0) (c .before .before .put-shape .ensures .1)
+returns-2 c =
+    let at-shape-length = c .before .before .before .before .before in
+    let at-put-shape = c .before .before in
+    deliver-wrote _ refl (omega (arith, at-shape-length .shape-length .ensures .0)) (at-shape-length .shape-length .ensures .0) (at-put-shape .put-shape .ensures .1)
 
 pub write-shape-spec : {M : Type 1} → statement M
 write-shape-spec =

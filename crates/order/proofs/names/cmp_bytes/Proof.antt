@@ -20,7 +20,11 @@ loop-holds : tie.Need-loop-holds Inv-loop μ-loop
 loop-holds c = (search needs, search needs, refl)
 
 returns : tie.Need-returns Inv-loop μ-loop
-returns c = sym (bytes-more (c .before .before .before .args .a .now) (c .before .before .before .args .i) (c .before .before .before .args .m) (c .before .before .before .args .b .now) (c .before .before .before .args .j) (c .before .before .before .args .n) (c .before .before .before .pre .0) (c .before .before .before .pre .1) (c .before .before .loop .k) (c .before .before .loop .inv .2) (omega arith) (omega arith))
+returns c =
+    let entry = c .before .before .before in
+    let at-loop = c .before .before in
+    let args = entry .args in
+    sym (bytes-more (args .a .now) (args .i) (args .m) (args .b .now) (args .j) (args .n) (entry .pre .0) (entry .pre .1) (at-loop .loop .k) (at-loop .loop .inv .2) (omega arith) (omega arith))
 
 add-x : tie.Need-add-x Inv-loop μ-loop
 add-x c = search needs
@@ -35,10 +39,18 @@ shared-slice-read-y : tie.Need-shared-slice-read-y Inv-loop μ-loop
 shared-slice-read-y c = search needs
 
 returns-2 : tie.Need-returns-2 Inv-loop μ-loop
-returns-2 c = sym (byte-less (c .before .before .before .before .before .before .args .a .now) (c .before .before .before .before .before .before .args .i) (c .before .before .before .before .before .before .args .m) (c .before .before .before .before .before .before .args .b .now) (c .before .before .before .before .before .before .args .j) (c .before .before .before .before .before .before .args .n) (c .before .before .before .before .before .before .pre .0) (c .before .before .before .before .before .before .pre .1) (c .before .before .before .before .before .loop .k) (c .before .before .before .before .before .loop .inv .2) (omega arith) (omega arith) (c .if2 .taken))
+returns-2 c =
+    let entry = c .before .before .before .before .before .before in
+    let at-loop = c .before .before .before .before .before in
+    let args = entry .args in
+    sym (byte-less (args .a .now) (args .i) (args .m) (args .b .now) (args .j) (args .n) (entry .pre .0) (entry .pre .1) (at-loop .loop .k) (at-loop .loop .inv .2) (omega arith) (omega arith) (c .if2 .taken))
 
 returns-3 : tie.Need-returns-3 Inv-loop μ-loop
-returns-3 c = sym (byte-more (c .before .before .before .before .before .before .before .args .a .now) (c .before .before .before .before .before .before .before .args .i) (c .before .before .before .before .before .before .before .args .m) (c .before .before .before .before .before .before .before .args .b .now) (c .before .before .before .before .before .before .before .args .j) (c .before .before .before .before .before .before .before .args .n) (c .before .before .before .before .before .before .before .pre .0) (c .before .before .before .before .before .before .before .pre .1) (c .before .before .before .before .before .before .loop .k) (c .before .before .before .before .before .before .loop .inv .2) (omega arith) (omega arith) (c .if3 .taken))
+returns-3 c =
+    let entry = c .before .before .before .before .before .before .before in
+    let at-loop = c .before .before .before .before .before .before in
+    let args = entry .args in
+    sym (byte-more (args .a .now) (args .i) (args .m) (args .b .now) (args .j) (args .n) (entry .pre .0) (entry .pre .1) (at-loop .loop .k) (at-loop .loop .inv .2) (omega arith) (omega arith) (c .if3 .taken))
 
 add-k : tie.Need-add-k Inv-loop μ-loop
 add-k c = search needs
@@ -47,13 +59,25 @@ loop-less : tie.Need-loop-less Inv-loop μ-loop
 loop-less c = search needs
 
 loop-again : tie.Need-loop-again Inv-loop μ-loop
-loop-again c = (omega arith, omega arith, byte-same (c .before .before .before .before .before .before .before .args .a .now) (c .before .before .before .before .before .before .before .args .i) (c .before .before .before .before .before .before .before .args .m) (c .before .before .before .before .before .before .before .args .b .now) (c .before .before .before .before .before .before .before .args .j) (c .before .before .before .before .before .before .before .args .n) (c .before .before .before .before .before .before .before .pre .0) (c .before .before .before .before .before .before .before .pre .1) (c .before .before .before .before .before .before .loop .k) (c .before .before .before .before .before .before .loop .inv .2) (omega arith) (omega arith) (c .before .if2 .left) (c .if3 .left))
+loop-again c =
+    let entry = c .before .before .before .before .before .before .before in
+    let at-loop = c .before .before .before .before .before .before in
+    let args = entry .args in
+    (omega arith, omega arith, byte-same (args .a .now) (args .i) (args .m) (args .b .now) (args .j) (args .n) (entry .pre .0) (entry .pre .1) (at-loop .loop .k) (at-loop .loop .inv .2) (omega arith) (omega arith) (c .before .if2 .left) (c .if3 .left))
 
 returns-4 : tie.Need-returns-4 Inv-loop μ-loop
-returns-4 c = sym (bytes-less (c .before .before .before .args .a .now) (c .before .before .before .args .i) (c .before .before .before .args .m) (c .before .before .before .args .b .now) (c .before .before .before .args .j) (c .before .before .before .args .n) (c .before .before .before .pre .0) (c .before .before .before .pre .1) (c .before .before .loop .k) (c .before .before .loop .inv .2) (omega arith) (omega arith))
+returns-4 c =
+    let entry = c .before .before .before in
+    let at-loop = c .before .before in
+    let args = entry .args in
+    sym (bytes-less (args .a .now) (args .i) (args .m) (args .b .now) (args .j) (args .n) (entry .pre .0) (entry .pre .1) (at-loop .loop .k) (at-loop .loop .inv .2) (omega arith) (omega arith))
 
 returns-5 : tie.Need-returns-5 Inv-loop μ-loop
-returns-5 c = sym (bytes-end (c .before .before .before .args .a .now) (c .before .before .before .args .i) (c .before .before .before .args .m) (c .before .before .before .args .b .now) (c .before .before .before .args .j) (c .before .before .before .args .n) (c .before .before .before .pre .0) (c .before .before .before .pre .1) (c .before .before .loop .k) (c .before .before .loop .inv .2) (omega arith) (omega arith))
+returns-5 c =
+    let entry = c .before .before .before in
+    let at-loop = c .before .before in
+    let args = entry .args in
+    sym (bytes-end (args .a .now) (args .i) (args .m) (args .b .now) (args .j) (args .n) (entry .pre .0) (entry .pre .1) (at-loop .loop .k) (at-loop .loop .inv .2) (omega arith) (omega arith))
 
 pub cmp-bytes-spec : {M : Type 1} → statement M
 cmp-bytes-spec =

@@ -27,7 +27,15 @@ loop-holds : tie.Need-loop-holds Inv-loop μ-loop
 loop-holds c = (search needs, search needs, refl)
 
 returns : tie.Need-returns Inv-loop μ-loop
-returns c = let m = c .before .before .before .before .size-count .ensures .0 in let n = c .before .before .before .size-count2 .ensures .0 in sym (sizes-more (c .before .before .before .before .before .args .t1) (c .before .before .before .before .before .args .t2) (c .before .before .loop .i) (c .before .before .loop .inv .2) (omega arith) (omega arith))
+returns c =
+    let entry = c .before .before .before .before .before in
+    let at-size-count = c .before .before .before .before in
+    let at-size-count2 = c .before .before .before in
+    let at-loop = c .before .before in
+    let args = entry .args in
+    let m = at-size-count .size-count .ensures .0 in
+    let n = at-size-count2 .size-count2 .ensures .0 in
+    sym (sizes-more (args .t1) (args .t2) (at-loop .loop .i) (at-loop .loop .inv .2) (omega arith) (omega arith))
 
 mul-cmp : tie.Need-mul-cmp Inv-loop μ-loop
 mul-cmp c = search needs
@@ -48,7 +56,16 @@ enum-told : tie.Need-enum-told Inv-loop μ-loop
 enum-told c = search needs
 
 returns-2 : tie.Need-returns-2 Inv-loop μ-loop
-returns-2 c = let m = c .before .before .before .before .before .before .before .before .before .size-count .ensures .0 in let n = c .before .before .before .before .before .before .before .before .size-count2 .ensures .0 in sym (size-less (c .before .before .before .before .before .before .before .before .before .before .args .t1) (c .before .before .before .before .before .before .before .before .before .before .args .t2) (c .before .before .before .before .before .before .before .loop .i) (c .before .before .before .before .before .before .before .loop .inv .2) (omega arith) (omega arith) (c .before .before .cmp .ensures) (ap orderOf (c .enum-told .given .1)))
+returns-2 c =
+    let entry = c .before .before .before .before .before .before .before .before .before .before in
+    let at-size-count = c .before .before .before .before .before .before .before .before .before in
+    let at-size-count2 = c .before .before .before .before .before .before .before .before in
+    let at-loop = c .before .before .before .before .before .before .before in
+    let at-cmp = c .before .before in
+    let args = entry .args in
+    let m = at-size-count .size-count .ensures .0 in
+    let n = at-size-count2 .size-count2 .ensures .0 in
+    sym (size-less (args .t1) (args .t2) (at-loop .loop .i) (at-loop .loop .inv .2) (omega arith) (omega arith) (at-cmp .cmp .ensures) (ap orderOf (c .enum-told .given .1)))
 
 enum-told-2 : tie.Need-enum-told-2 Inv-loop μ-loop
 enum-told-2 c = search needs
@@ -60,19 +77,53 @@ loop-less : tie.Need-loop-less Inv-loop μ-loop
 loop-less c = search needs
 
 loop-again : tie.Need-loop-again Inv-loop μ-loop
-loop-again c = let m = c .before .before .before .before .before .before .before .before .before .size-count .ensures .0 in let n = c .before .before .before .before .before .before .before .before .size-count2 .ensures .0 in (omega arith, omega arith, size-same (c .before .before .before .before .before .before .before .before .before .before .args .t1) (c .before .before .before .before .before .before .before .before .before .before .args .t2) (c .before .before .before .before .before .before .before .loop .i) (c .before .before .before .before .before .before .before .loop .inv .2) (omega arith) (omega arith) (c .before .before .cmp .ensures) (ap orderOf (c .enum-told2 .given .1)))
+loop-again c =
+    let entry = c .before .before .before .before .before .before .before .before .before .before in
+    let at-size-count = c .before .before .before .before .before .before .before .before .before in
+    let at-size-count2 = c .before .before .before .before .before .before .before .before in
+    let at-loop = c .before .before .before .before .before .before .before in
+    let at-cmp = c .before .before in
+    let args = entry .args in
+    let m = at-size-count .size-count .ensures .0 in
+    let n = at-size-count2 .size-count2 .ensures .0 in
+    (omega arith, omega arith, size-same (args .t1) (args .t2) (at-loop .loop .i) (at-loop .loop .inv .2) (omega arith) (omega arith) (at-cmp .cmp .ensures) (ap orderOf (c .enum-told2 .given .1)))
 
 enum-told-3 : tie.Need-enum-told-3 Inv-loop μ-loop
 enum-told-3 c = search needs
 
 returns-3 : tie.Need-returns-3 Inv-loop μ-loop
-returns-3 c = let m = c .before .before .before .before .before .before .before .before .before .size-count .ensures .0 in let n = c .before .before .before .before .before .before .before .before .size-count2 .ensures .0 in sym (size-more (c .before .before .before .before .before .before .before .before .before .before .args .t1) (c .before .before .before .before .before .before .before .before .before .before .args .t2) (c .before .before .before .before .before .before .before .loop .i) (c .before .before .before .before .before .before .before .loop .inv .2) (omega arith) (omega arith) (c .before .before .cmp .ensures) (ap orderOf (c .enum-told3 .given .1)))
+returns-3 c =
+    let entry = c .before .before .before .before .before .before .before .before .before .before in
+    let at-size-count = c .before .before .before .before .before .before .before .before .before in
+    let at-size-count2 = c .before .before .before .before .before .before .before .before in
+    let at-loop = c .before .before .before .before .before .before .before in
+    let at-cmp = c .before .before in
+    let args = entry .args in
+    let m = at-size-count .size-count .ensures .0 in
+    let n = at-size-count2 .size-count2 .ensures .0 in
+    sym (size-more (args .t1) (args .t2) (at-loop .loop .i) (at-loop .loop .inv .2) (omega arith) (omega arith) (at-cmp .cmp .ensures) (ap orderOf (c .enum-told3 .given .1)))
 
 returns-4 : tie.Need-returns-4 Inv-loop μ-loop
-returns-4 c = let m = c .before .before .before .before .size-count .ensures .0 in let n = c .before .before .before .size-count2 .ensures .0 in sym (sizes-less (c .before .before .before .before .before .args .t1) (c .before .before .before .before .before .args .t2) (c .before .before .loop .i) (c .before .before .loop .inv .2) (omega arith) (omega arith))
+returns-4 c =
+    let entry = c .before .before .before .before .before in
+    let at-size-count = c .before .before .before .before in
+    let at-size-count2 = c .before .before .before in
+    let at-loop = c .before .before in
+    let args = entry .args in
+    let m = at-size-count .size-count .ensures .0 in
+    let n = at-size-count2 .size-count2 .ensures .0 in
+    sym (sizes-less (args .t1) (args .t2) (at-loop .loop .i) (at-loop .loop .inv .2) (omega arith) (omega arith))
 
 returns-5 : tie.Need-returns-5 Inv-loop μ-loop
-returns-5 c = let m = c .before .before .before .before .size-count .ensures .0 in let n = c .before .before .before .size-count2 .ensures .0 in sym (sizes-end (c .before .before .before .before .before .args .t1) (c .before .before .before .before .before .args .t2) (c .before .before .loop .i) (c .before .before .loop .inv .2) (omega arith) (omega arith))
+returns-5 c =
+    let entry = c .before .before .before .before .before in
+    let at-size-count = c .before .before .before .before in
+    let at-size-count2 = c .before .before .before in
+    let at-loop = c .before .before in
+    let args = entry .args in
+    let m = at-size-count .size-count .ensures .0 in
+    let n = at-size-count2 .size-count2 .ensures .0 in
+    sym (sizes-end (args .t1) (args .t2) (at-loop .loop .i) (at-loop .loop .inv .2) (omega arith) (omega arith))
 
 pub cmp-dims-spec : {M : Type 1} → statement M
 cmp-dims-spec =

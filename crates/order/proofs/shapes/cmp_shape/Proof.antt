@@ -25,13 +25,25 @@ enum-told-3 : tie.Need-enum-told-3
 enum-told-3 c = search needs
 
 returns : tie.Need-returns
-returns c = sym (shape-less (c .before .before .before .before .before .args .a) (c .before .before .before .before .before .args .b) (c .before .before .cmp-dims .ensures) (ap orderOf (c .enum-told .given .1)))
+returns c =
+    let entry = c .before .before .before .before .before in
+    let at-cmp-dims = c .before .before in
+    let args = entry .args in
+    sym (shape-less (args .a) (args .b) (at-cmp-dims .cmp-dims .ensures) (ap orderOf (c .enum-told .given .1)))
 
 returns-2 : tie.Need-returns-2
-returns-2 c = c .cmp-closing .ensures ∙ sym (shape-same (c .before .before .before .before .before .before .args .a) (c .before .before .before .before .before .before .args .b) (c .before .before .before .cmp-dims .ensures) (ap orderOf (c .before .enum-told2 .given .1)))
+returns-2 c =
+    let entry = c .before .before .before .before .before .before in
+    let at-cmp-dims = c .before .before .before in
+    let args = entry .args in
+    c .cmp-closing .ensures ∙ sym (shape-same (args .a) (args .b) (at-cmp-dims .cmp-dims .ensures) (ap orderOf (c .before .enum-told2 .given .1)))
 
 returns-3 : tie.Need-returns-3
-returns-3 c = sym (shape-more (c .before .before .before .before .before .args .a) (c .before .before .before .before .before .args .b) (c .before .before .cmp-dims .ensures) (ap orderOf (c .enum-told3 .given .1)))
+returns-3 c =
+    let entry = c .before .before .before .before .before in
+    let at-cmp-dims = c .before .before in
+    let args = entry .args in
+    sym (shape-more (args .a) (args .b) (at-cmp-dims .cmp-dims .ensures) (ap orderOf (c .enum-told3 .given .1)))
 
 pub cmp-shape-spec : {M : Type 1} → statement M
 cmp-shape-spec =

@@ -117,7 +117,9 @@ compare-defs-cmp-names-requires : (t : ℕ) → compare-defs-lts.Need-cmp-names-
   compare-fields-below t,
   compare-fields.Post,
 ) (compare-defs-at t) compare-defs.Post
-compare-defs-cmp-names-requires t c κs = (has-name _ _ _ (c .before .before .pre .1 .0), has-name _ _ _ (c .before .before .pre .1 .1))
+compare-defs-cmp-names-requires t c κs =
+    let entry = c .before .before in
+    (has-name _ _ _ (entry .pre .1 .0), has-name _ _ _ (entry .pre .1 .1))
 
 compare-defs-enum-told : (t : ℕ) → compare-defs-lts.Need-enum-told (
   cmp-names-reads.Asked,
@@ -147,7 +149,9 @@ compare-defs-name-end-requires : (t : ℕ) → compare-defs-lts.Need-name-end-re
   compare-fields-below t,
   compare-fields.Post,
 ) (compare-defs-at t) compare-defs.Post
-compare-defs-name-end-requires t c κs = has-name _ _ _ (c .before .before .before .before .before .pre .1 .0)
+compare-defs-name-end-requires t c κs =
+    let entry = c .before .before .before .before .before in
+    has-name _ _ _ (entry .pre .1 .0)
 
 compare-defs-name-end-requires-2 : (t : ℕ) → compare-defs-lts.Need-name-end-requires-2 (
   cmp-names-reads.Asked,
@@ -157,7 +161,9 @@ compare-defs-name-end-requires-2 : (t : ℕ) → compare-defs-lts.Need-name-end-
   compare-fields-below t,
   compare-fields.Post,
 ) (compare-defs-at t) compare-defs.Post
-compare-defs-name-end-requires-2 t c κs = has-name _ _ _ (c .before .before .before .before .before .before .pre .1 .1)
+compare-defs-name-end-requires-2 t c κs =
+    let entry = c .before .before .before .before .before .before in
+    has-name _ _ _ (entry .pre .1 .1)
 
 compare-defs-compare-fields-requires : (t : ℕ) → compare-defs-lts.Need-compare-fields-requires (
   cmp-names-reads.Asked,
@@ -167,7 +173,9 @@ compare-defs-compare-fields-requires : (t : ℕ) → compare-defs-lts.Need-compa
   compare-fields-below t,
   compare-fields.Post,
 ) (compare-defs-at t) compare-defs.Post
-compare-defs-compare-fields-requires t c κs = (omega arith, (has-fields _ _ _ (c .before .before .before .before .before .before .before .pre .1 .0) (c .before .name-end .ensures), has-fields _ _ _ (c .before .before .before .before .before .before .before .pre .1 .1) (c .name-end2 .ensures)))
+compare-defs-compare-fields-requires t c κs =
+    let entry = c .before .before .before .before .before .before .before in
+    (omega arith, (has-fields _ _ _ (entry .pre .1 .0) (c .before .name-end .ensures), has-fields _ _ _ (entry .pre .1 .1) (c .name-end2 .ensures)))
 
 compare-defs-enum-told-3 : (t : ℕ) → compare-defs-lts.Need-enum-told-3 (
   cmp-names-reads.Asked,
@@ -187,7 +195,10 @@ compare-defs-returns : (t : ℕ) → compare-defs-lts.Need-returns (
   compare-fields-below t,
   compare-fields.Post,
 ) (compare-defs-at t) compare-defs.Post
-compare-defs-returns t c = λ m n f g h k. names-less _ _ _ _ _ m n f g h k (c .before .before .cmp-names .ensures m n (def-name _ _ _ h) (def-name _ _ _ k)) (ap orderOf (c .enum-told .given .1))
+compare-defs-returns t c =
+    let at-cmp-names = c .before .before in
+    λ m n f g h k.
+    names-less _ _ _ _ _ m n f g h k (at-cmp-names .cmp-names .ensures m n (def-name _ _ _ h) (def-name _ _ _ k)) (ap orderOf (c .enum-told .given .1))
 
 compare-defs-returns-2 : (t : ℕ) → compare-defs-lts.Need-returns-2 (
   cmp-names-reads.Asked,
@@ -197,7 +208,12 @@ compare-defs-returns-2 : (t : ℕ) → compare-defs-lts.Need-returns-2 (
   compare-fields-below t,
   compare-fields.Post,
 ) (compare-defs-at t) compare-defs.Post
-compare-defs-returns-2 t c = λ m n f g h k. names-same _ _ _ _ _ m n f g h k (c .before .before .before .before .before .cmp-names .ensures m n (def-name _ _ _ h) (def-name _ _ _ k)) (ap orderOf (c .before .before .before .enum-told2 .given .1)) (c .before .before .name-end .ensures m (def-name _ _ _ h)) (c .before .name-end2 .ensures n (def-name _ _ _ k)) (c .compare-fields .ensures)
+compare-defs-returns-2 t c =
+    let at-cmp-names = c .before .before .before .before .before in
+    let at-enum-told2 = c .before .before .before in
+    let at-name-end = c .before .before in
+    λ m n f g h k.
+    names-same _ _ _ _ _ m n f g h k (at-cmp-names .cmp-names .ensures m n (def-name _ _ _ h) (def-name _ _ _ k)) (ap orderOf (at-enum-told2 .enum-told2 .given .1)) (at-name-end .name-end .ensures m (def-name _ _ _ h)) (c .before .name-end2 .ensures n (def-name _ _ _ k)) (c .compare-fields .ensures)
 
 compare-defs-returns-3 : (t : ℕ) → compare-defs-lts.Need-returns-3 (
   cmp-names-reads.Asked,
@@ -207,7 +223,10 @@ compare-defs-returns-3 : (t : ℕ) → compare-defs-lts.Need-returns-3 (
   compare-fields-below t,
   compare-fields.Post,
 ) (compare-defs-at t) compare-defs.Post
-compare-defs-returns-3 t c = λ m n f g h k. names-more _ _ _ _ _ m n f g h k (c .before .before .cmp-names .ensures m n (def-name _ _ _ h) (def-name _ _ _ k)) (ap orderOf (c .enum-told3 .given .1))
+compare-defs-returns-3 t c =
+    let at-cmp-names = c .before .before in
+    λ m n f g h k.
+    names-more _ _ _ _ _ m n f g h k (at-cmp-names .cmp-names .ensures m n (def-name _ _ _ h) (def-name _ _ _ k)) (ap orderOf (c .enum-told3 .given .1))
 
 abbrev compare-fields-Inv-loop : compare-fields-lts.InvT-loop
 compare-fields-Inv-loop a start b other depth left₀ others₀ i₀ j₀ left others i j = (f g : Fields) → CountedAt a start depth f → CountedAt b other depth g → Left a i b j depth left others (answer (cmpFields f g) (start + 1 + length (writeFields f)))
@@ -221,7 +240,9 @@ compare-fields-count-at-requires : (t : ℕ) → compare-fields-lts.Need-count-a
   compare-types-below t,
   compare-types.Post,
 ) (compare-fields-at t) compare-fields.Post compare-fields-Inv-loop compare-fields-μ-loop
-compare-fields-count-at-requires t c κs = omega (arith, fields-within _ _ _ (c .before .before .pre .1 .0 .there))
+compare-fields-count-at-requires t c κs =
+    let entry = c .before .before in
+    omega (arith, fields-within _ _ _ (entry .pre .1 .0 .there))
 
 compare-fields-count-at-requires-2 : (t : ℕ) → compare-fields-lts.Need-count-at-requires-2 (
   count-at-reads.Asked,
@@ -229,7 +250,9 @@ compare-fields-count-at-requires-2 : (t : ℕ) → compare-fields-lts.Need-count
   compare-types-below t,
   compare-types.Post,
 ) (compare-fields-at t) compare-fields.Post compare-fields-Inv-loop compare-fields-μ-loop
-compare-fields-count-at-requires-2 t c κs = omega (arith, fields-within _ _ _ (c .before .before .before .pre .1 .1 .there))
+compare-fields-count-at-requires-2 t c κs =
+    let entry = c .before .before .before in
+    omega (arith, fields-within _ _ _ (entry .pre .1 .1 .there))
 
 compare-fields-add-i : (t : ℕ) → compare-fields-lts.Need-add-i (
   count-at-reads.Asked,
@@ -237,7 +260,9 @@ compare-fields-add-i : (t : ℕ) → compare-fields-lts.Need-add-i (
   compare-types-below t,
   compare-types.Post,
 ) (compare-fields-at t) compare-fields.Post compare-fields-Inv-loop compare-fields-μ-loop
-compare-fields-add-i t c = omega (arith, fields-within _ _ _ (c .before .before .before .before .pre .1 .0 .there))
+compare-fields-add-i t c =
+    let entry = c .before .before .before .before in
+    omega (arith, fields-within _ _ _ (entry .pre .1 .0 .there))
 
 compare-fields-add-j : (t : ℕ) → compare-fields-lts.Need-add-j (
   count-at-reads.Asked,
@@ -245,7 +270,9 @@ compare-fields-add-j : (t : ℕ) → compare-fields-lts.Need-add-j (
   compare-types-below t,
   compare-types.Post,
 ) (compare-fields-at t) compare-fields.Post compare-fields-Inv-loop compare-fields-μ-loop
-compare-fields-add-j t c = omega (arith, fields-within _ _ _ (c .before .before .before .before .pre .1 .1 .there))
+compare-fields-add-j t c =
+    let entry = c .before .before .before .before in
+    omega (arith, fields-within _ _ _ (entry .pre .1 .1 .there))
 
 compare-fields-loop-holds : (t : ℕ) → compare-fields-lts.Need-loop-holds (
   count-at-reads.Asked,
@@ -261,7 +288,9 @@ compare-fields-returns : (t : ℕ) → compare-fields-lts.Need-returns (
   compare-types-below t,
   compare-types.Post,
 ) (compare-fields-at t) compare-fields.Post compare-fields-Inv-loop compare-fields-μ-loop
-compare-fields-returns t c = λ f g h k. sym (left-more (c .before .before .loop .inv f g h k) (c .before .loop-test .taken) (c .if1 .taken))
+compare-fields-returns t c =
+    let at-loop = c .before .before in
+    λ f g h k. sym (left-more (at-loop .loop .inv f g h k) (c .before .loop-test .taken) (c .if1 .taken))
 
 compare-fields-compare-types-requires : (t : ℕ) → compare-fields-lts.Need-compare-types-requires (
   count-at-reads.Asked,
@@ -269,7 +298,10 @@ compare-fields-compare-types-requires : (t : ℕ) → compare-fields-lts.Need-co
   compare-types-below t,
   compare-types.Post,
 ) (compare-fields-at t) compare-fields.Post compare-fields-Inv-loop compare-fields-μ-loop
-compare-fields-compare-types-requires t c κs = (omega arith, left-types (c .before .before .loop .inv (c .before .before .before .before .before .before .before .pre .1 .0 .fields) (c .before .before .before .before .before .before .before .pre .1 .1 .fields) (c .before .before .before .before .before .before .before .pre .1 .0 .there) (c .before .before .before .before .before .before .before .pre .1 .1 .there)) (c .before .loop-test .taken) (c .if1 .left))
+compare-fields-compare-types-requires t c κs =
+    let entry = c .before .before .before .before .before .before .before in
+    let at-loop = c .before .before in
+    (omega arith, left-types (at-loop .loop .inv (entry .pre .1 .0 .fields) (entry .pre .1 .1 .fields) (entry .pre .1 .0 .there) (entry .pre .1 .1 .there)) (c .before .loop-test .taken) (c .if1 .left))
 
 compare-fields-enum-told : (t : ℕ) → compare-fields-lts.Need-enum-told (
   count-at-reads.Asked,
@@ -285,7 +317,13 @@ compare-fields-returns-2 : (t : ℕ) → compare-fields-lts.Need-returns-2 (
   compare-types-below t,
   compare-types.Post,
 ) (compare-fields-at t) compare-fields.Post compare-fields-Inv-loop compare-fields-μ-loop
-compare-fields-returns-2 t c = λ f g h k. sym (next-less (c .before .before .before .before .before .loop .inv f g h k) (c .before .before .before .before .loop-test .taken) (c .before .before .before .if1 .left) (c .before .before .compare-types .ensures) (c .enum-told .given .1))
+compare-fields-returns-2 t c =
+    let at-loop = c .before .before .before .before .before in
+    let at-loop-test = c .before .before .before .before in
+    let at-if1 = c .before .before .before in
+    let at-compare-types = c .before .before in
+    λ f g h k.
+    sym (next-less (at-loop .loop .inv f g h k) (at-loop-test .loop-test .taken) (at-if1 .if1 .left) (at-compare-types .compare-types .ensures) (c .enum-told .given .1))
 
 compare-fields-enum-known-next : (t : ℕ) → compare-fields-lts.Need-enum-known-next (
   count-at-reads.Asked,
@@ -301,7 +339,13 @@ compare-fields-sub-j : (t : ℕ) → compare-fields-lts.Need-sub-j (
   compare-types-below t,
   compare-types.Post,
 ) (compare-fields-at t) compare-fields.Post compare-fields-Inv-loop compare-fields-μ-loop
-compare-fields-sub-j t c = next-place (c .before .before .before .before .before .before .loop .inv (c .before .before .before .before .before .before .before .before .before .before .before .pre .1 .0 .fields) (c .before .before .before .before .before .before .before .before .before .before .before .pre .1 .1 .fields) (c .before .before .before .before .before .before .before .before .before .before .before .pre .1 .0 .there) (c .before .before .before .before .before .before .before .before .before .before .before .pre .1 .1 .there)) (c .before .before .before .before .before .loop-test .taken) (c .before .before .before .before .if1 .left) (c .before .before .before .compare-types .ensures) (c .before .next .given .1) .0
+compare-fields-sub-j t c =
+    let entry = c .before .before .before .before .before .before .before .before .before .before .before in
+    let at-loop = c .before .before .before .before .before .before in
+    let at-loop-test = c .before .before .before .before .before in
+    let at-if1 = c .before .before .before .before in
+    let at-compare-types = c .before .before .before in
+    next-place (at-loop .loop .inv (entry .pre .1 .0 .fields) (entry .pre .1 .1 .fields) (entry .pre .1 .0 .there) (entry .pre .1 .1 .there)) (at-loop-test .loop-test .taken) (at-if1 .if1 .left) (at-compare-types .compare-types .ensures) (c .before .next .given .1) .0
 
 compare-fields-add-j-2 : (t : ℕ) → compare-fields-lts.Need-add-j-2 (
   count-at-reads.Asked,
@@ -309,7 +353,13 @@ compare-fields-add-j-2 : (t : ℕ) → compare-fields-lts.Need-add-j-2 (
   compare-types-below t,
   compare-types.Post,
 ) (compare-fields-at t) compare-fields.Post compare-fields-Inv-loop compare-fields-μ-loop
-compare-fields-add-j-2 t c = omega (arith, next-place (c .before .before .before .before .before .before .loop .inv (c .before .before .before .before .before .before .before .before .before .before .before .pre .1 .0 .fields) (c .before .before .before .before .before .before .before .before .before .before .before .pre .1 .1 .fields) (c .before .before .before .before .before .before .before .before .before .before .before .pre .1 .0 .there) (c .before .before .before .before .before .before .before .before .before .before .before .pre .1 .1 .there)) (c .before .before .before .before .before .loop-test .taken) (c .before .before .before .before .if1 .left) (c .before .before .before .compare-types .ensures) (c .before .next .given .1) .1)
+compare-fields-add-j-2 t c =
+    let entry = c .before .before .before .before .before .before .before .before .before .before .before in
+    let at-loop = c .before .before .before .before .before .before in
+    let at-loop-test = c .before .before .before .before .before in
+    let at-if1 = c .before .before .before .before in
+    let at-compare-types = c .before .before .before in
+    omega (arith, next-place (at-loop .loop .inv (entry .pre .1 .0 .fields) (entry .pre .1 .1 .fields) (entry .pre .1 .0 .there) (entry .pre .1 .1 .there)) (at-loop-test .loop-test .taken) (at-if1 .if1 .left) (at-compare-types .compare-types .ensures) (c .before .next .given .1) .1)
 
 compare-fields-enum-told-2 : (t : ℕ) → compare-fields-lts.Need-enum-told-2 (
   count-at-reads.Asked,
@@ -325,7 +375,13 @@ compare-fields-returns-3 : (t : ℕ) → compare-fields-lts.Need-returns-3 (
   compare-types-below t,
   compare-types.Post,
 ) (compare-fields-at t) compare-fields.Post compare-fields-Inv-loop compare-fields-μ-loop
-compare-fields-returns-3 t c = λ f g h k. sym (next-more (c .before .before .before .before .before .loop .inv f g h k) (c .before .before .before .before .loop-test .taken) (c .before .before .before .if1 .left) (c .before .before .compare-types .ensures) (c .enum-told2 .given .1))
+compare-fields-returns-3 t c =
+    let at-loop = c .before .before .before .before .before in
+    let at-loop-test = c .before .before .before .before in
+    let at-if1 = c .before .before .before in
+    let at-compare-types = c .before .before in
+    λ f g h k.
+    sym (next-more (at-loop .loop .inv f g h k) (at-loop-test .loop-test .taken) (at-if1 .if1 .left) (at-compare-types .compare-types .ensures) (c .enum-told2 .given .1))
 
 compare-fields-sub-left : (t : ℕ) → compare-fields-lts.Need-sub-left (
   count-at-reads.Asked,
@@ -357,7 +413,13 @@ compare-fields-loop-again : (t : ℕ) → compare-fields-lts.Need-loop-again (
   compare-types-below t,
   compare-types.Post,
 ) (compare-fields-at t) compare-fields.Post compare-fields-Inv-loop compare-fields-μ-loop
-compare-fields-loop-again t c = λ f g h k. next-left (c .before .before .before .before .before .before .loop .inv f g h k) (c .before .before .before .before .before .loop-test .taken) (c .before .before .before .before .if1 .left) (c .before .before .before .compare-types .ensures) (c .before .next .given .1)
+compare-fields-loop-again t c =
+    let at-loop = c .before .before .before .before .before .before in
+    let at-loop-test = c .before .before .before .before .before in
+    let at-if1 = c .before .before .before .before in
+    let at-compare-types = c .before .before .before in
+    λ f g h k.
+    next-left (at-loop .loop .inv f g h k) (at-loop-test .loop-test .taken) (at-if1 .if1 .left) (at-compare-types .compare-types .ensures) (c .before .next .given .1)
 
 compare-fields-returns-4 : (t : ℕ) → compare-fields-lts.Need-returns-4 (
   count-at-reads.Asked,
@@ -365,7 +427,9 @@ compare-fields-returns-4 : (t : ℕ) → compare-fields-lts.Need-returns-4 (
   compare-types-below t,
   compare-types.Post,
 ) (compare-fields-at t) compare-fields.Post compare-fields-Inv-loop compare-fields-μ-loop
-compare-fields-returns-4 t c = λ f g h k. sym (left-less (c .before .before .loop .inv f g h k) (c .before .loop-test .left) (c .if2 .taken))
+compare-fields-returns-4 t c =
+    let at-loop = c .before .before in
+    λ f g h k. sym (left-less (at-loop .loop .inv f g h k) (c .before .loop-test .left) (c .if2 .taken))
 
 compare-fields-returns-5 : (t : ℕ) → compare-fields-lts.Need-returns-5 (
   count-at-reads.Asked,
@@ -373,7 +437,9 @@ compare-fields-returns-5 : (t : ℕ) → compare-fields-lts.Need-returns-5 (
   compare-types-below t,
   compare-types.Post,
 ) (compare-fields-at t) compare-fields.Post compare-fields-Inv-loop compare-fields-μ-loop
-compare-fields-returns-5 t c = λ f g h k. sym (left-end (c .before .before .loop .inv f g h k) (c .before .loop-test .left) (c .if2 .left))
+compare-fields-returns-5 t c =
+    let at-loop = c .before .before in
+    λ f g h k. sym (left-end (at-loop .loop .inv f g h k) (c .before .loop-test .left) (c .if2 .left))
 
 compare-scalars-kind-at-requires : (t : ℕ) → compare-scalars-lts.Need-kind-at-requires (
   kind-at-reads.Asked,
@@ -385,7 +451,9 @@ compare-scalars-kind-at-requires : (t : ℕ) → compare-scalars-lts.Need-kind-a
   compare-defs-below t,
   compare-defs.Post,
 ) (compare-scalars-at t) compare-scalars.Post
-compare-scalars-kind-at-requires t c κs = kind-within _ _ (c .before .before .pre .1 .0 .scalar) (c .before .before .pre .1 .0 .there .stands)
+compare-scalars-kind-at-requires t c κs =
+    let entry = c .before .before in
+    kind-within _ _ (entry .pre .1 .0 .scalar) (entry .pre .1 .0 .there .stands)
 
 compare-scalars-kind-at-requires-2 : (t : ℕ) → compare-scalars-lts.Need-kind-at-requires-2 (
   kind-at-reads.Asked,
@@ -397,7 +465,9 @@ compare-scalars-kind-at-requires-2 : (t : ℕ) → compare-scalars-lts.Need-kind
   compare-defs-below t,
   compare-defs.Post,
 ) (compare-scalars-at t) compare-scalars.Post
-compare-scalars-kind-at-requires-2 t c κs = kind-within _ _ (c .before .before .before .pre .1 .1 .scalar) (c .before .before .before .pre .1 .1 .there .stands)
+compare-scalars-kind-at-requires-2 t c κs =
+    let entry = c .before .before .before in
+    kind-within _ _ (entry .pre .1 .1 .scalar) (entry .pre .1 .1 .there .stands)
 
 compare-scalars-returns : (t : ℕ) → compare-scalars-lts.Need-returns (
   kind-at-reads.Asked,
@@ -409,7 +479,10 @@ compare-scalars-returns : (t : ℕ) → compare-scalars-lts.Need-returns (
   compare-defs-below t,
   compare-defs.Post,
 ) (compare-scalars-at t) compare-scalars.Post
-compare-scalars-returns t c = λ k l h g. kinds-less _ _ _ _ _ (c .before .before .kind-at .ensures .0) (c .before .kind-at2 .ensures .0) k l h g (c .if1 .taken)
+compare-scalars-returns t c =
+    let at-kind-at = c .before .before in
+    λ k l h g.
+    kinds-less _ _ _ _ _ (at-kind-at .kind-at .ensures .0) (c .before .kind-at2 .ensures .0) k l h g (c .if1 .taken)
 
 compare-scalars-returns-2 : (t : ℕ) → compare-scalars-lts.Need-returns-2 (
   kind-at-reads.Asked,
@@ -421,7 +494,11 @@ compare-scalars-returns-2 : (t : ℕ) → compare-scalars-lts.Need-returns-2 (
   compare-defs-below t,
   compare-defs.Post,
 ) (compare-scalars-at t) compare-scalars.Post
-compare-scalars-returns-2 t c = λ k l h g. kinds-more _ _ _ _ _ (c .before .before .before .kind-at .ensures .0) (c .before .before .kind-at2 .ensures .0) k l h g (c .if2 .taken)
+compare-scalars-returns-2 t c =
+    let at-kind-at = c .before .before .before in
+    let at-kind-at2 = c .before .before in
+    λ k l h g.
+    kinds-more _ _ _ _ _ (at-kind-at .kind-at .ensures .0) (at-kind-at2 .kind-at2 .ensures .0) k l h g (c .if2 .taken)
 
 compare-scalars-add-t11 : (t : ℕ) → compare-scalars-lts.Need-add-t11 (
   kind-at-reads.Asked,
@@ -433,7 +510,9 @@ compare-scalars-add-t11 : (t : ℕ) → compare-scalars-lts.Need-add-t11 (
   compare-defs-below t,
   compare-defs.Post,
 ) (compare-scalars-at t) compare-scalars.Post
-compare-scalars-add-t11 t c = omega (arith, kind-within _ _ (c .before .before .before .before .before .before .before .pre .1 .0 .scalar) (c .before .before .before .before .before .before .before .pre .1 .0 .there .stands))
+compare-scalars-add-t11 t c =
+    let entry = c .before .before .before .before .before .before .before in
+    omega (arith, kind-within _ _ (entry .pre .1 .0 .scalar) (entry .pre .1 .0 .there .stands))
 
 compare-scalars-returns-3 : (t : ℕ) → compare-scalars-lts.Need-returns-3 (
   kind-at-reads.Asked,
@@ -445,7 +524,12 @@ compare-scalars-returns-3 : (t : ℕ) → compare-scalars-lts.Need-returns-3 (
   compare-defs-below t,
   compare-defs.Post,
 ) (compare-scalars-at t) compare-scalars.Post
-compare-scalars-returns-3 t c = λ k l h g. kinds-same _ _ _ _ _ (c .before .before .before .before .kind-at .ensures .0) (c .before .before .before .kind-at2 .ensures .0) k l h g (c .before .before .if1 .left) (c .before .if2 .left) (c .if3 .taken)
+compare-scalars-returns-3 t c =
+    let at-kind-at = c .before .before .before .before in
+    let at-kind-at2 = c .before .before .before in
+    let at-if1 = c .before .before in
+    λ k l h g.
+    kinds-same _ _ _ _ _ (at-kind-at .kind-at .ensures .0) (at-kind-at2 .kind-at2 .ensures .0) k l h g (at-if1 .if1 .left) (c .before .if2 .left) (c .if3 .taken)
 
 compare-scalars-form-at-requires : (t : ℕ) → compare-scalars-lts.Need-form-at-requires (
   kind-at-reads.Asked,
@@ -457,7 +541,10 @@ compare-scalars-form-at-requires : (t : ℕ) → compare-scalars-lts.Need-form-a
   compare-defs-below t,
   compare-defs.Post,
 ) (compare-scalars-at t) compare-scalars.Post
-compare-scalars-form-at-requires t c κs = (box-within _ _ _ (c .before .before .before .before .before .before .before .pre .1 .0 .scalar) (c .before .before .before .before .before .before .before .pre .1 .0 .there) (c .before .before .before .before .kind-at .ensures .0) (c .if3 .left))
+compare-scalars-form-at-requires t c κs =
+    let entry = c .before .before .before .before .before .before .before in
+    let at-kind-at = c .before .before .before .before in
+    (box-within _ _ _ (entry .pre .1 .0 .scalar) (entry .pre .1 .0 .there) (at-kind-at .kind-at .ensures .0) (c .if3 .left))
 
 compare-scalars-form-at-requires-2 : (t : ℕ) → compare-scalars-lts.Need-form-at-requires-2 (
   kind-at-reads.Asked,
@@ -469,7 +556,10 @@ compare-scalars-form-at-requires-2 : (t : ℕ) → compare-scalars-lts.Need-form
   compare-defs-below t,
   compare-defs.Post,
 ) (compare-scalars-at t) compare-scalars.Post
-compare-scalars-form-at-requires-2 t c κs = (box-within _ _ _ (c .before .before .before .before .before .before .before .before .pre .1 .1 .scalar) (c .before .before .before .before .before .before .before .before .pre .1 .1 .there) (c .before .before .before .before .kind-at2 .ensures .0) (omega arith))
+compare-scalars-form-at-requires-2 t c κs =
+    let entry = c .before .before .before .before .before .before .before .before in
+    let at-kind-at2 = c .before .before .before .before in
+    (box-within _ _ _ (entry .pre .1 .1 .scalar) (entry .pre .1 .1 .there) (at-kind-at2 .kind-at2 .ensures .0) (omega arith))
 
 compare-scalars-returns-4 : (t : ℕ) → compare-scalars-lts.Need-returns-4 (
   kind-at-reads.Asked,
@@ -481,7 +571,15 @@ compare-scalars-returns-4 : (t : ℕ) → compare-scalars-lts.Need-returns-4 (
   compare-defs-below t,
   compare-defs.Post,
 ) (compare-scalars-at t) compare-scalars.Post
-compare-scalars-returns-4 t c = λ k l h g. forms-less _ _ _ _ _ (c .before .before .before .before .before .before .before .kind-at .ensures .0) (c .before .before .before .before .before .before .kind-at2 .ensures .0) k l h g (c .before .before .before .before .before .if1 .left) (c .before .before .before .before .if2 .left) (c .before .before .before .if3 .left) (c .before .before .form-at .ensures .0) (c .before .form-at2 .ensures .0) (c .if4 .taken)
+compare-scalars-returns-4 t c =
+    let at-kind-at = c .before .before .before .before .before .before .before in
+    let at-kind-at2 = c .before .before .before .before .before .before in
+    let at-if1 = c .before .before .before .before .before in
+    let at-if2 = c .before .before .before .before in
+    let at-if3 = c .before .before .before in
+    let at-form-at = c .before .before in
+    λ k l h g.
+    forms-less _ _ _ _ _ (at-kind-at .kind-at .ensures .0) (at-kind-at2 .kind-at2 .ensures .0) k l h g (at-if1 .if1 .left) (at-if2 .if2 .left) (at-if3 .if3 .left) (at-form-at .form-at .ensures .0) (c .before .form-at2 .ensures .0) (c .if4 .taken)
 
 compare-scalars-returns-5 : (t : ℕ) → compare-scalars-lts.Need-returns-5 (
   kind-at-reads.Asked,
@@ -493,7 +591,16 @@ compare-scalars-returns-5 : (t : ℕ) → compare-scalars-lts.Need-returns-5 (
   compare-defs-below t,
   compare-defs.Post,
 ) (compare-scalars-at t) compare-scalars.Post
-compare-scalars-returns-5 t c = λ k l h g. forms-more _ _ _ _ _ (c .before .before .before .before .before .before .before .before .kind-at .ensures .0) (c .before .before .before .before .before .before .before .kind-at2 .ensures .0) k l h g (c .before .before .before .before .before .before .if1 .left) (c .before .before .before .before .before .if2 .left) (c .before .before .before .before .if3 .left) (c .before .before .before .form-at .ensures .0) (c .before .before .form-at2 .ensures .0) (c .if5 .taken)
+compare-scalars-returns-5 t c =
+    let at-kind-at = c .before .before .before .before .before .before .before .before in
+    let at-kind-at2 = c .before .before .before .before .before .before .before in
+    let at-if1 = c .before .before .before .before .before .before in
+    let at-if2 = c .before .before .before .before .before in
+    let at-if3 = c .before .before .before .before in
+    let at-form-at = c .before .before .before in
+    let at-form-at2 = c .before .before in
+    λ k l h g.
+    forms-more _ _ _ _ _ (at-kind-at .kind-at .ensures .0) (at-kind-at2 .kind-at2 .ensures .0) k l h g (at-if1 .if1 .left) (at-if2 .if2 .left) (at-if3 .if3 .left) (at-form-at .form-at .ensures .0) (at-form-at2 .form-at2 .ensures .0) (c .if5 .taken)
 
 compare-scalars-add-t12 : (t : ℕ) → compare-scalars-lts.Need-add-t12 (
   kind-at-reads.Asked,
@@ -505,7 +612,11 @@ compare-scalars-add-t12 : (t : ℕ) → compare-scalars-lts.Need-add-t12 (
   compare-defs-below t,
   compare-defs.Post,
 ) (compare-scalars-at t) compare-scalars.Post
-compare-scalars-add-t12 t c = omega (arith, (box-within _ _ _ (c .before .before .before .before .before .before .before .before .before .before .before .before .pre .1 .0 .scalar) (c .before .before .before .before .before .before .before .before .before .before .before .before .pre .1 .0 .there) (c .before .before .before .before .before .before .before .before .before .kind-at .ensures .0) (c .before .before .before .before .before .if3 .left)))
+compare-scalars-add-t12 t c =
+    let entry = c .before .before .before .before .before .before .before .before .before .before .before .before in
+    let at-kind-at = c .before .before .before .before .before .before .before .before .before in
+    let at-if3 = c .before .before .before .before .before in
+    omega (arith, (box-within _ _ _ (entry .pre .1 .0 .scalar) (entry .pre .1 .0 .there) (at-kind-at .kind-at .ensures .0) (at-if3 .if3 .left)))
 
 compare-scalars-returns-6 : (t : ℕ) → compare-scalars-lts.Need-returns-6 (
   kind-at-reads.Asked,
@@ -517,7 +628,17 @@ compare-scalars-returns-6 : (t : ℕ) → compare-scalars-lts.Need-returns-6 (
   compare-defs-below t,
   compare-defs.Post,
 ) (compare-scalars-at t) compare-scalars.Post
-compare-scalars-returns-6 t c = λ k l h g. both-any _ _ _ _ _ (c .before .before .before .before .before .before .before .before .before .kind-at .ensures .0) (c .before .before .before .before .before .before .before .before .kind-at2 .ensures .0) k l h g (c .before .before .before .before .before .before .before .if1 .left) (c .before .before .before .before .before .before .if2 .left) (c .before .before .before .before .before .if3 .left) (c .before .before .before .before .form-at .ensures .0) (c .before .before .before .form-at2 .ensures .0) (c .before .before .if4 .left) (c .before .if5 .left) (c .if6 .taken)
+compare-scalars-returns-6 t c =
+    let at-kind-at = c .before .before .before .before .before .before .before .before .before in
+    let at-kind-at2 = c .before .before .before .before .before .before .before .before in
+    let at-if1 = c .before .before .before .before .before .before .before in
+    let at-if2 = c .before .before .before .before .before .before in
+    let at-if3 = c .before .before .before .before .before in
+    let at-form-at = c .before .before .before .before in
+    let at-form-at2 = c .before .before .before in
+    let at-if4 = c .before .before in
+    λ k l h g.
+    both-any _ _ _ _ _ (at-kind-at .kind-at .ensures .0) (at-kind-at2 .kind-at2 .ensures .0) k l h g (at-if1 .if1 .left) (at-if2 .if2 .left) (at-if3 .if3 .left) (at-form-at .form-at .ensures .0) (at-form-at2 .form-at2 .ensures .0) (at-if4 .if4 .left) (c .before .if5 .left) (c .if6 .taken)
 
 compare-scalars-add-compare-types : (t : ℕ) → compare-scalars-lts.Need-add-compare-types (
   kind-at-reads.Asked,
@@ -529,7 +650,11 @@ compare-scalars-add-compare-types : (t : ℕ) → compare-scalars-lts.Need-add-c
   compare-defs-below t,
   compare-defs.Post,
 ) (compare-scalars-at t) compare-scalars.Post
-compare-scalars-add-compare-types t c = omega (arith, (box-within _ _ _ (c .before .before .before .before .before .before .before .before .before .before .before .before .before .pre .1 .0 .scalar) (c .before .before .before .before .before .before .before .before .before .before .before .before .before .pre .1 .0 .there) (c .before .before .before .before .before .before .before .before .before .before .kind-at .ensures .0) (c .before .before .before .before .before .before .if3 .left)))
+compare-scalars-add-compare-types t c =
+    let entry = c .before .before .before .before .before .before .before .before .before .before .before .before .before in
+    let at-kind-at = c .before .before .before .before .before .before .before .before .before .before in
+    let at-if3 = c .before .before .before .before .before .before in
+    omega (arith, (box-within _ _ _ (entry .pre .1 .0 .scalar) (entry .pre .1 .0 .there) (at-kind-at .kind-at .ensures .0) (at-if3 .if3 .left)))
 
 compare-scalars-add-compare-types-2 : (t : ℕ) → compare-scalars-lts.Need-add-compare-types-2 (
   kind-at-reads.Asked,
@@ -541,7 +666,10 @@ compare-scalars-add-compare-types-2 : (t : ℕ) → compare-scalars-lts.Need-add
   compare-defs-below t,
   compare-defs.Post,
 ) (compare-scalars-at t) compare-scalars.Post
-compare-scalars-add-compare-types-2 t c = omega (arith, (box-within _ _ _ (c .before .before .before .before .before .before .before .before .before .before .before .before .before .pre .1 .1 .scalar) (c .before .before .before .before .before .before .before .before .before .before .before .before .before .pre .1 .1 .there) (c .before .before .before .before .before .before .before .before .before .kind-at2 .ensures .0) (omega arith)))
+compare-scalars-add-compare-types-2 t c =
+    let entry = c .before .before .before .before .before .before .before .before .before .before .before .before .before in
+    let at-kind-at2 = c .before .before .before .before .before .before .before .before .before in
+    omega (arith, (box-within _ _ _ (entry .pre .1 .1 .scalar) (entry .pre .1 .1 .there) (at-kind-at2 .kind-at2 .ensures .0) (omega arith)))
 
 compare-scalars-compare-types-requires : (t : ℕ) → compare-scalars-lts.Need-compare-types-requires (
   kind-at-reads.Asked,
@@ -553,7 +681,14 @@ compare-scalars-compare-types-requires : (t : ℕ) → compare-scalars-lts.Need-
   compare-defs-below t,
   compare-defs.Post,
 ) (compare-scalars-at t) compare-scalars.Post
-compare-scalars-compare-types-requires t c κs = (omega arith, (all-there _ _ _ (c .before .before .before .before .before .before .before .before .before .before .before .before .before .pre .1 .0 .scalar) (c .before .before .before .before .before .before .before .before .before .before .before .before .before .pre .1 .0 .there) (c .before .before .before .before .before .before .before .before .before .before .kind-at .ensures .0) (c .before .before .before .before .before .before .if3 .left) (c .before .before .before .before .before .form-at .ensures .0) (c .if7 .taken), all-there _ _ _ (c .before .before .before .before .before .before .before .before .before .before .before .before .before .pre .1 .1 .scalar) (c .before .before .before .before .before .before .before .before .before .before .before .before .before .pre .1 .1 .there) (c .before .before .before .before .before .before .before .before .before .kind-at2 .ensures .0) (omega arith) (c .before .before .before .before .form-at2 .ensures .0) (omega arith)))
+compare-scalars-compare-types-requires t c κs =
+    let entry = c .before .before .before .before .before .before .before .before .before .before .before .before .before in
+    let at-kind-at = c .before .before .before .before .before .before .before .before .before .before in
+    let at-kind-at2 = c .before .before .before .before .before .before .before .before .before in
+    let at-if3 = c .before .before .before .before .before .before in
+    let at-form-at = c .before .before .before .before .before in
+    let at-form-at2 = c .before .before .before .before in
+    (omega arith, (all-there _ _ _ (entry .pre .1 .0 .scalar) (entry .pre .1 .0 .there) (at-kind-at .kind-at .ensures .0) (at-if3 .if3 .left) (at-form-at .form-at .ensures .0) (c .if7 .taken), all-there _ _ _ (entry .pre .1 .1 .scalar) (entry .pre .1 .1 .there) (at-kind-at2 .kind-at2 .ensures .0) (omega arith) (at-form-at2 .form-at2 .ensures .0) (omega arith)))
 
 compare-scalars-returns-7 : (t : ℕ) → compare-scalars-lts.Need-returns-7 (
   kind-at-reads.Asked,
@@ -565,7 +700,18 @@ compare-scalars-returns-7 : (t : ℕ) → compare-scalars-lts.Need-returns-7 (
   compare-defs-below t,
   compare-defs.Post,
 ) (compare-scalars-at t) compare-scalars.Post
-compare-scalars-returns-7 t c = λ k l h g. both-all _ _ _ _ _ (c .before .before .before .before .before .before .before .before .before .before .before .kind-at .ensures .0) (c .before .before .before .before .before .before .before .before .before .before .kind-at2 .ensures .0) k l h g (c .before .before .before .before .before .before .before .before .before .if1 .left) (c .before .before .before .before .before .before .before .before .if2 .left) (c .before .before .before .before .before .before .before .if3 .left) (c .before .before .before .before .before .before .form-at .ensures .0) (c .before .before .before .before .before .form-at2 .ensures .0) (c .before .before .before .before .if4 .left) (c .before .before .before .if5 .left) (c .before .if7 .taken) (c .compare-types .ensures)
+compare-scalars-returns-7 t c =
+    let at-kind-at = c .before .before .before .before .before .before .before .before .before .before .before in
+    let at-kind-at2 = c .before .before .before .before .before .before .before .before .before .before in
+    let at-if1 = c .before .before .before .before .before .before .before .before .before in
+    let at-if2 = c .before .before .before .before .before .before .before .before in
+    let at-if3 = c .before .before .before .before .before .before .before in
+    let at-form-at = c .before .before .before .before .before .before in
+    let at-form-at2 = c .before .before .before .before .before in
+    let at-if4 = c .before .before .before .before in
+    let at-if5 = c .before .before .before in
+    λ k l h g.
+    both-all _ _ _ _ _ (at-kind-at .kind-at .ensures .0) (at-kind-at2 .kind-at2 .ensures .0) k l h g (at-if1 .if1 .left) (at-if2 .if2 .left) (at-if3 .if3 .left) (at-form-at .form-at .ensures .0) (at-form-at2 .form-at2 .ensures .0) (at-if4 .if4 .left) (at-if5 .if5 .left) (c .before .if7 .taken) (c .compare-types .ensures)
 
 compare-scalars-add-compare-defs : (t : ℕ) → compare-scalars-lts.Need-add-compare-defs (
   kind-at-reads.Asked,
@@ -577,7 +723,11 @@ compare-scalars-add-compare-defs : (t : ℕ) → compare-scalars-lts.Need-add-co
   compare-defs-below t,
   compare-defs.Post,
 ) (compare-scalars-at t) compare-scalars.Post
-compare-scalars-add-compare-defs t c = omega (arith, (box-within _ _ _ (c .before .before .before .before .before .before .before .before .before .before .before .before .before .pre .1 .0 .scalar) (c .before .before .before .before .before .before .before .before .before .before .before .before .before .pre .1 .0 .there) (c .before .before .before .before .before .before .before .before .before .before .kind-at .ensures .0) (c .before .before .before .before .before .before .if3 .left)))
+compare-scalars-add-compare-defs t c =
+    let entry = c .before .before .before .before .before .before .before .before .before .before .before .before .before in
+    let at-kind-at = c .before .before .before .before .before .before .before .before .before .before in
+    let at-if3 = c .before .before .before .before .before .before in
+    omega (arith, (box-within _ _ _ (entry .pre .1 .0 .scalar) (entry .pre .1 .0 .there) (at-kind-at .kind-at .ensures .0) (at-if3 .if3 .left)))
 
 compare-scalars-add-compare-defs-2 : (t : ℕ) → compare-scalars-lts.Need-add-compare-defs-2 (
   kind-at-reads.Asked,
@@ -589,7 +739,10 @@ compare-scalars-add-compare-defs-2 : (t : ℕ) → compare-scalars-lts.Need-add-
   compare-defs-below t,
   compare-defs.Post,
 ) (compare-scalars-at t) compare-scalars.Post
-compare-scalars-add-compare-defs-2 t c = omega (arith, (box-within _ _ _ (c .before .before .before .before .before .before .before .before .before .before .before .before .before .pre .1 .1 .scalar) (c .before .before .before .before .before .before .before .before .before .before .before .before .before .pre .1 .1 .there) (c .before .before .before .before .before .before .before .before .before .kind-at2 .ensures .0) (omega arith)))
+compare-scalars-add-compare-defs-2 t c =
+    let entry = c .before .before .before .before .before .before .before .before .before .before .before .before .before in
+    let at-kind-at2 = c .before .before .before .before .before .before .before .before .before in
+    omega (arith, (box-within _ _ _ (entry .pre .1 .1 .scalar) (entry .pre .1 .1 .there) (at-kind-at2 .kind-at2 .ensures .0) (omega arith)))
 
 compare-scalars-compare-defs-requires : (t : ℕ) → compare-scalars-lts.Need-compare-defs-requires (
   kind-at-reads.Asked,
@@ -601,7 +754,14 @@ compare-scalars-compare-defs-requires : (t : ℕ) → compare-scalars-lts.Need-c
   compare-defs-below t,
   compare-defs.Post,
 ) (compare-scalars-at t) compare-scalars.Post
-compare-scalars-compare-defs-requires t c κs = (omega arith, (def-there _ _ _ (c .before .before .before .before .before .before .before .before .before .before .before .before .before .pre .1 .0 .scalar) (c .before .before .before .before .before .before .before .before .before .before .before .before .before .pre .1 .0 .there) (c .before .before .before .before .before .before .before .before .before .before .kind-at .ensures .0) (c .before .before .before .before .before .before .if3 .left) (c .before .before .before .before .before .form-at .ensures .0) (c .before .if6 .left) (c .if7 .left), def-there _ _ _ (c .before .before .before .before .before .before .before .before .before .before .before .before .before .pre .1 .1 .scalar) (c .before .before .before .before .before .before .before .before .before .before .before .before .before .pre .1 .1 .there) (c .before .before .before .before .before .before .before .before .before .kind-at2 .ensures .0) (omega arith) (c .before .before .before .before .form-at2 .ensures .0) (λ e. c .before .if6 .left (omega arith)) (λ e. c .if7 .left (omega arith))))
+compare-scalars-compare-defs-requires t c κs =
+    let entry = c .before .before .before .before .before .before .before .before .before .before .before .before .before in
+    let at-kind-at = c .before .before .before .before .before .before .before .before .before .before in
+    let at-kind-at2 = c .before .before .before .before .before .before .before .before .before in
+    let at-if3 = c .before .before .before .before .before .before in
+    let at-form-at = c .before .before .before .before .before in
+    let at-form-at2 = c .before .before .before .before in
+    (omega arith, (def-there _ _ _ (entry .pre .1 .0 .scalar) (entry .pre .1 .0 .there) (at-kind-at .kind-at .ensures .0) (at-if3 .if3 .left) (at-form-at .form-at .ensures .0) (c .before .if6 .left) (c .if7 .left), def-there _ _ _ (entry .pre .1 .1 .scalar) (entry .pre .1 .1 .there) (at-kind-at2 .kind-at2 .ensures .0) (omega arith) (at-form-at2 .form-at2 .ensures .0) (λ e. c .before .if6 .left (omega arith)) (λ e. c .if7 .left (omega arith))))
 
 compare-scalars-returns-8 : (t : ℕ) → compare-scalars-lts.Need-returns-8 (
   kind-at-reads.Asked,
@@ -613,7 +773,19 @@ compare-scalars-returns-8 : (t : ℕ) → compare-scalars-lts.Need-returns-8 (
   compare-defs-below t,
   compare-defs.Post,
 ) (compare-scalars-at t) compare-scalars.Post
-compare-scalars-returns-8 t c = λ k l h g. both-def _ _ _ _ _ (c .before .before .before .before .before .before .before .before .before .before .before .kind-at .ensures .0) (c .before .before .before .before .before .before .before .before .before .before .kind-at2 .ensures .0) k l h g (c .before .before .before .before .before .before .before .before .before .if1 .left) (c .before .before .before .before .before .before .before .before .if2 .left) (c .before .before .before .before .before .before .before .if3 .left) (c .before .before .before .before .before .before .form-at .ensures .0) (c .before .before .before .before .before .form-at2 .ensures .0) (c .before .before .before .before .if4 .left) (c .before .before .before .if5 .left) (c .before .before .if6 .left) (c .before .if7 .left) (c .compare-defs .ensures)
+compare-scalars-returns-8 t c =
+    let at-kind-at = c .before .before .before .before .before .before .before .before .before .before .before in
+    let at-kind-at2 = c .before .before .before .before .before .before .before .before .before .before in
+    let at-if1 = c .before .before .before .before .before .before .before .before .before in
+    let at-if2 = c .before .before .before .before .before .before .before .before in
+    let at-if3 = c .before .before .before .before .before .before .before in
+    let at-form-at = c .before .before .before .before .before .before in
+    let at-form-at2 = c .before .before .before .before .before in
+    let at-if4 = c .before .before .before .before in
+    let at-if5 = c .before .before .before in
+    let at-if6 = c .before .before in
+    λ k l h g.
+    both-def _ _ _ _ _ (at-kind-at .kind-at .ensures .0) (at-kind-at2 .kind-at2 .ensures .0) k l h g (at-if1 .if1 .left) (at-if2 .if2 .left) (at-if3 .if3 .left) (at-form-at .form-at .ensures .0) (at-form-at2 .form-at2 .ensures .0) (at-if4 .if4 .left) (at-if5 .if5 .left) (at-if6 .if6 .left) (c .before .if7 .left) (c .compare-defs .ensures)
 
 compare-types-shape-at-requires : (t : ℕ) → compare-types-lts.Need-shape-at-requires (
   shape-at-reads.Asked,
@@ -625,7 +797,9 @@ compare-types-shape-at-requires : (t : ℕ) → compare-types-lts.Need-shape-at-
   cmp-shape-reads.Asked,
   cmp-shape-reads.Learnt,
 ) (compare-types-at t) compare-types.Post
-compare-types-shape-at-requires t c κs = (_, c .before .before .pre .1 .0)
+compare-types-shape-at-requires t c κs =
+    let entry = c .before .before in
+    (_, entry .pre .1 .0)
 
 compare-types-shape-at-requires-2 : (t : ℕ) → compare-types-lts.Need-shape-at-requires-2 (
   shape-at-reads.Asked,
@@ -637,7 +811,9 @@ compare-types-shape-at-requires-2 : (t : ℕ) → compare-types-lts.Need-shape-a
   cmp-shape-reads.Asked,
   cmp-shape-reads.Learnt,
 ) (compare-types-at t) compare-types.Post
-compare-types-shape-at-requires-2 t c κs = (_, c .before .before .before .pre .1 .1)
+compare-types-shape-at-requires-2 t c κs =
+    let entry = c .before .before .before in
+    (_, entry .pre .1 .1)
 
 compare-types-shape-length-requires : (t : ℕ) → compare-types-lts.Need-shape-length-requires (
   shape-at-reads.Asked,
@@ -661,7 +837,10 @@ compare-types-add-compare-scalars : (t : ℕ) → compare-types-lts.Need-add-com
   cmp-shape-reads.Asked,
   cmp-shape-reads.Learnt,
 ) (compare-types-at t) compare-types.Post
-compare-types-add-compare-scalars t c = omega (arith, behind-within _ _ (c .before .before .shape-at .result) (c .before .before .shape-at .ensures) (c .shape-length .ensures .0) _ (c .before .before .before .before .before .pre .1 .0))
+compare-types-add-compare-scalars t c =
+    let entry = c .before .before .before .before .before in
+    let at-shape-at = c .before .before in
+    omega (arith, behind-within _ _ (at-shape-at .shape-at .result) (at-shape-at .shape-at .ensures) (c .shape-length .ensures .0) _ (entry .pre .1 .0))
 
 compare-types-shape-length-requires-2 : (t : ℕ) → compare-types-lts.Need-shape-length-requires-2 (
   shape-at-reads.Asked,
@@ -685,7 +864,10 @@ compare-types-add-compare-scalars-2 : (t : ℕ) → compare-types-lts.Need-add-c
   cmp-shape-reads.Asked,
   cmp-shape-reads.Learnt,
 ) (compare-types-at t) compare-types.Post
-compare-types-add-compare-scalars-2 t c = omega (arith, behind-within _ _ (c .before .before .shape-at2 .result) (c .before .before .shape-at2 .ensures) (c .shape-length2 .ensures .0) _ (c .before .before .before .before .before .before .pre .1 .1))
+compare-types-add-compare-scalars-2 t c =
+    let entry = c .before .before .before .before .before .before in
+    let at-shape-at2 = c .before .before in
+    omega (arith, behind-within _ _ (at-shape-at2 .shape-at2 .result) (at-shape-at2 .shape-at2 .ensures) (c .shape-length2 .ensures .0) _ (entry .pre .1 .1))
 
 compare-types-sub-compare-scalars : (t : ℕ) → compare-types-lts.Need-sub-compare-scalars (
   shape-at-reads.Asked,
@@ -697,7 +879,9 @@ compare-types-sub-compare-scalars : (t : ℕ) → compare-types-lts.Need-sub-com
   cmp-shape-reads.Asked,
   cmp-shape-reads.Learnt,
 ) (compare-types-at t) compare-types.Post
-compare-types-sub-compare-scalars t c = omega (arith, deep _ _ _ (c .before .before .before .before .before .before .pre .1 .0))
+compare-types-sub-compare-scalars t c =
+    let entry = c .before .before .before .before .before .before in
+    omega (arith, deep _ _ _ (entry .pre .1 .0))
 
 compare-types-compare-scalars-requires : (t : ℕ) → compare-types-lts.Need-compare-scalars-requires (
   shape-at-reads.Asked,
@@ -709,7 +893,11 @@ compare-types-compare-scalars-requires : (t : ℕ) → compare-types-lts.Need-co
   cmp-shape-reads.Asked,
   cmp-shape-reads.Learnt,
 ) (compare-types-at t) compare-types.Post
-compare-types-compare-scalars-requires t c κs = (omega (arith, deep _ _ _ (c .before .before .before .before .before .before .pre .1 .0)), (has-scalar _ _ (c .before .before .before .shape-at .result) (c .before .before .before .shape-at .ensures) (c .before .shape-length .ensures .0) _ (c .before .before .before .before .before .before .pre .1 .0), has-scalar _ _ (c .before .before .shape-at2 .result) (c .before .before .shape-at2 .ensures) (c .shape-length2 .ensures .0) _ (c .before .before .before .before .before .before .pre .1 .1)))
+compare-types-compare-scalars-requires t c κs =
+    let entry = c .before .before .before .before .before .before in
+    let at-shape-at = c .before .before .before in
+    let at-shape-at2 = c .before .before in
+    (omega (arith, deep _ _ _ (entry .pre .1 .0)), (has-scalar _ _ (at-shape-at .shape-at .result) (at-shape-at .shape-at .ensures) (c .before .shape-length .ensures .0) _ (entry .pre .1 .0), has-scalar _ _ (at-shape-at2 .shape-at2 .result) (at-shape-at2 .shape-at2 .ensures) (c .shape-length2 .ensures .0) _ (entry .pre .1 .1)))
 
 compare-types-enum-told : (t : ℕ) → compare-types-lts.Need-enum-told (
   shape-at-reads.Asked,
@@ -805,7 +993,14 @@ compare-types-returns : (t : ℕ) → compare-types-lts.Need-returns (
   cmp-shape-reads.Asked,
   cmp-shape-reads.Learnt,
 ) (compare-types-at t) compare-types.Post
-compare-types-returns t c = λ t u h g. types-less t u _ _ (c .before .before .compare-scalars .ensures (scalarOf t) (scalarOf u) (scalar-behind _ _ (c .before .before .before .before .before .before .shape-at .result) (c .before .before .before .before .before .before .shape-at .ensures) (c .before .before .before .before .shape-length .ensures .0) _ t h) (scalar-behind _ _ (c .before .before .before .before .before .shape-at2 .result) (c .before .before .before .before .before .shape-at2 .ensures) (c .before .before .before .shape-length2 .ensures .0) _ u g)) (c .enum-told .given .1)
+compare-types-returns t c =
+    let at-shape-at = c .before .before .before .before .before .before in
+    let at-shape-at2 = c .before .before .before .before .before in
+    let at-shape-length = c .before .before .before .before in
+    let at-shape-length2 = c .before .before .before in
+    let at-compare-scalars = c .before .before in
+    λ t u h g.
+    types-less t u _ _ (at-compare-scalars .compare-scalars .ensures (scalarOf t) (scalarOf u) (scalar-behind _ _ (at-shape-at .shape-at .result) (at-shape-at .shape-at .ensures) (at-shape-length .shape-length .ensures .0) _ t h) (scalar-behind _ _ (at-shape-at2 .shape-at2 .result) (at-shape-at2 .shape-at2 .ensures) (at-shape-length2 .shape-length2 .ensures .0) _ u g)) (c .enum-told .given .1)
 
 compare-types-returns-2 : (t : ℕ) → compare-types-lts.Need-returns-2 (
   shape-at-reads.Asked,
@@ -817,7 +1012,16 @@ compare-types-returns-2 : (t : ℕ) → compare-types-lts.Need-returns-2 (
   cmp-shape-reads.Asked,
   cmp-shape-reads.Learnt,
 ) (compare-types-at t) compare-types.Post
-compare-types-returns-2 t c = λ t u h g. shapes-less t u _ _ (c .before .before .before .before .before .before .compare-scalars .ensures (scalarOf t) (scalarOf u) (scalar-behind _ _ (c .before .before .before .before .before .before .before .before .before .before .shape-at .result) (c .before .before .before .before .before .before .before .before .before .before .shape-at .ensures) (c .before .before .before .before .before .before .before .before .shape-length .ensures .0) _ t h) (scalar-behind _ _ (c .before .before .before .before .before .before .before .before .before .shape-at2 .result) (c .before .before .before .before .before .before .before .before .before .shape-at2 .ensures) (c .before .before .before .before .before .before .before .shape-length2 .ensures .0) _ u g)) (c .before .before .before .before .next .given .1) (shapes-are (c .before .before .cmp-shape .ensures) (c .before .before .before .before .before .before .before .before .before .before .shape-at .ensures _ t h) (c .before .before .before .before .before .before .before .before .before .shape-at2 .ensures _ u g)) (ap orderOf (c .enum-told2 .given .1))
+compare-types-returns-2 t c =
+    let at-shape-at = c .before .before .before .before .before .before .before .before .before .before in
+    let at-shape-at2 = c .before .before .before .before .before .before .before .before .before in
+    let at-shape-length = c .before .before .before .before .before .before .before .before in
+    let at-shape-length2 = c .before .before .before .before .before .before .before in
+    let at-compare-scalars = c .before .before .before .before .before .before in
+    let at-next = c .before .before .before .before in
+    let at-cmp-shape = c .before .before in
+    λ t u h g.
+    shapes-less t u _ _ (at-compare-scalars .compare-scalars .ensures (scalarOf t) (scalarOf u) (scalar-behind _ _ (at-shape-at .shape-at .result) (at-shape-at .shape-at .ensures) (at-shape-length .shape-length .ensures .0) _ t h) (scalar-behind _ _ (at-shape-at2 .shape-at2 .result) (at-shape-at2 .shape-at2 .ensures) (at-shape-length2 .shape-length2 .ensures .0) _ u g)) (at-next .next .given .1) (shapes-are (at-cmp-shape .cmp-shape .ensures) (at-shape-at .shape-at .ensures _ t h) (at-shape-at2 .shape-at2 .ensures _ u g)) (ap orderOf (c .enum-told2 .given .1))
 
 compare-types-returns-3 : (t : ℕ) → compare-types-lts.Need-returns-3 (
   shape-at-reads.Asked,
@@ -829,7 +1033,16 @@ compare-types-returns-3 : (t : ℕ) → compare-types-lts.Need-returns-3 (
   cmp-shape-reads.Asked,
   cmp-shape-reads.Learnt,
 ) (compare-types-at t) compare-types.Post
-compare-types-returns-3 t c = λ t u h g. shapes-same t u _ _ (c .before .before .before .before .before .before .compare-scalars .ensures (scalarOf t) (scalarOf u) (scalar-behind _ _ (c .before .before .before .before .before .before .before .before .before .before .shape-at .result) (c .before .before .before .before .before .before .before .before .before .before .shape-at .ensures) (c .before .before .before .before .before .before .before .before .shape-length .ensures .0) _ t h) (scalar-behind _ _ (c .before .before .before .before .before .before .before .before .before .shape-at2 .result) (c .before .before .before .before .before .before .before .before .before .shape-at2 .ensures) (c .before .before .before .before .before .before .before .shape-length2 .ensures .0) _ u g)) (c .before .before .before .before .next .given .1) (shapes-are (c .before .before .cmp-shape .ensures) (c .before .before .before .before .before .before .before .before .before .before .shape-at .ensures _ t h) (c .before .before .before .before .before .before .before .before .before .shape-at2 .ensures _ u g)) (ap orderOf (c .enum-told3 .given .1)) (behind _ _ (c .before .before .before .before .before .before .before .before .before .before .shape-at .result) (c .before .before .before .before .before .before .before .before .before .before .shape-at .ensures) (c .before .before .before .before .before .before .before .before .shape-length .ensures .0) _ t h)
+compare-types-returns-3 t c =
+    let at-shape-at = c .before .before .before .before .before .before .before .before .before .before in
+    let at-shape-at2 = c .before .before .before .before .before .before .before .before .before in
+    let at-shape-length = c .before .before .before .before .before .before .before .before in
+    let at-shape-length2 = c .before .before .before .before .before .before .before in
+    let at-compare-scalars = c .before .before .before .before .before .before in
+    let at-next = c .before .before .before .before in
+    let at-cmp-shape = c .before .before in
+    λ t u h g.
+    shapes-same t u _ _ (at-compare-scalars .compare-scalars .ensures (scalarOf t) (scalarOf u) (scalar-behind _ _ (at-shape-at .shape-at .result) (at-shape-at .shape-at .ensures) (at-shape-length .shape-length .ensures .0) _ t h) (scalar-behind _ _ (at-shape-at2 .shape-at2 .result) (at-shape-at2 .shape-at2 .ensures) (at-shape-length2 .shape-length2 .ensures .0) _ u g)) (at-next .next .given .1) (shapes-are (at-cmp-shape .cmp-shape .ensures) (at-shape-at .shape-at .ensures _ t h) (at-shape-at2 .shape-at2 .ensures _ u g)) (ap orderOf (c .enum-told3 .given .1)) (behind _ _ (at-shape-at .shape-at .result) (at-shape-at .shape-at .ensures) (at-shape-length .shape-length .ensures .0) _ t h)
 
 compare-types-returns-4 : (t : ℕ) → compare-types-lts.Need-returns-4 (
   shape-at-reads.Asked,
@@ -841,7 +1054,16 @@ compare-types-returns-4 : (t : ℕ) → compare-types-lts.Need-returns-4 (
   cmp-shape-reads.Asked,
   cmp-shape-reads.Learnt,
 ) (compare-types-at t) compare-types.Post
-compare-types-returns-4 t c = λ t u h g. shapes-more t u _ _ (c .before .before .before .before .before .before .compare-scalars .ensures (scalarOf t) (scalarOf u) (scalar-behind _ _ (c .before .before .before .before .before .before .before .before .before .before .shape-at .result) (c .before .before .before .before .before .before .before .before .before .before .shape-at .ensures) (c .before .before .before .before .before .before .before .before .shape-length .ensures .0) _ t h) (scalar-behind _ _ (c .before .before .before .before .before .before .before .before .before .shape-at2 .result) (c .before .before .before .before .before .before .before .before .before .shape-at2 .ensures) (c .before .before .before .before .before .before .before .shape-length2 .ensures .0) _ u g)) (c .before .before .before .before .next .given .1) (shapes-are (c .before .before .cmp-shape .ensures) (c .before .before .before .before .before .before .before .before .before .before .shape-at .ensures _ t h) (c .before .before .before .before .before .before .before .before .before .shape-at2 .ensures _ u g)) (ap orderOf (c .enum-told4 .given .1))
+compare-types-returns-4 t c =
+    let at-shape-at = c .before .before .before .before .before .before .before .before .before .before in
+    let at-shape-at2 = c .before .before .before .before .before .before .before .before .before in
+    let at-shape-length = c .before .before .before .before .before .before .before .before in
+    let at-shape-length2 = c .before .before .before .before .before .before .before in
+    let at-compare-scalars = c .before .before .before .before .before .before in
+    let at-next = c .before .before .before .before in
+    let at-cmp-shape = c .before .before in
+    λ t u h g.
+    shapes-more t u _ _ (at-compare-scalars .compare-scalars .ensures (scalarOf t) (scalarOf u) (scalar-behind _ _ (at-shape-at .shape-at .result) (at-shape-at .shape-at .ensures) (at-shape-length .shape-length .ensures .0) _ t h) (scalar-behind _ _ (at-shape-at2 .shape-at2 .result) (at-shape-at2 .shape-at2 .ensures) (at-shape-length2 .shape-length2 .ensures .0) _ u g)) (at-next .next .given .1) (shapes-are (at-cmp-shape .cmp-shape .ensures) (at-shape-at .shape-at .ensures _ t h) (at-shape-at2 .shape-at2 .ensures _ u g)) (ap orderOf (c .enum-told4 .given .1))
 
 compare-types-returns-5 : (t : ℕ) → compare-types-lts.Need-returns-5 (
   shape-at-reads.Asked,
@@ -853,7 +1075,14 @@ compare-types-returns-5 : (t : ℕ) → compare-types-lts.Need-returns-5 (
   cmp-shape-reads.Asked,
   cmp-shape-reads.Learnt,
 ) (compare-types-at t) compare-types.Post
-compare-types-returns-5 t c = λ t u h g. types-more t u _ _ (c .before .before .compare-scalars .ensures (scalarOf t) (scalarOf u) (scalar-behind _ _ (c .before .before .before .before .before .before .shape-at .result) (c .before .before .before .before .before .before .shape-at .ensures) (c .before .before .before .before .shape-length .ensures .0) _ t h) (scalar-behind _ _ (c .before .before .before .before .before .shape-at2 .result) (c .before .before .before .before .before .shape-at2 .ensures) (c .before .before .before .shape-length2 .ensures .0) _ u g)) (c .enum-told5 .given .1)
+compare-types-returns-5 t c =
+    let at-shape-at = c .before .before .before .before .before .before in
+    let at-shape-at2 = c .before .before .before .before .before in
+    let at-shape-length = c .before .before .before .before in
+    let at-shape-length2 = c .before .before .before in
+    let at-compare-scalars = c .before .before in
+    λ t u h g.
+    types-more t u _ _ (at-compare-scalars .compare-scalars .ensures (scalarOf t) (scalarOf u) (scalar-behind _ _ (at-shape-at .shape-at .result) (at-shape-at .shape-at .ensures) (at-shape-length .shape-length .ensures .0) _ t h) (scalar-behind _ _ (at-shape-at2 .shape-at2 .result) (at-shape-at2 .shape-at2 .ensures) (at-shape-length2 .shape-length2 .ensures .0) _ u g)) (c .enum-told5 .given .1)
 
 pub +compare-defs+compare-fields+compare-scalars+compare-types-spec : {M : Type 1} → statement M
 +compare-defs+compare-fields+compare-scalars+compare-types-spec =

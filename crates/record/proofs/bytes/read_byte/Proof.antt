@@ -18,7 +18,9 @@ add-t9 : tie.Need-add-t9
 add-t9 c = search needs
 
 returns : tie.Need-returns
-returns c = rw (c .wide .ensures .0, add-one) (sym (byte-there _ _ _ (c .before .before .if1 .taken)))
+returns c =
+    let at-if1 = c .before .before in
+    rw (c .wide .ensures .0, add-one) (sym (byte-there _ _ _ (at-if1 .if1 .taken)))
 
 returns-2 : tie.Need-returns-2
 returns-2 c = sym (byte-ended _ _ _ (c .if1 .left))

@@ -32,7 +32,11 @@ enum-told : tie.Need-enum-told Inv-loop μ-loop
 enum-told c = search needs
 
 returns : tie.Need-returns Inv-loop μ-loop
-returns c = c .before .before .read-printing .ensures ∙ ((told (c .before .before .read-printing .ensures) (c .enum-told .given .1)) ∙ sym (c .before .before .before .before .loop .inv ∙ name-stops _ _ _ _ (c .before .before .before .loop-test .taken) (told (c .before .before .read-printing .ensures) (c .enum-told .given .1))))
+returns c =
+    let at-loop = c .before .before .before .before in
+    let at-loop-test = c .before .before .before in
+    let at-read-printing = c .before .before in
+    at-read-printing .read-printing .ensures ∙ ((told (at-read-printing .read-printing .ensures) (c .enum-told .given .1)) ∙ sym (at-loop .loop .inv ∙ name-stops _ _ _ _ (at-loop-test .loop-test .taken) (told (at-read-printing .read-printing .ensures) (c .enum-told .given .1))))
 
 sub-left : tie.Need-sub-left Inv-loop μ-loop
 sub-left c = search needs
@@ -41,7 +45,11 @@ loop-less : tie.Need-loop-less Inv-loop μ-loop
 loop-less c = search needs
 
 loop-again : tie.Need-loop-again Inv-loop μ-loop
-loop-again c = c .before .before .before .before .before .loop .inv ∙ name-more _ _ _ _ (c .before .before .before .before .loop-test .taken) (known (c .before .before .before .read-printing .ensures) (c .before .b .given .1))
+loop-again c =
+    let at-loop = c .before .before .before .before .before in
+    let at-loop-test = c .before .before .before .before in
+    let at-read-printing = c .before .before .before in
+    at-loop .loop .inv ∙ name-more _ _ _ _ (at-loop-test .loop-test .taken) (known (at-read-printing .read-printing .ensures) (c .before .b .given .1))
 
 returns-2 : tie.Need-returns-2 Inv-loop μ-loop
 returns-2 c = sym (c .before .loop .inv ∙ name-ends _ _ _ _ (omega arith))

@@ -30,10 +30,14 @@ add-t9 : tie.Need-add-t9
 add-t9 c = search needs
 
 returns-4 : tie.Need-returns-4
-returns-4 c = sym (size-unknown _ _ _ _ (c .before .before .number-at .ensures) (omega arith) (c .if4 .taken))
+returns-4 c =
+    let at-number-at = c .before .before in
+    sym (size-unknown _ _ _ _ (at-number-at .number-at .ensures) (omega arith) (c .if4 .taken))
 
 returns-5 : tie.Need-returns-5
-returns-5 c = sym (size-over _ _ _ _ (c .before .before .number-at .ensures) (omega arith) (c .before .if3 .left) (c .if4 .left))
+returns-5 c =
+    let at-number-at = c .before .before in
+    sym (size-over _ _ _ _ (at-number-at .number-at .ensures) (omega arith) (c .before .if3 .left) (c .if4 .left))
 
 pub read-size-spec : {M : Type 1} → statement M
 read-size-spec =

@@ -47,11 +47,16 @@ loop-less c = search needs
 
 -- src/places.rt:34:5
 loop-again : tie.Need-loop-again Inv-loop μ-loop
-loop-again c = (omega arith, simp length-set (c .before .before .loop .inv .1), omega (arith, c .before .before .loop .inv .2), gathered-more _ _ _ _ _ _ _ (c .before .loop-test .taken) (omega (arith, c .before .before .loop .inv .1)) (c .number-at .ensures) (c .before .before .loop .inv .3))
+loop-again c =
+    let at-loop = c .before .before in
+    (omega arith, simp length-set (at-loop .loop .inv .1), omega (arith, at-loop .loop .inv .2), gathered-more _ _ _ _ _ _ _ (c .before .loop-test .taken) (omega (arith, at-loop .loop .inv .1)) (c .number-at .ensures) (at-loop .loop .inv .3))
 
 -- src/places.rt:27:1
 returns : tie.Need-returns Inv-loop μ-loop
-returns c = gathered-all (c .before .before .before .args .s .now) (c .before .before .before .args .count) (c .before .before .before .args .start) (c .before .loop .sizes) (c .before .loop .i) (c .before .loop .at) (omega arith) (c .before .loop .inv .3)
+returns c =
+    let entry = c .before .before .before in
+    let args = entry .args in
+    gathered-all (args .s .now) (args .count) (args .start) (c .before .loop .sizes) (c .before .loop .i) (c .before .loop .at) (omega arith) (c .before .loop .inv .3)
 
 pub dims-known-spec : {M : Type 1} → statement M
 dims-known-spec =

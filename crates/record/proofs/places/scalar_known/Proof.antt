@@ -14,23 +14,33 @@ add-opening c = omega (arith, shape-is _ _ (c .before .pre .read) .inside, shape
 
 -- src/places.rt:69:19
 shared-slice-read-opening : tie.Need-shared-slice-read-opening
-shared-slice-read-opening c = omega (arith, shape-is _ _ (c .before .before .pre .read) .inside, shape-is _ _ (c .before .before .pre .read) .end)
+shared-slice-read-opening c =
+    let entry = c .before .before in
+    omega (arith, shape-is _ _ (entry .pre .read) .inside, shape-is _ _ (entry .pre .read) .end)
 
 -- src/places.rt:69:19
 cast-opening : tie.Need-cast-opening
-cast-opening c = omega (arith, shape-is _ _ (c .before .before .pre .read) .few)
+cast-opening c =
+    let entry = c .before .before in
+    omega (arith, shape-is _ _ (entry .pre .read) .few)
 
 -- src/places.rt:70:32
 add-list-count : tie.Need-add-list-count
-add-list-count c = omega (arith, shape-is _ _ (c .before .before .pre .read) .inside, shape-is _ _ (c .before .before .pre .read) .end)
+add-list-count c =
+    let entry = c .before .before in
+    omega (arith, shape-is _ _ (entry .pre .read) .inside, shape-is _ _ (entry .pre .read) .end)
 
 -- src/places.rt:70:30
 shared-slice-read-list-count : tie.Need-shared-slice-read-list-count
-shared-slice-read-list-count c = omega (arith, shape-is _ _ (c .before .before .before .pre .read) .inside, shape-is _ _ (c .before .before .before .pre .read) .end)
+shared-slice-read-list-count c =
+    let entry = c .before .before .before in
+    omega (arith, shape-is _ _ (entry .pre .read) .inside, shape-is _ _ (entry .pre .read) .end)
 
 -- src/places.rt:70:30
 cast-list-count : tie.Need-cast-list-count
-cast-list-count c = omega (arith, c .shared-slice-known3 .given (c .before .before .before .args .at + 3))
+cast-list-count c =
+    let entry = c .before .before .before in
+    omega (arith, c .shared-slice-known3 .given (entry .args .at + 3))
 
 -- src/places.rt:70:9
 list-count-requires : tie.Need-list-count-requires
@@ -38,19 +48,27 @@ list-count-requires c κs = search needs
 
 -- src/places.rt:71:5
 add-result : tie.Need-add-result
-add-result c = omega (arith, shape-is _ _ (c .before .before .before .before .pre .read) .inside, shape-is _ _ (c .before .before .before .before .pre .read) .end)
+add-result c =
+    let entry = c .before .before .before .before in
+    omega (arith, shape-is _ _ (entry .pre .read) .inside, shape-is _ _ (entry .pre .read) .end)
 
 -- src/places.rt:71:19
 add-result-2 : tie.Need-add-result-2
-add-result-2 c = omega (arith, c .list-count .ensures, shape-is _ _ (c .before .before .before .before .pre .read) .inside, shape-is _ _ (c .before .before .before .before .pre .read) .end)
+add-result-2 c =
+    let entry = c .before .before .before .before in
+    omega (arith, c .list-count .ensures, shape-is _ _ (entry .pre .read) .inside, shape-is _ _ (entry .pre .read) .end)
 
 -- src/places.rt:71:14
 mul-result : tie.Need-mul-result
-mul-result c = omega (arith, c .list-count .ensures, shape-is _ _ (c .before .before .before .before .pre .read) .inside, shape-is _ _ (c .before .before .before .before .pre .read) .end)
+mul-result c =
+    let entry = c .before .before .before .before in
+    omega (arith, c .list-count .ensures, shape-is _ _ (entry .pre .read) .inside, shape-is _ _ (entry .pre .read) .end)
 
 -- src/places.rt:71:5
 add-result-3 : tie.Need-add-result-3
-add-result-3 c = omega (arith, c .list-count .ensures, shape-is _ _ (c .before .before .before .before .pre .read) .inside, shape-is _ _ (c .before .before .before .before .pre .read) .end)
+add-result-3 c =
+    let entry = c .before .before .before .before in
+    omega (arith, c .list-count .ensures, shape-is _ _ (entry .pre .read) .inside, shape-is _ _ (entry .pre .read) .end)
 
 -- src/places.rt:65:1
 returns : tie.Need-returns

@@ -16,31 +16,45 @@ add-opening c = omega (arith, shape-is _ _ (c .before .pre .read) .inside, shape
 
 -- src/places.rt:46:19
 shared-slice-read-opening : tie.Need-shared-slice-read-opening
-shared-slice-read-opening c = omega (arith, shape-is _ _ (c .before .before .pre .read) .inside, shape-is _ _ (c .before .before .pre .read) .end)
+shared-slice-read-opening c =
+    let entry = c .before .before in
+    omega (arith, shape-is _ _ (entry .pre .read) .inside, shape-is _ _ (entry .pre .read) .end)
 
 -- src/places.rt:46:19
 cast-opening : tie.Need-cast-opening
-cast-opening c = omega (arith, shape-is _ _ (c .before .before .pre .read) .few)
+cast-opening c =
+    let entry = c .before .before in
+    omega (arith, shape-is _ _ (entry .pre .read) .few)
 
 -- src/places.rt:47:21
 add-closing : tie.Need-add-closing
-add-closing c = omega (arith, shape-is _ _ (c .before .before .pre .read) .inside, shape-is _ _ (c .before .before .pre .read) .end)
+add-closing c =
+    let entry = c .before .before in
+    omega (arith, shape-is _ _ (entry .pre .read) .inside, shape-is _ _ (entry .pre .read) .end)
 
 -- src/places.rt:47:19
 shared-slice-read-closing : tie.Need-shared-slice-read-closing
-shared-slice-read-closing c = omega (arith, shape-is _ _ (c .before .before .before .pre .read) .inside, shape-is _ _ (c .before .before .before .pre .read) .end)
+shared-slice-read-closing c =
+    let entry = c .before .before .before in
+    omega (arith, shape-is _ _ (entry .pre .read) .inside, shape-is _ _ (entry .pre .read) .end)
 
 -- src/places.rt:47:19
 cast-closing : tie.Need-cast-closing
-cast-closing c = omega (arith, c .shared-slice-known3 .given (c .before .before .before .args .at + 3))
+cast-closing c =
+    let entry = c .before .before .before in
+    omega (arith, c .shared-slice-known3 .given (entry .args .at + 3))
 
 -- src/places.rt:48:30
 add-dims-known : tie.Need-add-dims-known
-add-dims-known c = omega (arith, shape-is _ _ (c .before .before .before .pre .read) .inside, shape-is _ _ (c .before .before .before .pre .read) .end)
+add-dims-known c =
+    let entry = c .before .before .before in
+    omega (arith, shape-is _ _ (entry .pre .read) .inside, shape-is _ _ (entry .pre .read) .end)
 
 -- src/places.rt:48:9
 dims-known-requires : tie.Need-dims-known-requires
-dims-known-requires c κs = (shape-is _ _ (c .before .before .before .pre .read) .few, omega (arith, shape-is _ _ (c .before .before .before .pre .read) .inside, shape-is _ _ (c .before .before .before .pre .read) .end))
+dims-known-requires c κs =
+    let entry = c .before .before .before in
+    (shape-is _ _ (entry .pre .read) .few, omega (arith, shape-is _ _ (entry .pre .read) .inside, shape-is _ _ (entry .pre .read) .end))
 
 -- src/places.rt:52:21
 no-dims-requires : tie.Need-no-dims-requires
@@ -48,27 +62,40 @@ no-dims-requires c κs = search needs
 
 -- src/places.rt:50:9
 returns : tie.Need-returns
-returns c = λ o n e. rw (c .before .before .dims-known .ensures) (sym (is-closed (shape-is _ _ e) (c .before .if1 .taken)))
+returns c =
+    let at-dims-known = c .before .before in
+    λ o n e. rw (at-dims-known .dims-known .ensures) (sym (is-closed (shape-is _ _ e) (c .before .if1 .taken)))
 
 -- src/places.rt:56:32
 add-dims-known-2 : tie.Need-add-dims-known-2
-add-dims-known-2 c = omega (arith, shape-is _ _ (c .before .before .before .before .before .pre .read) .inside, open-end (shape-is _ _ (c .before .before .before .before .before .pre .read)) (c .if1 .left))
+add-dims-known-2 c =
+    let entry = c .before .before .before .before .before in
+    omega (arith, shape-is _ _ (entry .pre .read) .inside, open-end (shape-is _ _ (entry .pre .read)) (c .if1 .left))
 
 -- src/places.rt:56:41
 mul-dims-known : tie.Need-mul-dims-known
-mul-dims-known c = omega (arith, shape-is _ _ (c .before .before .before .before .before .pre .read) .inside, open-end (shape-is _ _ (c .before .before .before .before .before .pre .read)) (c .if1 .left))
+mul-dims-known c =
+    let entry = c .before .before .before .before .before in
+    omega (arith, shape-is _ _ (entry .pre .read) .inside, open-end (shape-is _ _ (entry .pre .read)) (c .if1 .left))
 
 -- src/places.rt:56:32
 add-dims-known-3 : tie.Need-add-dims-known-3
-add-dims-known-3 c = omega (arith, shape-is _ _ (c .before .before .before .before .before .pre .read) .inside, open-end (shape-is _ _ (c .before .before .before .before .before .pre .read)) (c .if1 .left))
+add-dims-known-3 c =
+    let entry = c .before .before .before .before .before in
+    omega (arith, shape-is _ _ (entry .pre .read) .inside, open-end (shape-is _ _ (entry .pre .read)) (c .if1 .left))
 
 -- src/places.rt:56:9
 dims-known-requires-2 : tie.Need-dims-known-requires-2
-dims-known-requires-2 c κs = (few-closing (shape-is _ _ (c .before .before .before .before .before .pre .read)) (c .if1 .left), omega (arith, shape-is _ _ (c .before .before .before .before .before .pre .read) .inside, open-end (shape-is _ _ (c .before .before .before .before .before .pre .read)) (c .if1 .left)))
+dims-known-requires-2 c κs =
+    let entry = c .before .before .before .before .before in
+    (few-closing (shape-is _ _ (entry .pre .read)) (c .if1 .left), omega (arith, shape-is _ _ (entry .pre .read) .inside, open-end (shape-is _ _ (entry .pre .read)) (c .if1 .left)))
 
 -- src/places.rt:42:1
 returns-2 : tie.Need-returns-2
-returns-2 c = λ o n e. rw (c .before .before .dims-known .ensures, c .dims-known2 .ensures) (sym (is-open (shape-is _ _ e) (c .before .if1 .left)))
+returns-2 c =
+    let at-dims-known = c .before .before in
+    λ o n e.
+    rw (at-dims-known .dims-known .ensures, c .dims-known2 .ensures) (sym (is-open (shape-is _ _ e) (c .before .if1 .left)))
 
 pub shape-known-spec : {M : Type 1} → statement M
 shape-known-spec =

@@ -28,7 +28,9 @@ enum-told c = search needs
 
 -- src/shapes.rt:37:9
 returns : tie.Need-returns
-returns c = ap answerOf (c .enum-told .given .1) ∙ sym (shape-unmarked _ _ (told (c .before .before .read-mark .ensures) (c .enum-told .given .1)))
+returns c =
+    let at-read-mark = c .before .before in
+    ap answerOf (c .enum-told .given .1) ∙ sym (shape-unmarked _ _ (told (at-read-mark .read-mark .ensures) (c .enum-told .given .1)))
 
 -- src/shapes.rt:39:9
 read-count-requires : tie.Need-read-count-requires
@@ -44,7 +46,11 @@ enum-told-2 c = search needs
 
 -- src/shapes.rt:41:9
 returns-2 : tie.Need-returns-2
-returns-2 c = ap answerOf (c .enum-told2 .given .1) ∙ sym (shape-uncounted _ _ (known (c .before .before .before .before .before .before .read-mark .ensures) (c .before .before .before .before .mark .given .1)) (told (c .before .before .read-count .ensures) (c .enum-told2 .given .1)))
+returns-2 c =
+    let at-read-mark = c .before .before .before .before .before .before in
+    let at-mark = c .before .before .before .before in
+    let at-read-count = c .before .before in
+    ap answerOf (c .enum-told2 .given .1) ∙ sym (shape-uncounted _ _ (known (at-read-mark .read-mark .ensures) (at-mark .mark .given .1)) (told (at-read-count .read-count .ensures) (c .enum-told2 .given .1)))
 
 -- src/shapes.rt:43:9
 read-optional-requires : tie.Need-read-optional-requires
@@ -60,7 +66,13 @@ enum-told-3 c = search needs
 
 -- src/shapes.rt:45:9
 returns-3 : tie.Need-returns-3
-returns-3 c = ap answerOf (c .enum-told3 .given .1) ∙ sym (shape-unclosed _ _ (known (c .before .before .before .before .before .before .before .before .before .before .read-mark .ensures) (c .before .before .before .before .before .before .before .before .mark .given .1)) (known (c .before .before .before .before .before .before .read-count .ensures) (c .before .before .before .before .opening .given .1)) (told (c .before .before .read-optional .ensures) (c .enum-told3 .given .1)))
+returns-3 c =
+    let at-read-mark = c .before .before .before .before .before .before .before .before .before .before in
+    let at-mark = c .before .before .before .before .before .before .before .before in
+    let at-read-count = c .before .before .before .before .before .before in
+    let at-opening = c .before .before .before .before in
+    let at-read-optional = c .before .before in
+    ap answerOf (c .enum-told3 .given .1) ∙ sym (shape-unclosed _ _ (known (at-read-mark .read-mark .ensures) (at-mark .mark .given .1)) (known (at-read-count .read-count .ensures) (at-opening .opening .given .1)) (told (at-read-optional .read-optional .ensures) (c .enum-told3 .given .1)))
 
 -- src/shapes.rt:47:30
 list-count-requires : tie.Need-list-count-requires
@@ -68,7 +80,12 @@ list-count-requires c κs = search needs
 
 -- src/shapes.rt:47:26
 add-read-sizes : tie.Need-add-read-sizes
-add-read-sizes c = omega (arith, c .list-count .ensures, opening-few _ _ _ (known (c .before .before .before .before .before .before .before .before .read-count .ensures) (c .before .before .before .before .before .before .opening .given .1)), closing-few _ _ _ (known (c .before .before .before .before .read-optional .ensures) (c .before .before .closing .given .1)))
+add-read-sizes c =
+    let at-read-count = c .before .before .before .before .before .before .before .before in
+    let at-opening = c .before .before .before .before .before .before in
+    let at-read-optional = c .before .before .before .before in
+    let at-closing = c .before .before in
+    omega (arith, c .list-count .ensures, opening-few _ _ _ (known (at-read-count .read-count .ensures) (at-opening .opening .given .1)), closing-few _ _ _ (known (at-read-optional .read-optional .ensures) (at-closing .closing .given .1)))
 
 -- src/shapes.rt:47:5
 read-sizes-requires : tie.Need-read-sizes-requires
@@ -76,7 +93,14 @@ read-sizes-requires c κs = search needs
 
 -- src/shapes.rt:32:1
 returns-4 : tie.Need-returns-4
-returns-4 c = c .read-sizes .ensures ∙ sym (shape-sized _ _ (known (c .before .before .before .before .before .before .before .before .before .before .before .before .before .read-mark .ensures) (c .before .before .before .before .before .before .before .before .before .before .before .mark .given .1)) (known (c .before .before .before .before .before .before .before .before .before .read-count .ensures) (c .before .before .before .before .before .before .before .opening .given .1)) (known (c .before .before .before .before .before .read-optional .ensures) (c .before .before .before .closing .given .1)) (c .before .list-count .ensures))
+returns-4 c =
+    let at-read-mark = c .before .before .before .before .before .before .before .before .before .before .before .before .before in
+    let at-mark = c .before .before .before .before .before .before .before .before .before .before .before in
+    let at-read-count = c .before .before .before .before .before .before .before .before .before in
+    let at-opening = c .before .before .before .before .before .before .before in
+    let at-read-optional = c .before .before .before .before .before in
+    let at-closing = c .before .before .before in
+    c .read-sizes .ensures ∙ sym (shape-sized _ _ (known (at-read-mark .read-mark .ensures) (at-mark .mark .given .1)) (known (at-read-count .read-count .ensures) (at-opening .opening .given .1)) (known (at-read-optional .read-optional .ensures) (at-closing .closing .given .1)) (c .before .list-count .ensures))
 
 pub read-shape-spec : {M : Type 1} → statement M
 read-shape-spec =

@@ -36,7 +36,11 @@ enum-told c = search needs
 
 -- src/shapes.rt:23:13
 returns : tie.Need-returns Inv-loop μ-loop
-returns c = c .before .before .read-size .ensures ∙ (told (c .before .before .read-size .ensures) (c .enum-told .given .1) ∙ sym (c .before .before .before .before .loop .inv ∙ sizes-stop _ _ _ _ (c .before .before .before .loop-test .taken) (told (c .before .before .read-size .ensures) (c .enum-told .given .1))))
+returns c =
+    let at-loop = c .before .before .before .before in
+    let at-loop-test = c .before .before .before in
+    let at-read-size = c .before .before in
+    at-read-size .read-size .ensures ∙ (told (at-read-size .read-size .ensures) (c .enum-told .given .1) ∙ sym (at-loop .loop .inv ∙ sizes-stop _ _ _ _ (at-loop-test .loop-test .taken) (told (at-read-size .read-size .ensures) (c .enum-told .given .1))))
 
 -- src/shapes.rt:26:9
 sub-left : tie.Need-sub-left Inv-loop μ-loop
@@ -48,7 +52,11 @@ loop-less c = search needs
 
 -- src/shapes.rt:20:5
 loop-again : tie.Need-loop-again Inv-loop μ-loop
-loop-again c = c .before .before .before .before .before .loop .inv ∙ sizes-more _ _ _ _ (c .before .before .before .before .loop-test .taken) (known (c .before .before .before .read-size .ensures) (c .before .size .given .1))
+loop-again c =
+    let at-loop = c .before .before .before .before .before in
+    let at-loop-test = c .before .before .before .before in
+    let at-read-size = c .before .before .before in
+    at-loop .loop .inv ∙ sizes-more _ _ _ _ (at-loop-test .loop-test .taken) (known (at-read-size .read-size .ensures) (c .before .size .given .1))
 
 -- src/shapes.rt:15:1
 returns-2 : tie.Need-returns-2 Inv-loop μ-loop

@@ -137,7 +137,9 @@ read-box-returns : (t : ℕ) → read-box-lts.Need-returns (
   read-def-below t,
   read-def.Post,
 ) (read-box-at t) read-box.Post
-read-box-returns t c = c .before .before .read-mark .ensures ∙ ((told (c .before .before .read-mark .ensures) (c .enum-told .given .1)) ∙ sym (box-unmarked _ _ _ _ (told (c .before .before .read-mark .ensures) (c .enum-told .given .1))))
+read-box-returns t c =
+    let at-read-mark = c .before .before in
+    at-read-mark .read-mark .ensures ∙ ((told (at-read-mark .read-mark .ensures) (c .enum-told .given .1)) ∙ sym (box-unmarked _ _ _ _ (told (at-read-mark .read-mark .ensures) (c .enum-told .given .1))))
 
 read-box-read-byte-requires : (t : ℕ) → read-box-lts.Need-read-byte-requires (
   read-mark-reads.Asked,
@@ -185,7 +187,11 @@ read-box-returns-2 : (t : ℕ) → read-box-lts.Need-returns-2 (
   read-def-below t,
   read-def.Post,
 ) (read-box-at t) read-box.Post
-read-box-returns-2 t c = c .before .before .read-byte .ensures ∙ ((told (c .before .before .read-byte .ensures) (c .enum-told2 .given .1)) ∙ sym (box-ended _ _ _ _ (known (c .before .before .before .before .before .before .read-mark .ensures) (c .before .before .before .before .mark .given .1)) (told (c .before .before .read-byte .ensures) (c .enum-told2 .given .1))))
+read-box-returns-2 t c =
+    let at-read-mark = c .before .before .before .before .before .before in
+    let at-mark = c .before .before .before .before in
+    let at-read-byte = c .before .before in
+    at-read-byte .read-byte .ensures ∙ ((told (at-read-byte .read-byte .ensures) (c .enum-told2 .given .1)) ∙ sym (box-ended _ _ _ _ (known (at-read-mark .read-mark .ensures) (at-mark .mark .given .1)) (told (at-read-byte .read-byte .ensures) (c .enum-told2 .given .1))))
 
 read-box-returns-3 : (t : ℕ) → read-box-lts.Need-returns-3 (
   read-mark-reads.Asked,
@@ -197,7 +203,12 @@ read-box-returns-3 : (t : ℕ) → read-box-lts.Need-returns-3 (
   read-def-below t,
   read-def.Post,
 ) (read-box-at t) read-box.Post
-read-box-returns-3 t c = sym (box-any _ _ _ _ (known (c .before .before .before .before .before .before .before .before .read-mark .ensures) (c .before .before .before .before .before .before .mark .given .1)) (known (c .before .before .before .before .read-byte .ensures) (c .before .before .form .given .1)) (c .if1 .taken))
+read-box-returns-3 t c =
+    let at-read-mark = c .before .before .before .before .before .before .before .before in
+    let at-mark = c .before .before .before .before .before .before in
+    let at-read-byte = c .before .before .before .before in
+    let at-form = c .before .before in
+    sym (box-any _ _ _ _ (known (at-read-mark .read-mark .ensures) (at-mark .mark .given .1)) (known (at-read-byte .read-byte .ensures) (at-form .form .given .1)) (c .if1 .taken))
 
 read-box-read-type-requires : (t : ℕ) → read-box-lts.Need-read-type-requires (
   read-mark-reads.Asked,
@@ -221,7 +232,12 @@ read-box-returns-4 : (t : ℕ) → read-box-lts.Need-returns-4 (
   read-def-below t,
   read-def.Post,
 ) (read-box-at t) read-box.Post
-read-box-returns-4 t c = c .read-type .ensures ∙ sym (box-all _ _ _ _ (known (c .before .before .before .before .before .before .before .before .before .before .read-mark .ensures) (c .before .before .before .before .before .before .before .before .mark .given .1)) (known (c .before .before .before .before .before .before .read-byte .ensures) (c .before .before .before .before .form .given .1)) (c .before .if2 .taken))
+read-box-returns-4 t c =
+    let at-read-mark = c .before .before .before .before .before .before .before .before .before .before in
+    let at-mark = c .before .before .before .before .before .before .before .before in
+    let at-read-byte = c .before .before .before .before .before .before in
+    let at-form = c .before .before .before .before in
+    c .read-type .ensures ∙ sym (box-all _ _ _ _ (known (at-read-mark .read-mark .ensures) (at-mark .mark .given .1)) (known (at-read-byte .read-byte .ensures) (at-form .form .given .1)) (c .before .if2 .taken))
 
 read-box-read-def-requires : (t : ℕ) → read-box-lts.Need-read-def-requires (
   read-mark-reads.Asked,
@@ -245,7 +261,12 @@ read-box-returns-5 : (t : ℕ) → read-box-lts.Need-returns-5 (
   read-def-below t,
   read-def.Post,
 ) (read-box-at t) read-box.Post
-read-box-returns-5 t c = c .read-def .ensures ∙ sym (box-def _ _ _ _ (known (c .before .before .before .before .before .before .before .before .before .before .before .read-mark .ensures) (c .before .before .before .before .before .before .before .before .before .mark .given .1)) (known (c .before .before .before .before .before .before .before .read-byte .ensures) (c .before .before .before .before .before .form .given .1)) (c .before .if3 .taken))
+read-box-returns-5 t c =
+    let at-read-mark = c .before .before .before .before .before .before .before .before .before .before .before in
+    let at-mark = c .before .before .before .before .before .before .before .before .before in
+    let at-read-byte = c .before .before .before .before .before .before .before in
+    let at-form = c .before .before .before .before .before in
+    c .read-def .ensures ∙ sym (box-def _ _ _ _ (known (at-read-mark .read-mark .ensures) (at-mark .mark .given .1)) (known (at-read-byte .read-byte .ensures) (at-form .form .given .1)) (c .before .if3 .taken))
 
 read-box-returns-6 : (t : ℕ) → read-box-lts.Need-returns-6 (
   read-mark-reads.Asked,
@@ -257,7 +278,13 @@ read-box-returns-6 : (t : ℕ) → read-box-lts.Need-returns-6 (
   read-def-below t,
   read-def.Post,
 ) (read-box-at t) read-box.Post
-read-box-returns-6 t c = sym (box-unformed _ _ _ _ (known (c .before .before .before .before .before .before .before .before .before .before .read-mark .ensures) (c .before .before .before .before .before .before .before .before .mark .given .1)) (known (c .before .before .before .before .before .before .read-byte .ensures) (c .before .before .before .before .form .given .1)) (c .before .before .if1 .left) (c .before .if2 .left) (c .if3 .left))
+read-box-returns-6 t c =
+    let at-read-mark = c .before .before .before .before .before .before .before .before .before .before in
+    let at-mark = c .before .before .before .before .before .before .before .before in
+    let at-read-byte = c .before .before .before .before .before .before in
+    let at-form = c .before .before .before .before in
+    let at-if1 = c .before .before in
+    sym (box-unformed _ _ _ _ (known (at-read-mark .read-mark .ensures) (at-mark .mark .given .1)) (known (at-read-byte .read-byte .ensures) (at-form .form .given .1)) (at-if1 .if1 .left) (c .before .if2 .left) (c .if3 .left))
 
 read-def-read-optional-requires : (t : ℕ) → read-def-lts.Need-read-optional-requires (
   read-optional-reads.Asked,
@@ -313,7 +340,9 @@ read-def-returns : (t : ℕ) → read-def-lts.Need-returns (
   read-fields-below t,
   read-fields.Post,
 ) (read-def-at t) read-def.Post
-read-def-returns t c = c .before .before .read-optional .ensures ∙ ((told (c .before .before .read-optional .ensures) (c .enum-told .given .1)) ∙ sym (def-unnamed _ _ _ _ _ (told (c .before .before .read-optional .ensures) (c .enum-told .given .1))))
+read-def-returns t c =
+    let at-read-optional = c .before .before in
+    at-read-optional .read-optional .ensures ∙ ((told (at-read-optional .read-optional .ensures) (c .enum-told .given .1)) ∙ sym (def-unnamed _ _ _ _ _ (told (at-read-optional .read-optional .ensures) (c .enum-told .given .1))))
 
 read-def-list-count-requires : (t : ℕ) → read-def-lts.Need-list-count-requires (
   read-optional-reads.Asked,
@@ -383,7 +412,12 @@ read-def-returns-2 : (t : ℕ) → read-def-lts.Need-returns-2 (
   read-fields-below t,
   read-fields.Post,
 ) (read-def-at t) read-def.Post
-read-def-returns-2 t c = c .before .before .read-name .ensures ∙ ((told (c .before .before .read-name .ensures) (c .enum-told2 .given .1)) ∙ sym (def-misnamed _ _ _ _ _ (known (c .before .before .before .before .before .before .before .read-optional .ensures) (c .before .before .before .before .before .length .given .1)) (c .before .before .before .list-count .ensures) (told (c .before .before .read-name .ensures) (c .enum-told2 .given .1))))
+read-def-returns-2 t c =
+    let at-read-optional = c .before .before .before .before .before .before .before in
+    let at-length = c .before .before .before .before .before in
+    let at-list-count = c .before .before .before in
+    let at-read-name = c .before .before in
+    at-read-name .read-name .ensures ∙ ((told (at-read-name .read-name .ensures) (c .enum-told2 .given .1)) ∙ sym (def-misnamed _ _ _ _ _ (known (at-read-optional .read-optional .ensures) (at-length .length .given .1)) (at-list-count .list-count .ensures) (told (at-read-name .read-name .ensures) (c .enum-told2 .given .1))))
 
 read-def-read-count-requires : (t : ℕ) → read-def-lts.Need-read-count-requires (
   read-optional-reads.Asked,
@@ -439,7 +473,14 @@ read-def-returns-3 : (t : ℕ) → read-def-lts.Need-returns-3 (
   read-fields-below t,
   read-fields.Post,
 ) (read-def-at t) read-def.Post
-read-def-returns-3 t c = c .before .before .read-count .ensures ∙ ((told (c .before .before .read-count .ensures) (c .enum-told3 .given .1)) ∙ sym (def-uncounted _ _ _ _ _ (known (c .before .before .before .before .before .before .before .before .before .before .before .read-optional .ensures) (c .before .before .before .before .before .before .before .before .before .length .given .1)) (c .before .before .before .before .before .before .before .list-count .ensures) (known (c .before .before .before .before .before .before .read-name .ensures) (c .before .before .before .before .name .given .1)) (told (c .before .before .read-count .ensures) (c .enum-told3 .given .1))))
+read-def-returns-3 t c =
+    let at-read-optional = c .before .before .before .before .before .before .before .before .before .before .before in
+    let at-length = c .before .before .before .before .before .before .before .before .before in
+    let at-list-count = c .before .before .before .before .before .before .before in
+    let at-read-name = c .before .before .before .before .before .before in
+    let at-name = c .before .before .before .before in
+    let at-read-count = c .before .before in
+    at-read-count .read-count .ensures ∙ ((told (at-read-count .read-count .ensures) (c .enum-told3 .given .1)) ∙ sym (def-uncounted _ _ _ _ _ (known (at-read-optional .read-optional .ensures) (at-length .length .given .1)) (at-list-count .list-count .ensures) (known (at-read-name .read-name .ensures) (at-name .name .given .1)) (told (at-read-count .read-count .ensures) (c .enum-told3 .given .1))))
 
 read-def-read-fields-requires : (t : ℕ) → read-def-lts.Need-read-fields-requires (
   read-optional-reads.Asked,
@@ -467,7 +508,15 @@ read-def-returns-4 : (t : ℕ) → read-def-lts.Need-returns-4 (
   read-fields-below t,
   read-fields.Post,
 ) (read-def-at t) read-def.Post
-read-def-returns-4 t c = c .read-fields .ensures ∙ sym (def-counted _ _ _ _ _ (known (c .before .before .before .before .before .before .before .before .before .before .before .before .before .read-optional .ensures) (c .before .before .before .before .before .before .before .before .before .before .before .length .given .1)) (c .before .before .before .before .before .before .before .before .before .list-count .ensures) (known (c .before .before .before .before .before .before .before .before .read-name .ensures) (c .before .before .before .before .before .before .name .given .1)) (known (c .before .before .before .before .read-count .ensures) (c .before .before .fields .given .1)))
+read-def-returns-4 t c =
+    let at-read-optional = c .before .before .before .before .before .before .before .before .before .before .before .before .before in
+    let at-length = c .before .before .before .before .before .before .before .before .before .before .before in
+    let at-list-count = c .before .before .before .before .before .before .before .before .before in
+    let at-read-name = c .before .before .before .before .before .before .before .before in
+    let at-name = c .before .before .before .before .before .before in
+    let at-read-count = c .before .before .before .before in
+    let at-fields = c .before .before in
+    c .read-fields .ensures ∙ sym (def-counted _ _ _ _ _ (known (at-read-optional .read-optional .ensures) (at-length .length .given .1)) (at-list-count .list-count .ensures) (known (at-read-name .read-name .ensures) (at-name .name .given .1)) (known (at-read-count .read-count .ensures) (at-fields .fields .given .1)))
 
 abbrev read-fields-Inv-loop : read-fields-lts.InvT-loop
 read-fields-Inv-loop s start depth left count at₀ still₀ todo₀ at still todo = mapRead (λ f. left - among f) (readFields s (readTy s depth) count left start) ≡ mapRead (λ f. still - among f) (readFields s (readTy s depth) todo still at)
@@ -507,7 +556,11 @@ read-fields-returns :
     read-fields.Post
     read-fields-Inv-loop
     read-fields-μ-loop
-read-fields-returns t c = c .before .before .read-type .ensures ∙ ((told (c .before .before .read-type .ensures) (c .enum-told .given .1)) ∙ sym (c .before .before .before .before .loop .inv ∙ fields-stop _ _ _ _ _ (c .before .before .before .loop-test .taken) (told (c .before .before .read-type .ensures) (c .enum-told .given .1))))
+read-fields-returns t c =
+    let at-loop = c .before .before .before .before in
+    let at-loop-test = c .before .before .before in
+    let at-read-type = c .before .before in
+    at-read-type .read-type .ensures ∙ ((told (at-read-type .read-type .ensures) (c .enum-told .given .1)) ∙ sym (at-loop .loop .inv ∙ fields-stop _ _ _ _ _ (at-loop-test .loop-test .taken) (told (at-read-type .read-type .ensures) (c .enum-told .given .1))))
 
 read-fields-sub-todo :
     (t : ℕ) →
@@ -529,7 +582,11 @@ read-fields-loop-again : (t : ℕ) → read-fields-lts.Need-loop-again (
   read-type-below t,
   read-type.Post,
 ) (read-fields-at t) read-fields.Post read-fields-Inv-loop read-fields-μ-loop
-read-fields-loop-again t c = c .before .before .before .before .before .loop .inv ∙ fields-more _ _ _ _ _ (c .before .before .before .before .loop-test .taken) (known (c .before .before .before .read-type .ensures) (c .before .field .given .1))
+read-fields-loop-again t c =
+    let at-loop = c .before .before .before .before .before in
+    let at-loop-test = c .before .before .before .before in
+    let at-read-type = c .before .before .before in
+    at-loop .loop .inv ∙ fields-more _ _ _ _ _ (at-loop-test .loop-test .taken) (known (at-read-type .read-type .ensures) (c .before .field .given .1))
 
 read-fields-returns-2 : (t : ℕ) → read-fields-lts.Need-returns-2 (
   read-type-below t,
@@ -575,7 +632,9 @@ read-scalar-returns : (t : ℕ) → read-scalar-lts.Need-returns (
   read-box-below t,
   read-box.Post,
 ) (read-scalar-at t) read-scalar.Post
-read-scalar-returns t c = c .before .before .read-mark .ensures ∙ ((told (c .before .before .read-mark .ensures) (c .enum-told .given .1)) ∙ sym (scalar-unmarked _ _ _ _ (told (c .before .before .read-mark .ensures) (c .enum-told .given .1))))
+read-scalar-returns t c =
+    let at-read-mark = c .before .before in
+    at-read-mark .read-mark .ensures ∙ ((told (at-read-mark .read-mark .ensures) (c .enum-told .given .1)) ∙ sym (scalar-unmarked _ _ _ _ (told (at-read-mark .read-mark .ensures) (c .enum-told .given .1))))
 
 read-scalar-read-byte-requires : (t : ℕ) → read-scalar-lts.Need-read-byte-requires (
   read-mark-reads.Asked,
@@ -615,7 +674,11 @@ read-scalar-returns-2 : (t : ℕ) → read-scalar-lts.Need-returns-2 (
   read-box-below t,
   read-box.Post,
 ) (read-scalar-at t) read-scalar.Post
-read-scalar-returns-2 t c = c .before .before .read-byte .ensures ∙ ((told (c .before .before .read-byte .ensures) (c .enum-told2 .given .1)) ∙ sym (scalar-ended _ _ _ _ (known (c .before .before .before .before .before .before .read-mark .ensures) (c .before .before .before .before .mark .given .1)) (told (c .before .before .read-byte .ensures) (c .enum-told2 .given .1))))
+read-scalar-returns-2 t c =
+    let at-read-mark = c .before .before .before .before .before .before in
+    let at-mark = c .before .before .before .before in
+    let at-read-byte = c .before .before in
+    at-read-byte .read-byte .ensures ∙ ((told (at-read-byte .read-byte .ensures) (c .enum-told2 .given .1)) ∙ sym (scalar-ended _ _ _ _ (known (at-read-mark .read-mark .ensures) (at-mark .mark .given .1)) (told (at-read-byte .read-byte .ensures) (c .enum-told2 .given .1))))
 
 read-scalar-read-box-requires : (t : ℕ) → read-scalar-lts.Need-read-box-requires (
   read-mark-reads.Asked,
@@ -635,7 +698,12 @@ read-scalar-returns-3 : (t : ℕ) → read-scalar-lts.Need-returns-3 (
   read-box-below t,
   read-box.Post,
 ) (read-scalar-at t) read-scalar.Post
-read-scalar-returns-3 t c = c .read-box .ensures ∙ sym (scalar-boxed _ _ _ _ (known (c .before .before .before .before .before .before .before .before .before .read-mark .ensures) (c .before .before .before .before .before .before .before .mark .given .1)) (known (c .before .before .before .before .before .read-byte .ensures) (c .before .before .before .kind .given .1)) (c .before .if1 .taken))
+read-scalar-returns-3 t c =
+    let at-read-mark = c .before .before .before .before .before .before .before .before .before in
+    let at-mark = c .before .before .before .before .before .before .before in
+    let at-read-byte = c .before .before .before .before .before in
+    let at-kind = c .before .before .before in
+    c .read-box .ensures ∙ sym (scalar-boxed _ _ _ _ (known (at-read-mark .read-mark .ensures) (at-mark .mark .given .1)) (known (at-read-byte .read-byte .ensures) (at-kind .kind .given .1)) (c .before .if1 .taken))
 
 read-scalar-returns-4 : (t : ℕ) → read-scalar-lts.Need-returns-4 (
   read-mark-reads.Asked,
@@ -645,7 +713,12 @@ read-scalar-returns-4 : (t : ℕ) → read-scalar-lts.Need-returns-4 (
   read-box-below t,
   read-box.Post,
 ) (read-scalar-at t) read-scalar.Post
-read-scalar-returns-4 t c = sym (scalar-unknown _ _ _ _ (known (c .before .before .before .before .before .before .before .before .before .read-mark .ensures) (c .before .before .before .before .before .before .before .mark .given .1)) (known (c .before .before .before .before .before .read-byte .ensures) (c .before .before .before .kind .given .1)) (c .if2 .taken))
+read-scalar-returns-4 t c =
+    let at-read-mark = c .before .before .before .before .before .before .before .before .before in
+    let at-mark = c .before .before .before .before .before .before .before in
+    let at-read-byte = c .before .before .before .before .before in
+    let at-kind = c .before .before .before in
+    sym (scalar-unknown _ _ _ _ (known (at-read-mark .read-mark .ensures) (at-mark .mark .given .1)) (known (at-read-byte .read-byte .ensures) (at-kind .kind .given .1)) (c .if2 .taken))
 
 read-scalar-returns-5 : (t : ℕ) → read-scalar-lts.Need-returns-5 (
   read-mark-reads.Asked,
@@ -655,7 +728,12 @@ read-scalar-returns-5 : (t : ℕ) → read-scalar-lts.Need-returns-5 (
   read-box-below t,
   read-box.Post,
 ) (read-scalar-at t) read-scalar.Post
-read-scalar-returns-5 t c = sym (scalar-kind _ _ _ _ (known (c .before .before .before .before .before .before .before .before .before .read-mark .ensures) (c .before .before .before .before .before .before .before .mark .given .1)) (known (c .before .before .before .before .before .read-byte .ensures) (c .before .before .before .kind .given .1)) (c .before .if1 .left) (c .if2 .left))
+read-scalar-returns-5 t c =
+    let at-read-mark = c .before .before .before .before .before .before .before .before .before in
+    let at-mark = c .before .before .before .before .before .before .before in
+    let at-read-byte = c .before .before .before .before .before in
+    let at-kind = c .before .before .before in
+    sym (scalar-kind _ _ _ _ (known (at-read-mark .read-mark .ensures) (at-mark .mark .given .1)) (known (at-read-byte .read-byte .ensures) (at-kind .kind .given .1)) (c .before .if1 .left) (c .if2 .left))
 
 read-type-returns : (t : ℕ) → read-type-lts.Need-returns (
   read-shape-reads.Asked,
@@ -703,7 +781,11 @@ read-type-returns-3 : (t : ℕ) → read-type-lts.Need-returns-3 (
   read-scalar-below t,
   read-scalar.Post,
 ) (read-type-at t) read-type.Post
-read-type-returns-3 t c = ap answerOf (c .enum-told .given .1) ∙ sym (type-unshaped _ _ _ _ (c .before .before .before .before .if1 .left) (c .before .before .before .if2 .left) (told (c .before .before .read-shape .ensures) (c .enum-told .given .1)))
+read-type-returns-3 t c =
+    let at-if1 = c .before .before .before .before in
+    let at-if2 = c .before .before .before in
+    let at-read-shape = c .before .before in
+    ap answerOf (c .enum-told .given .1) ∙ sym (type-unshaped _ _ _ _ (at-if1 .if1 .left) (at-if2 .if2 .left) (told (at-read-shape .read-shape .ensures) (c .enum-told .given .1)))
 
 read-type-sub-read-scalar : (t : ℕ) → read-type-lts.Need-sub-read-scalar (
   read-shape-reads.Asked,
@@ -735,7 +817,12 @@ read-type-returns-4 : (t : ℕ) → read-type-lts.Need-returns-4 (
   read-scalar-below t,
   read-scalar.Post,
 ) (read-type-at t) read-type.Post
-read-type-returns-4 t c = c .read-scalar .ensures ∙ sym (type-shaped _ _ _ _ (c .before .before .before .before .before .before .if1 .left) (c .before .before .before .before .before .if2 .left) (known (c .before .before .before .before .read-shape .ensures) (c .before .before .shape .given .1)))
+read-type-returns-4 t c =
+    let at-if1 = c .before .before .before .before .before .before in
+    let at-if2 = c .before .before .before .before .before in
+    let at-read-shape = c .before .before .before .before in
+    let at-shape = c .before .before in
+    c .read-scalar .ensures ∙ sym (type-shaped _ _ _ _ (at-if1 .if1 .left) (at-if2 .if2 .left) (known (at-read-shape .read-shape .ensures) (at-shape .shape .given .1)))
 
 pub +read-box+read-def+read-fields+read-scalar+read-type-spec : {M : Type 1} → statement M
 +read-box+read-def+read-fields+read-scalar+read-type-spec =

@@ -12,7 +12,9 @@ scalar-known-requires c κs = lone-shaped (c .before .args .s .now) (λ i. omega
 
 -- src/whole.rt:60:1
 returns : tie.Need-returns
-returns c = scalar-part (c .before .before .args .s .now) (λ i. omega (arith, c .before .shared-slice-known .given i)) (c .before .before .pre) (c .scalar-known .result) (c .scalar-known .ensures)
+returns c =
+    let entry = c .before .before in
+    scalar-part (entry .args .s .now) (λ i. omega (arith, c .before .shared-slice-known .given i)) (entry .pre) (c .scalar-known .result) (c .scalar-known .ensures)
 
 pub lone-scalar-spec : {M : Type 1} → statement M
 lone-scalar-spec = tie.close (tie.spec scalar-known-requires returns)

@@ -12,7 +12,9 @@ shape-known-requires c κs = lone-shaped (c .before .args .s .now) (λ i. omega 
 
 -- src/whole.rt:52:1
 returns : tie.Need-returns
-returns c = shape-part (c .before .before .args .s .now) (λ i. omega (arith, c .before .shared-slice-known .given i)) (c .before .before .pre) (c .shape-known .result) (c .shape-known .ensures)
+returns c =
+    let entry = c .before .before in
+    shape-part (entry .args .s .now) (λ i. omega (arith, c .before .shared-slice-known .given i)) (entry .pre) (c .shape-known .result) (c .shape-known .ensures)
 
 pub lone-shape-spec : {M : Type 1} → statement M
 lone-shape-spec = tie.close (tie.spec shape-known-requires returns)

@@ -18,16 +18,31 @@ slice-aggregate-put : tie.Need-slice-aggregate-put
 slice-aggregate-put c = search needs
 
 put-requires-2 : tie.Need-put-requires-2
-put-requires-2 c κs = omega (arith, c .before .before .before .before .before .before .before .before .put .ensures .ends, c .before .before .before .before .put-number .ensures .ends, length-decimal 20 (c .before .before .before .before .before .before .before .before .before .before .before .before .args .m), c .before .before .before .before .before .before .before .before .before .before .before .before .pre .0)
+put-requires-2 c κs =
+    let entry = c .before .before .before .before .before .before .before .before .before .before .before .before in
+    let at-put = c .before .before .before .before .before .before .before .before in
+    let at-put-number = c .before .before .before .before in
+    omega (arith, at-put .put .ensures .ends, at-put-number .put-number .ensures .ends, length-decimal 20 (entry .args .m), entry .pre .0)
 
 put-number-requires-2 : tie.Need-put-number-requires-2
-put-number-requires-2 c κs = omega (arith, c .before .before .before .before .before .before .before .before .before .before .before .before .put .ensures .ends, c .before .before .before .before .before .before .before .before .put-number .ensures .ends, c .before .before .before .put2 .ensures .ends, length-decimal 20 (c .before .before .before .before .before .before .before .before .before .before .before .before .before .before .before .before .args .m), c .before .before .before .before .before .before .before .before .before .before .before .before .before .before .before .before .pre .0)
+put-number-requires-2 c κs =
+    let entry = c .before .before .before .before .before .before .before .before .before .before .before .before .before .before .before .before in
+    let at-put = c .before .before .before .before .before .before .before .before .before .before .before .before in
+    let at-put-number = c .before .before .before .before .before .before .before .before in
+    let at-put2 = c .before .before .before in
+    omega (arith, at-put .put .ensures .ends, at-put-number .put-number .ensures .ends, at-put2 .put2 .ensures .ends, length-decimal 20 (entry .args .m), entry .pre .0)
 
 same-length : tie.Need-same-length
 same-length c = search needs
 
 returns : tie.Need-returns
-returns c = head-laid _ _ _ (c .before .before .before .before .before .before .before .before .before .before .before .before .before .before .before .before .before .before .before .pre .0) _ _ (c .before .before .before .before .before .before .before .before .before .before .before .before .before .before .before .before .before .before .before .pre .1) (c .before .before .before .before .before .before .before .before .before .before .before .before .before .before .before .put .ensures) (c .before .before .before .before .before .before .before .before .before .before .before .put-number .ensures) (c .before .before .before .before .before .before .put2 .ensures) (c .before .before .put-number2 .ensures)
+returns c =
+    let entry = c .before .before .before .before .before .before .before .before .before .before .before .before .before .before .before .before .before .before .before in
+    let at-put = c .before .before .before .before .before .before .before .before .before .before .before .before .before .before .before in
+    let at-put-number = c .before .before .before .before .before .before .before .before .before .before .before in
+    let at-put2 = c .before .before .before .before .before .before in
+    let at-put-number2 = c .before .before in
+    head-laid _ _ _ (entry .pre .0) _ _ (entry .pre .1) (at-put .put .ensures) (at-put-number .put-number .ensures) (at-put2 .put2 .ensures) (at-put-number2 .put-number2 .ensures)
 
 pub put-head-spec : {M : Type 1} → statement M
 put-head-spec =

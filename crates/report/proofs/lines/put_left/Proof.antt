@@ -19,13 +19,22 @@ put-head-requires : tie.Need-put-head-requires
 put-head-requires c κs = search needs
 
 put-types-requires : tie.Need-put-types-requires
-put-types-requires c κs = (c .before .before .before .before .before .before .before .before .before .pre .0, omega (arith, c .before .before .before .before .before .before .before .before .before .pre .1, c .before .before .before .put-head .ensures .ends, length-headed okWord (c .before .before .before .before .before .before .before .before .before .args .types) (length (c .before .before .before .before .before .before .before .before .before .args .bytes .now)) refl))
+put-types-requires c κs =
+    let entry = c .before .before .before .before .before .before .before .before .before in
+    let at-put-head = c .before .before .before in
+    let args = entry .args in
+    (entry .pre .0, omega (arith, entry .pre .1, at-put-head .put-head .ensures .ends, length-headed okWord (args .types) (length (args .bytes .now)) refl))
 
 same-length : tie.Need-same-length
 same-length c = search needs
 
 returns : tie.Need-returns
-returns c = λ ts h. left-laid _ _ _ ts _ _ h (omega (arith, c .before .before .before .before .before .before .before .before .before .before .before .before .pre .1)) (c .before .before .before .before .before .before .put-head .ensures) (c .before .before .put-types .ensures ts h)
+returns c =
+    let entry = c .before .before .before .before .before .before .before .before .before .before .before .before in
+    let at-put-head = c .before .before .before .before .before .before in
+    let at-put-types = c .before .before in
+    λ ts h.
+    left-laid _ _ _ ts _ _ h (omega (arith, entry .pre .1)) (at-put-head .put-head .ensures) (at-put-types .put-types .ensures ts h)
 
 pub put-left-spec : {M : Type 1} → statement M
 put-left-spec =

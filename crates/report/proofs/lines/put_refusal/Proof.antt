@@ -17,7 +17,9 @@ same-length c = search needs
 
 returns : tie.Need-returns
 unfolding reported
-returns c = λ between. c .before .before .put-head .ensures
+returns c =
+    let at-put-head = c .before .before in
+    λ between. at-put-head .put-head .ensures
 
 pub put-refusal-spec : {M : Type 1} → statement M
 put-refusal-spec =

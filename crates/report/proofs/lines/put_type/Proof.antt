@@ -19,16 +19,31 @@ slice-aggregate-put : tie.Need-slice-aggregate-put
 slice-aggregate-put c = search needs
 
 put-requires-2 : tie.Need-put-requires-2
-put-requires-2 c κs = omega (arith, c .before .before .before .before .before .before .before .before .put .ensures .ends, c .before .before .before .before .put-number .ensures .ends, length-decimal 20 (c .before .before .before .before .before .before .before .before .before .before .before .before .before .args .place))
+put-requires-2 c κs =
+    let entry = c .before .before .before .before .before .before .before .before .before .before .before .before .before in
+    let at-put = c .before .before .before .before .before .before .before .before in
+    let at-put-number = c .before .before .before .before in
+    omega (arith, at-put .put .ensures .ends, at-put-number .put-number .ensures .ends, length-decimal 20 (entry .args .place))
 
 put-hex-requires : tie.Need-put-hex-requires
-put-hex-requires c κs = omega (arith, c .before .before .before .before .before .before .before .before .before .before .before .before .put .ensures .ends, c .before .before .before .before .before .before .before .before .put-number .ensures .ends, c .before .before .before .put2 .ensures .ends, length-decimal 20 (c .before .before .before .before .before .before .before .before .before .before .before .before .before .before .before .before .before .args .place))
+put-hex-requires c κs =
+    let entry = c .before .before .before .before .before .before .before .before .before .before .before .before .before .before .before .before .before in
+    let at-put = c .before .before .before .before .before .before .before .before .before .before .before .before in
+    let at-put-number = c .before .before .before .before .before .before .before .before in
+    let at-put2 = c .before .before .before in
+    omega (arith, at-put .put .ensures .ends, at-put-number .put-number .ensures .ends, at-put2 .put2 .ensures .ends, length-decimal 20 (entry .args .place))
 
 same-length : tie.Need-same-length
 same-length c = search needs
 
 returns : tie.Need-returns
-returns c = line-laid _ _ _ _ _ (c .before .before .before .before .before .before .before .before .before .before .before .before .before .before .before .before .before .before .before .before .pre) (c .before .before .before .before .before .before .before .before .before .before .before .before .before .before .before .put .ensures) (c .before .before .before .before .before .before .before .before .before .before .before .put-number .ensures) (c .before .before .before .before .before .before .put2 .ensures) (c .before .before .put-hex .ensures)
+returns c =
+    let entry = c .before .before .before .before .before .before .before .before .before .before .before .before .before .before .before .before .before .before .before .before in
+    let at-put = c .before .before .before .before .before .before .before .before .before .before .before .before .before .before .before in
+    let at-put-number = c .before .before .before .before .before .before .before .before .before .before .before in
+    let at-put2 = c .before .before .before .before .before .before in
+    let at-put-hex = c .before .before in
+    line-laid _ _ _ _ _ (entry .pre) (at-put .put .ensures) (at-put-number .put-number .ensures) (at-put2 .put2 .ensures) (at-put-hex .put-hex .ensures)
 
 pub put-type-spec : {M : Type 1} → statement M
 put-type-spec =

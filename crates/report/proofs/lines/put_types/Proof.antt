@@ -37,19 +37,46 @@ same-length : tie.Need-same-length Inv-loop μ-loop
 same-length c = search needs
 
 returns : tie.Need-returns Inv-loop μ-loop
-returns c = λ ts h. due-refused _ _ _ _ _ ts (c .before .before .before .before .before .before .before .before .pre .1) (omega (arith, c .before .before .before .loop-test .taken)) (c .enum-told .given .1) (c .before .before .read-type .ensures) (c .before .before .before .before .loop .inv .2 ts h)
+returns c =
+    let entry = c .before .before .before .before .before .before .before .before in
+    let at-loop = c .before .before .before .before in
+    let at-loop-test = c .before .before .before in
+    let at-read-type = c .before .before in
+    λ ts h.
+    due-refused _ _ _ _ _ ts (entry .pre .1) (omega (arith, at-loop-test .loop-test .taken)) (c .enum-told .given .1) (at-read-type .read-type .ensures) (at-loop .loop .inv .2 ts h)
 
 sub-put-type : tie.Need-sub-put-type Inv-loop μ-loop
-sub-put-type c = (due-read _ _ _ _ _ _ (c .before .before .before .before .before .before .before .before .before .pre .1) (omega (arith, c .before .before .before .before .loop-test .taken)) (c .before .read .given .1) (c .before .before .before .read-type .ensures) (c .before .before .before .before .before .loop .inv .2 (c .before .before .before .before .before .before .before .before .before .pre .0 .types) (c .before .before .before .before .before .before .before .before .before .pre .0 .there))) .onward
+sub-put-type c =
+    let entry = c .before .before .before .before .before .before .before .before .before in
+    let at-loop = c .before .before .before .before .before in
+    let at-loop-test = c .before .before .before .before in
+    let at-read-type = c .before .before .before in
+    (due-read _ _ _ _ _ _ (entry .pre .1) (omega (arith, at-loop-test .loop-test .taken)) (c .before .read .given .1) (at-read-type .read-type .ensures) (at-loop .loop .inv .2 (entry .pre .0 .types) (entry .pre .0 .there))) .onward
 
 part-put-type-start : tie.Need-part-put-type-start Inv-loop μ-loop
-part-put-type-start c = (due-read _ _ _ _ _ _ (c .before .before .before .before .before .before .before .before .before .pre .1) (omega (arith, c .before .before .before .before .loop-test .taken)) (c .before .read .given .1) (c .before .before .before .read-type .ensures) (c .before .before .before .before .before .loop .inv .2 (c .before .before .before .before .before .before .before .before .before .pre .0 .types) (c .before .before .before .before .before .before .before .before .before .pre .0 .there))) .onward
+part-put-type-start c =
+    let entry = c .before .before .before .before .before .before .before .before .before in
+    let at-loop = c .before .before .before .before .before in
+    let at-loop-test = c .before .before .before .before in
+    let at-read-type = c .before .before .before in
+    (due-read _ _ _ _ _ _ (entry .pre .1) (omega (arith, at-loop-test .loop-test .taken)) (c .before .read .given .1) (at-read-type .read-type .ensures) (at-loop .loop .inv .2 (entry .pre .0 .types) (entry .pre .0 .there))) .onward
 
 part-put-type-end : tie.Need-part-put-type-end Inv-loop μ-loop
-part-put-type-end c = (due-read _ _ _ _ _ _ (c .before .before .before .before .before .before .before .before .before .pre .1) (omega (arith, c .before .before .before .before .loop-test .taken)) (c .before .read .given .1) (c .before .before .before .read-type .ensures) (c .before .before .before .before .before .loop .inv .2 (c .before .before .before .before .before .before .before .before .before .pre .0 .types) (c .before .before .before .before .before .before .before .before .before .pre .0 .there))) .inside
+part-put-type-end c =
+    let entry = c .before .before .before .before .before .before .before .before .before in
+    let at-loop = c .before .before .before .before .before in
+    let at-loop-test = c .before .before .before .before in
+    let at-read-type = c .before .before .before in
+    (due-read _ _ _ _ _ _ (entry .pre .1) (omega (arith, at-loop-test .loop-test .taken)) (c .before .read .given .1) (at-read-type .read-type .ensures) (at-loop .loop .inv .2 (entry .pre .0 .types) (entry .pre .0 .there))) .inside
 
 put-type-requires : tie.Need-put-type-requires Inv-loop μ-loop
-put-type-requires c κs = omega (arith, (due-read _ _ _ _ _ _ (c .before .before .before .before .before .before .before .before .before .before .before .pre .1) (omega (arith, c .before .before .before .before .before .before .loop-test .taken)) (c .before .before .before .read .given .1) (c .before .before .before .before .before .read-type .ensures) (c .before .before .before .before .before .before .before .loop .inv .2 (c .before .before .before .before .before .before .before .before .before .before .before .pre .0 .types) (c .before .before .before .before .before .before .before .before .before .before .before .pre .0 .there))) .room, c .before .before .before .before .before .before .before .loop .inv .1)
+put-type-requires c κs =
+    let entry = c .before .before .before .before .before .before .before .before .before .before .before in
+    let at-loop = c .before .before .before .before .before .before .before in
+    let at-loop-test = c .before .before .before .before .before .before in
+    let at-read-type = c .before .before .before .before .before in
+    let at-read = c .before .before .before in
+    omega (arith, (due-read _ _ _ _ _ _ (entry .pre .1) (omega (arith, at-loop-test .loop-test .taken)) (at-read .read .given .1) (at-read-type .read-type .ensures) (at-loop .loop .inv .2 (entry .pre .0 .types) (entry .pre .0 .there))) .room, at-loop .loop .inv .1)
 
 add-i : tie.Need-add-i Inv-loop μ-loop
 add-i c = search needs
@@ -58,7 +85,14 @@ loop-less : tie.Need-loop-less Inv-loop μ-loop
 loop-less c = search needs
 
 loop-again : tie.Need-loop-again Inv-loop μ-loop
-loop-again c = (search needs, c .before .before .put-type .kept .1 .1 .1 .0 ∙ c .before .before .before .before .before .before .before .before .before .before .loop .inv .1, λ ts h. due-read _ _ _ _ _ ts (c .before .before .before .before .before .before .before .before .before .before .before .before .before .before .pre .1) (omega (arith, c .before .before .before .before .before .before .before .before .before .loop-test .taken)) (c .before .before .before .before .before .before .read .given .1) (c .before .before .before .before .before .before .before .before .read-type .ensures) (c .before .before .before .before .before .before .before .before .before .before .loop .inv .2 ts h) .more _ _ (c .before .before .put-type .ensures))
+loop-again c =
+    let entry = c .before .before .before .before .before .before .before .before .before .before .before .before .before .before in
+    let at-loop = c .before .before .before .before .before .before .before .before .before .before in
+    let at-loop-test = c .before .before .before .before .before .before .before .before .before in
+    let at-read-type = c .before .before .before .before .before .before .before .before in
+    let at-read = c .before .before .before .before .before .before in
+    let at-put-type = c .before .before in
+    (search needs, at-put-type .put-type .kept .1 .1 .1 .0 ∙ at-loop .loop .inv .1, λ ts h. due-read _ _ _ _ _ ts (entry .pre .1) (omega (arith, at-loop-test .loop-test .taken)) (at-read .read .given .1) (at-read-type .read-type .ensures) (at-loop .loop .inv .2 ts h) .more _ _ (at-put-type .put-type .ensures))
 
 same-length-2 : tie.Need-same-length-2 Inv-loop μ-loop
 same-length-2 c = search needs

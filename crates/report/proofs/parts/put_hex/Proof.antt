@@ -21,13 +21,19 @@ same-length : tie.Need-same-length
 same-length c = search needs
 
 returns : tie.Need-returns
-returns c = placed-laid _ _ _ (omega (arith, length-hexOf (c .before .before .before .before .before .before .before .before .before .args .bytes .now))) (c .before .placed .given .1) (c .before .before .before .before .before .put-hex .ensures)
+returns c =
+    let entry = c .before .before .before .before .before .before .before .before .before in
+    let at-put-hex = c .before .before .before .before .before in
+    placed-laid _ _ _ (omega (arith, length-hexOf (entry .args .bytes .now))) (c .before .placed .given .1) (at-put-hex .put-hex .ensures)
 
 same-length-2 : tie.Need-same-length-2
 same-length-2 c = search needs
 
 returns-2 : tie.Need-returns-2
-returns-2 c = never-short _ _ _ (omega (arith, length-hexOf (c .before .before .before .before .before .before .before .before .args .bytes .now))) (c .enum-told .given .1) (c .before .before .before .before .put-hex .ensures)
+returns-2 c =
+    let entry = c .before .before .before .before .before .before .before .before in
+    let at-put-hex = c .before .before .before .before in
+    never-short _ _ _ (omega (arith, length-hexOf (entry .args .bytes .now))) (c .enum-told .given .1) (at-put-hex .put-hex .ensures)
 
 pub put-hex-spec : {M : Type 1} → statement M
 put-hex-spec =

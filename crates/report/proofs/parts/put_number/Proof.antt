@@ -20,13 +20,19 @@ same-length : tie.Need-same-length
 same-length c = search needs
 
 returns : tie.Need-returns
-returns c = placed-laid _ _ _ (omega (arith, length-decimal 20 (c .before .before .before .before .before .before .before .before .args .n))) (c .before .placed .given .1) (c .before .before .before .before .before .put-decimal .ensures)
+returns c =
+    let entry = c .before .before .before .before .before .before .before .before in
+    let at-put-decimal = c .before .before .before .before .before in
+    placed-laid _ _ _ (omega (arith, length-decimal 20 (entry .args .n))) (c .before .placed .given .1) (at-put-decimal .put-decimal .ensures)
 
 same-length-2 : tie.Need-same-length-2
 same-length-2 c = search needs
 
 returns-2 : tie.Need-returns-2
-returns-2 c = never-short _ _ _ (omega (arith, length-decimal 20 (c .before .before .before .before .before .before .before .args .n))) (c .enum-told .given .1) (c .before .before .before .before .put-decimal .ensures)
+returns-2 c =
+    let entry = c .before .before .before .before .before .before .before in
+    let at-put-decimal = c .before .before .before .before in
+    never-short _ _ _ (omega (arith, length-decimal 20 (entry .args .n))) (c .enum-told .given .1) (at-put-decimal .put-decimal .ensures)
 
 pub put-number-spec : {M : Type 1} → statement M
 put-number-spec =

@@ -29,9 +29,12 @@ same-length c = search needs
 
 -- src/sheet.rt:93:1
 returns : tie.Need-returns
-returns c = λ ts h.
-    let args = c .before .before .before .before .before .before .before .before .before .before .args in
-    let wrote = c .before .before .before .before .before .write-types in
+returns c =
+    let entry = c .before .before .before .before .before .before .before .before .before .before in
+    let at-write-types = c .before .before .before .before .before in
+    λ ts h.
+    let args = entry .args in
+    let wrote = at-write-types .write-types in
     let out = wrote .last .1 .1 .1 .0 in
     let many : length (reverse ts) ≡ args .count = length-reverse ts ∙ holds-count (args .lengths .now) (args .count) (args .scratch .now) h in
     handed-count (args .size) (reverse ts) (args .result .now) out [] many (sym (ap (λ r. delivered r out) (c .before .n .given .1)) ∙ wrote .ensures ts h)
@@ -42,9 +45,12 @@ same-length-2 c = search needs
 
 -- src/sheet.rt:93:1
 returns-2 : tie.Need-returns-2
-returns-2 c = λ ts h.
-    let args = c .before .before .before .before .before .before .before .before .before .before .args in
-    let wrote = c .before .before .before .before .before .write-types in
+returns-2 c =
+    let entry = c .before .before .before .before .before .before .before .before .before .before in
+    let at-write-types = c .before .before .before .before .before in
+    λ ts h.
+    let args = entry .args in
+    let wrote = at-write-types .write-types in
     let out = wrote .last .1 .1 .1 .0 in
     not-handed (args .size) (reverse ts) (args .result .now) out [] (sym (ap (λ r. delivered r out) (c .before .number .given .1)) ∙ wrote .ensures ts h)
 

@@ -29,7 +29,12 @@ slice-aggregate-hand-over c = search needs
 
 -- src/sheet.rt:54:27
 hand-over-requires : tie.Need-hand-over-requires
-hand-over-requires c κs = run-left (c .before .before .before .before .before .before .before .before .before .before .before .before .before .before .before .before .args .sheet .now) (c .before .before .before .before .before .before .before .before .before .run-steps .result .answer) _ (c .before .before .before .before .before .before .before .before .before .run-steps .result .count) _ (c .before .before .before .before .before .before .before .before .before .run-steps .ensures) (c .before .before .before .enum-told .given .1) λ ts h e. record { types = ts; held = h }
+hand-over-requires c κs =
+    let entry = c .before .before .before .before .before .before .before .before .before .before .before .before .before .before .before .before in
+    let at-run-steps = c .before .before .before .before .before .before .before .before .before in
+    let at-enum-told = c .before .before .before in
+    run-left (entry .args .sheet .now) (at-run-steps .run-steps .result .answer) _ (at-run-steps .run-steps .result .count) _ (at-run-steps .run-steps .ensures) (at-enum-told .enum-told .given .1) λ ts h e.
+    record { types = ts; held = h }
 
 -- src/sheet.rt:55:9
 enum-known-answer : tie.Need-enum-known-answer
@@ -45,7 +50,13 @@ same-length-2 c = search needs
 
 -- src/sheet.rt:44:1
 returns : tie.Need-returns
-returns c = run-left (c .before .before .before .before .before .before .before .before .before .before .before .before .before .before .before .before .before .before .before .args .sheet .now) (c .before .before .before .before .before .before .before .before .before .before .before .before .run-steps .result .answer) _ (c .before .before .before .before .before .before .before .before .before .before .before .before .run-steps .result .count) _ (c .before .before .before .before .before .before .before .before .before .before .before .before .run-steps .ensures) (c .before .before .before .before .before .before .enum-told .given .1) λ ts h e. rw e (c .before .before .hand-over .ensures ts h)
+returns c =
+    let entry = c .before .before .before .before .before .before .before .before .before .before .before .before .before .before .before .before .before .before .before in
+    let at-run-steps = c .before .before .before .before .before .before .before .before .before .before .before .before in
+    let at-enum-told = c .before .before .before .before .before .before in
+    let at-hand-over = c .before .before in
+    run-left (entry .args .sheet .now) (at-run-steps .run-steps .result .answer) _ (at-run-steps .run-steps .result .count) _ (at-run-steps .run-steps .ensures) (at-enum-told .enum-told .given .1) λ ts h e.
+    rw e (at-hand-over .hand-over .ensures ts h)
 
 -- src/sheet.rt:44:1
 same-length-3 : tie.Need-same-length-3
@@ -53,7 +64,10 @@ same-length-3 c = search needs
 
 -- src/sheet.rt:44:1
 returns-2 : tie.Need-returns-2
-returns-2 c = run-refused (c .before .before .before .before .before .before .before .before .before .before .before .before .before .before .args .sheet .now) (c .before .before .before .before .before .before .before .run-steps .result .answer) _ (c .before .before .before .before .before .before .before .run-steps .result .count) _ (c .before .before .before .before .before .before .before .run-steps .ensures) (c .before .answer .given .1) _ _ _
+returns-2 c =
+    let entry = c .before .before .before .before .before .before .before .before .before .before .before .before .before .before in
+    let at-run-steps = c .before .before .before .before .before .before .before in
+    run-refused (entry .args .sheet .now) (at-run-steps .run-steps .result .answer) _ (at-run-steps .run-steps .result .count) _ (at-run-steps .run-steps .ensures) (c .before .answer .given .1) _ _ _
 
 pub run-sheet-spec : {M : Type 1} → statement M
 run-sheet-spec =

@@ -20,27 +20,42 @@ abbrev μ-loop : tie.MeasureT-loop
 
 -- src/sheet.rt:67:5
 loop-holds : tie.Need-loop-holds Inv-loop μ-loop
-loop-holds c = (search needs, search needs, search needs, record { types = []; held = holds-none (c .before .before .before .before .args .lengths .now) (c .before .before .before .before .args .scratch .now) (c .before .before .before .before .pre .0) (c .before .before .before .before .pre .1); same = refl })
+loop-holds c =
+    let entry = c .before .before .before .before in
+    let args = entry .args in
+    (search needs, search needs, search needs, record { types = []; held = holds-none (args .lengths .now) (args .scratch .now) (entry .pre .0) (entry .pre .1); same = refl })
 
 -- src/sheet.rt:69:13
 same-length : tie.Need-same-length Inv-loop μ-loop
-same-length c = c .before .before .loop .inv .0
+same-length c =
+    let at-loop = c .before .before in
+    at-loop .loop .inv .0
 
 -- src/sheet.rt:69:13
 same-length-2 : tie.Need-same-length-2 Inv-loop μ-loop
-same-length-2 c = c .before .before .loop .inv .1
+same-length-2 c =
+    let at-loop = c .before .before in
+    at-loop .loop .inv .1
 
 -- src/sheet.rt:69:13
 same-length-3 : tie.Need-same-length-3 Inv-loop μ-loop
-same-length-3 c = c .before .before .loop .inv .2
+same-length-3 c =
+    let at-loop = c .before .before in
+    at-loop .loop .inv .2
 
 -- src/sheet.rt:69:13
 returns : tie.Need-returns Inv-loop μ-loop
-returns c = going-over (c .before .before .before .before .before .before .before .args .s .now) (c .before .before .loop .inv .3) (c .if1 .taken) (c .before .loop-test .taken)
+returns c =
+    let entry = c .before .before .before .before .before .before .before in
+    let at-loop = c .before .before in
+    going-over (entry .args .s .now) (at-loop .loop .inv .3) (c .if1 .taken) (c .before .loop-test .taken)
 
 -- src/sheet.rt:77:13
 work-step-requires : tie.Need-work-step-requires Inv-loop μ-loop
-work-step-requires c κs = (omega (arith, c .before .before .before .before .before .loop .inv .2, c .before .before .before .before .before .before .before .before .before .before .pre .2), record { types = (c .before .before .before .before .before .loop .inv .3) .types; held = (c .before .before .before .before .before .loop .inv .3) .held })
+work-step-requires c κs =
+    let entry = c .before .before .before .before .before .before .before .before .before .before in
+    let at-loop = c .before .before .before .before .before in
+    (omega (arith, at-loop .loop .inv .2, entry .pre .2), record { types = (at-loop .loop .inv .3) .types; held = (at-loop .loop .inv .3) .held })
 
 -- src/sheet.rt:79:25
 enum-known-answer : tie.Need-enum-known-answer Inv-loop μ-loop
@@ -52,19 +67,34 @@ enum-told c = search needs
 
 -- src/sheet.rt:80:13
 same-length-4 : tie.Need-same-length-4 Inv-loop μ-loop
-same-length-4 c = c .before .before .before .before .before .before .before .before .work-step .kept .1 .1 .1 .0 ∙ c .before .before .before .before .before .before .before .before .before .before .before .before .before .before .loop .inv .0
+same-length-4 c =
+    let at-loop = c .before .before .before .before .before .before .before .before .before .before .before .before .before .before in
+    let at-work-step = c .before .before .before .before .before .before .before .before in
+    at-work-step .work-step .kept .1 .1 .1 .0 ∙ at-loop .loop .inv .0
 
 -- src/sheet.rt:80:13
 same-length-5 : tie.Need-same-length-5 Inv-loop μ-loop
-same-length-5 c = c .before .before .before .before .before .before .before .before .work-step .kept .1 .1 .1 .1 .0 ∙ c .before .before .before .before .before .before .before .before .before .before .before .before .before .before .loop .inv .1
+same-length-5 c =
+    let at-loop = c .before .before .before .before .before .before .before .before .before .before .before .before .before .before in
+    let at-work-step = c .before .before .before .before .before .before .before .before in
+    at-work-step .work-step .kept .1 .1 .1 .1 .0 ∙ at-loop .loop .inv .1
 
 -- src/sheet.rt:80:13
 same-length-6 : tie.Need-same-length-6 Inv-loop μ-loop
-same-length-6 c = c .before .before .before .before .before .before .before .before .work-step .kept .1 .1 .1 .1 .1 .0 ∙ c .before .before .before .before .before .before .before .before .before .before .before .before .before .before .loop .inv .2
+same-length-6 c =
+    let at-loop = c .before .before .before .before .before .before .before .before .before .before .before .before .before .before in
+    let at-work-step = c .before .before .before .before .before .before .before .before in
+    at-work-step .work-step .kept .1 .1 .1 .1 .1 .0 ∙ at-loop .loop .inv .2
 
 -- src/sheet.rt:80:13
 returns-2 : tie.Need-returns-2 Inv-loop μ-loop
-returns-2 c = going-stop (c .before .before .before .before .before .before .before .before .before .before .before .before .before .before .before .before .before .before .before .args .s .now) (c .before .before .before .before .before .before .before .before .work-step .result .answer) _ (c .before .before .before .before .before .before .before .before .work-step .result .count) _ (c .before .before .before .before .before .before .before .before .before .before .before .before .before .before .loop .inv .3) (c .before .before .before .before .before .before .before .before .before .before .before .before .if1 .left) (c .before .before .before .before .before .before .before .before .before .before .before .before .before .loop-test .taken) (c .before .before .before .before .before .before .before .before .work-step .ensures ((c .before .before .before .before .before .before .before .before .before .before .before .before .before .before .loop .inv .3) .types) ((c .before .before .before .before .before .before .before .before .before .before .before .before .before .before .loop .inv .3) .held)) (c .enum-told .given .1)
+returns-2 c =
+    let entry = c .before .before .before .before .before .before .before .before .before .before .before .before .before .before .before .before .before .before .before in
+    let at-loop = c .before .before .before .before .before .before .before .before .before .before .before .before .before .before in
+    let at-loop-test = c .before .before .before .before .before .before .before .before .before .before .before .before .before in
+    let at-if1 = c .before .before .before .before .before .before .before .before .before .before .before .before in
+    let at-work-step = c .before .before .before .before .before .before .before .before in
+    going-stop (entry .args .s .now) (at-work-step .work-step .result .answer) _ (at-work-step .work-step .result .count) _ (at-loop .loop .inv .3) (at-if1 .if1 .left) (at-loop-test .loop-test .taken) (at-work-step .work-step .ensures ((at-loop .loop .inv .3) .types) ((at-loop .loop .inv .3) .held)) (c .enum-told .given .1)
 
 -- src/sheet.rt:84:9
 sub-left : tie.Need-sub-left Inv-loop μ-loop
@@ -76,7 +106,13 @@ loop-less c = search needs
 
 -- src/sheet.rt:67:5
 loop-again : tie.Need-loop-again Inv-loop μ-loop
-loop-again c = (c .before .before .before .before .before .before .before .before .before .work-step .kept .1 .1 .1 .0 ∙ c .before .before .before .before .before .before .before .before .before .before .before .before .before .before .before .loop .inv .0, c .before .before .before .before .before .before .before .before .before .work-step .kept .1 .1 .1 .1 .0 ∙ c .before .before .before .before .before .before .before .before .before .before .before .before .before .before .before .loop .inv .1, c .before .before .before .before .before .before .before .before .before .work-step .kept .1 .1 .1 .1 .1 .0 ∙ c .before .before .before .before .before .before .before .before .before .before .before .before .before .before .before .loop .inv .2, going-step (c .before .before .before .before .before .before .before .before .before .before .before .before .before .before .before .before .before .before .before .before .args .s .now) (c .before .before .before .before .before .before .before .before .before .work-step .result .answer) (c .before .before .before .before .before .before .before .before .before .before .before .before .before .before .before .loop .inv .3) (c .before .before .before .before .before .before .before .before .before .before .before .before .before .if1 .left) (c .before .before .before .before .before .before .before .before .before .before .before .before .before .before .loop-test .taken) (c .before .before .before .before .before .before .before .before .before .work-step .ensures ((c .before .before .before .before .before .before .before .before .before .before .before .before .before .before .before .loop .inv .3) .types) ((c .before .before .before .before .before .before .before .before .before .before .before .before .before .before .before .loop .inv .3) .held)) (c .before .answer .given .1))
+loop-again c =
+    let entry = c .before .before .before .before .before .before .before .before .before .before .before .before .before .before .before .before .before .before .before .before in
+    let at-loop = c .before .before .before .before .before .before .before .before .before .before .before .before .before .before .before in
+    let at-loop-test = c .before .before .before .before .before .before .before .before .before .before .before .before .before .before in
+    let at-if1 = c .before .before .before .before .before .before .before .before .before .before .before .before .before in
+    let at-work-step = c .before .before .before .before .before .before .before .before .before in
+    (at-work-step .work-step .kept .1 .1 .1 .0 ∙ at-loop .loop .inv .0, at-work-step .work-step .kept .1 .1 .1 .1 .0 ∙ at-loop .loop .inv .1, at-work-step .work-step .kept .1 .1 .1 .1 .1 .0 ∙ at-loop .loop .inv .2, going-step (entry .args .s .now) (at-work-step .work-step .result .answer) (at-loop .loop .inv .3) (at-if1 .if1 .left) (at-loop-test .loop-test .taken) (at-work-step .work-step .ensures ((at-loop .loop .inv .3) .types) ((at-loop .loop .inv .3) .held)) (c .before .answer .given .1))
 
 -- src/sheet.rt:60:1
 same-length-7 : tie.Need-same-length-7 Inv-loop μ-loop
@@ -92,7 +128,9 @@ same-length-9 c = c .before .loop .inv .2
 
 -- src/sheet.rt:60:1
 returns-3 : tie.Need-returns-3 Inv-loop μ-loop
-returns-3 c = going-end (c .before .before .before .before .before .before .args .s .now) (c .before .loop .inv .3) (c .loop-test .left)
+returns-3 c =
+    let entry = c .before .before .before .before .before .before in
+    going-end (entry .args .s .now) (c .before .loop .inv .3) (c .loop-test .left)
 
 pub run-steps-spec : {M : Type 1} → statement M
 run-steps-spec =

@@ -23,11 +23,15 @@ use Rattle.shape.proofs.pervade_dyn_shapes.Reads as pervade-dyn-shapes-reads
 
 -- src/tops.rt:87:39
 lone-shape-requires : tie.Need-lone-shape-requires
-lone-shape-requires c κs = first-good _ _ (c .before .before .before .pre)
+lone-shape-requires c κs =
+    let entry = c .before .before .before in
+    first-good _ _ (entry .pre)
 
 -- src/tops.rt:87:54
 lone-shape-requires-2 : tie.Need-lone-shape-requires-2
-lone-shape-requires-2 c κs = second-good _ _ (c .before .before .before .before .pre)
+lone-shape-requires-2 c κs =
+    let entry = c .before .before .before .before in
+    second-good _ _ (entry .pre)
 
 -- src/tops.rt:87:9
 pervade-dyn-shapes-requires : tie.Need-pervade-dyn-shapes-requires
@@ -39,14 +43,22 @@ enum-told c = search needs
 
 -- src/tops.rt:90:9
 returns : tie.Need-returns
-returns c = sym (deliver-refused _ (by-scalars (lone (c .before .before .before .before .before .before .before .before .args .a .now)) (lone (c .before .before .before .before .before .before .before .before .args .b .now)) (c .before .before .before .before .lone-shape .ensures) (c .before .before .before .lone-shape2 .ensures) (λ t u. mapped writeTy (atStart (pervadeTypes (c .before .before .before .before .before .before .before .before .args .a-fill) (c .before .before .before .before .before .before .before .before .args .b-fill) t u))) (λ k l. refused unpervaded 0) (λ k l. shapes-clash (c .before .before .before .before .before .before .before .before .args .a-fill) (c .before .before .before .before .before .before .before .before .args .b-fill) (shapeFor (c .before .before .before .before .lone-shape .result)) (shapeFor (c .before .before .before .lone-shape2 .result)) k l (sym (c .before .before .pervade-dyn-shapes .ensures) ∙ ap (λ v. shapeBeside v (shapeFor (c .before .before .pervade-dyn-shapes .result .shape))) (c .enum-told .given .1))) ∙ both-refuse (lone (c .before .before .before .before .before .before .before .before .args .a .now)) (lone (c .before .before .before .before .before .before .before .before .args .b .now)) (c .before .before .before .before .before .before .before .before .pre) unpervaded 0))
+returns c =
+    let entry = c .before .before .before .before .before .before .before .before in
+    let at-lone-shape = c .before .before .before .before in
+    let at-lone-shape2 = c .before .before .before in
+    let at-pervade-dyn-shapes = c .before .before in
+    let args = entry .args in
+    sym (deliver-refused _ (by-scalars (lone (args .a .now)) (lone (args .b .now)) (at-lone-shape .lone-shape .ensures) (at-lone-shape2 .lone-shape2 .ensures) (λ t u. mapped writeTy (atStart (pervadeTypes (args .a-fill) (args .b-fill) t u))) (λ k l. refused unpervaded 0) (λ k l. shapes-clash (args .a-fill) (args .b-fill) (shapeFor (at-lone-shape .lone-shape .result)) (shapeFor (at-lone-shape2 .lone-shape2 .result)) k l (sym (at-pervade-dyn-shapes .pervade-dyn-shapes .ensures) ∙ ap (λ v. shapeBeside v (shapeFor (at-pervade-dyn-shapes .pervade-dyn-shapes .result .shape))) (c .enum-told .given .1))) ∙ both-refuse (lone (args .a .now)) (lone (args .b .now)) (entry .pre) unpervaded 0))
 
 enum-told-2 : tie.Need-enum-told-2
 enum-told-2 c = search needs
 
 -- src/tops.rt:96:5
 write-union-requires : tie.Need-write-union-requires
-write-union-requires c κs = (c .before .before .before .before .before .before .before .before .before .before .pre)
+write-union-requires c κs =
+    let entry = c .before .before .before .before .before .before .before .before .before .before in
+    (entry .pre)
 
 -- src/tops.rt:84:1
 same-length : tie.Need-same-length
@@ -54,7 +66,15 @@ same-length c = search needs
 
 -- src/tops.rt:84:1
 returns-2 : tie.Need-returns-2
-returns-2 c = c .before .before .write-union .ensures ∙ ap (λ o. deliver o (c .before .before .before .before .before .before .before .before .before .before .before .before .before .args .out .now)) (sym (by-scalars (lone (c .before .before .before .before .before .before .before .before .before .before .before .before .before .args .a .now)) (lone (c .before .before .before .before .before .before .before .before .before .before .before .before .before .args .b .now)) (c .before .before .before .before .before .before .before .before .before .lone-shape .ensures) (c .before .before .before .before .before .before .before .before .lone-shape2 .ensures) (λ t u. mapped writeTy (atStart (pervadeTypes (c .before .before .before .before .before .before .before .before .before .before .before .before .before .args .a-fill) (c .before .before .before .before .before .before .before .before .before .before .before .before .before .args .b-fill) t u))) (λ k l. accepted (writeTy (ty (shapeFor (c .before .before .before .before .before .before .before .pervade-dyn-shapes .result .shape)) (union k l)))) (λ k l. shapes-pervade (c .before .before .before .before .before .before .before .before .before .before .before .before .before .args .a-fill) (c .before .before .before .before .before .before .before .before .before .before .before .before .before .args .b-fill) (shapeFor (c .before .before .before .before .before .before .before .before .before .lone-shape .result)) (shapeFor (c .before .before .before .before .before .before .before .before .lone-shape2 .result)) k l (sym (c .before .before .before .before .before .before .before .pervade-dyn-shapes .ensures) ∙ ap (λ v. shapeBeside v (shapeFor (c .before .before .before .before .before .before .before .pervade-dyn-shapes .result .shape))) (c .before .before .before .before .before .enum-told2 .given .1)))))
+returns-2 c =
+    let entry = c .before .before .before .before .before .before .before .before .before .before .before .before .before in
+    let at-lone-shape = c .before .before .before .before .before .before .before .before .before in
+    let at-lone-shape2 = c .before .before .before .before .before .before .before .before in
+    let at-pervade-dyn-shapes = c .before .before .before .before .before .before .before in
+    let at-enum-told2 = c .before .before .before .before .before in
+    let at-write-union = c .before .before in
+    let args = entry .args in
+    at-write-union .write-union .ensures ∙ ap (λ o. deliver o (args .out .now)) (sym (by-scalars (lone (args .a .now)) (lone (args .b .now)) (at-lone-shape .lone-shape .ensures) (at-lone-shape2 .lone-shape2 .ensures) (λ t u. mapped writeTy (atStart (pervadeTypes (args .a-fill) (args .b-fill) t u))) (λ k l. accepted (writeTy (ty (shapeFor (at-pervade-dyn-shapes .pervade-dyn-shapes .result .shape)) (union k l)))) (λ k l. shapes-pervade (args .a-fill) (args .b-fill) (shapeFor (at-lone-shape .lone-shape .result)) (shapeFor (at-lone-shape2 .lone-shape2 .result)) k l (sym (at-pervade-dyn-shapes .pervade-dyn-shapes .ensures) ∙ ap (λ v. shapeBeside v (shapeFor (at-pervade-dyn-shapes .pervade-dyn-shapes .result .shape))) (at-enum-told2 .enum-told2 .given .1)))))
 
 pub pervade-types-spec : {M : Type 1} → statement M
 pervade-types-spec =

@@ -19,7 +19,10 @@ sub-load c = search needs
 
 -- src/tops.rt:36:9
 load-requires : tie.Need-load-requires
-load-requires c κs = (c .before .before .before .args .count, c .before .before .before .args .scratch .now, omega (arith, c .before .before .before .pre .0), c .before .before .before .pre .1)
+load-requires c κs =
+    let entry = c .before .before .before in
+    let args = entry .args in
+    (args .count, args .scratch .now, omega (arith, entry .pre .0), entry .pre .1)
 
 -- src/tops.rt:39:15
 sub-row-known : tie.Need-sub-row-known
@@ -35,7 +38,13 @@ part-row-known-end c = search needs
 
 -- src/tops.rt:39:5
 row-known-requires : tie.Need-row-known-requires
-row-known-requires c κs = one-held (c .before .before .before .before .before .before .pre .1 .types) (c .before .before .before .before .before .before .pre .1 .held) (c .before .before .before .before .before .before .pre .0) λ t us e. let hh : Holds (c .before .before .before .before .before .before .args .lengths .now) (c .before .before .before .before .before .before .args .count) (c .before .before .before .before .before .before .args .scratch .now) (t ∷ us) = rw e at (c .before .before .before .before .before .before .pre .1 .held) in rw (held-lone (c .before .before .load .ensures .1 (c .before .before .before .before .before .before .args .scratch .now) ∙ holds-top (c .before .before .before .before .before .before .args .lengths .now) (c .before .before .before .before .before .before .args .count) (c .before .before .before .before .before .before .args .scratch .now) hh) (hh .within .0))
+row-known-requires c κs =
+    let entry = c .before .before .before .before .before .before in
+    let at-load = c .before .before in
+    let args = entry .args in
+    one-held (entry .pre .1 .types) (entry .pre .1 .held) (entry .pre .0) λ t us e.
+    let hh : Holds (args .lengths .now) (args .count) (args .scratch .now) (t ∷ us) = rw e at (entry .pre .1 .held) in
+    rw (held-lone (at-load .load .ensures .1 (args .scratch .now) ∙ holds-top (args .lengths .now) (args .count) (args .scratch .now) hh) (hh .within .0))
 
 -- src/tops.rt:32:1
 same-length : tie.Need-same-length
@@ -43,7 +52,13 @@ same-length c = search needs
 
 -- src/tops.rt:32:1
 returns : tie.Need-returns
-returns c = λ t ts hh. c .before .before .row-known .ensures ∙ rw (held-lone (c .before .before .before .before .before .load .ensures .1 (c .before .before .before .before .before .before .before .before .before .args .scratch .now) ∙ holds-top (c .before .before .before .before .before .before .before .before .before .args .lengths .now) (c .before .before .before .before .before .before .before .before .before .args .count) (c .before .before .before .before .before .before .before .before .before .args .scratch .now) hh) (hh .within .0))
+returns c =
+    let entry = c .before .before .before .before .before .before .before .before .before in
+    let at-load = c .before .before .before .before .before in
+    let at-row-known = c .before .before in
+    let args = entry .args in
+    λ t ts hh.
+    at-row-known .row-known .ensures ∙ rw (held-lone (at-load .load .ensures .1 (args .scratch .now) ∙ holds-top (args .lengths .now) (args .count) (args .scratch .now) hh) (hh .within .0))
 
 pub row-top-spec : {M : Type 1} → statement M
 row-top-spec =

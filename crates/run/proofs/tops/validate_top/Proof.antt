@@ -20,7 +20,10 @@ sub-load c = search needs
 
 -- src/tops.rt:111:9
 load-requires : tie.Need-load-requires
-load-requires c κs = (c .before .before .before .before .args .count, c .before .before .before .before .args .scratch .now, omega (arith, c .before .before .before .before .pre .0), c .before .before .before .before .pre .2)
+load-requires c κs =
+    let entry = c .before .before .before .before in
+    let args = entry .args in
+    (args .count, args .scratch .now, omega (arith, entry .pre .0), entry .pre .2)
 
 -- src/tops.rt:114:41
 sub-validate-known : tie.Need-sub-validate-known
@@ -36,7 +39,11 @@ part-validate-known-end c = search needs
 
 -- src/tops.rt:114:5
 validate-known-requires : tie.Need-validate-known-requires
-validate-known-requires c κs = (one-held (c .before .before .before .before .before .before .before .pre .2 .types) (c .before .before .before .before .before .before .before .pre .2 .held) (c .before .before .before .before .before .before .before .pre .0) λ t us e. let hh : Holds (c .before .before .before .before .before .before .before .args .lengths .now) (c .before .before .before .before .before .before .before .args .count) (c .before .before .before .before .before .before .before .args .scratch .now) (t ∷ us) = rw e at (c .before .before .before .before .before .before .before .pre .2 .held) in rw (c .before .before .before .before .before .before .before .pre .3 .1, held-lone (c .before .before .load .ensures .1 (c .before .before .before .before .before .before .before .args .scratch .now) ∙ holds-top (c .before .before .before .before .before .before .before .args .lengths .now) (c .before .before .before .before .before .before .before .args .count) (c .before .before .before .before .before .before .before .args .scratch .now) hh) (hh .within .0)), c .before .before .before .before .before .before .before .pre .1)
+validate-known-requires c κs =
+    let entry = c .before .before .before .before .before .before .before in
+    let at-load = c .before .before in
+    let args = entry .args in
+    (one-held (entry .pre .2 .types) (entry .pre .2 .held) (entry .pre .0) λ t us e. let hh : Holds (args .lengths .now) (args .count) (args .scratch .now) (t ∷ us) = rw e at (entry .pre .2 .held) in rw (entry .pre .3 .1, held-lone (at-load .load .ensures .1 (args .scratch .now) ∙ holds-top (args .lengths .now) (args .count) (args .scratch .now) hh) (hh .within .0)), entry .pre .1)
 
 -- src/tops.rt:101:1
 same-length : tie.Need-same-length
@@ -44,7 +51,13 @@ same-length c = search needs
 
 -- src/tops.rt:101:1
 returns : tie.Need-returns
-returns c = λ s t ts h e. subst (λ o. Puts (c .before .before .validate-known .result) (c .before .before .validate-known .last .1 .1 .1 .0) o) (rw (e, held-lone (c .before .before .before .before .before .load .ensures .1 (c .before .before .before .before .before .before .before .before .before .before .args .scratch .now) ∙ holds-top (c .before .before .before .before .before .before .before .before .before .before .args .lengths .now) (c .before .before .before .before .before .before .before .before .before .before .args .count) (c .before .before .before .before .before .before .before .before .before .before .args .scratch .now) h) (h .within .0))) (c .before .before .validate-known .ensures)
+returns c =
+    let entry = c .before .before .before .before .before .before .before .before .before .before in
+    let at-load = c .before .before .before .before .before in
+    let at-validate-known = c .before .before in
+    let args = entry .args in
+    λ s t ts h e.
+    subst (λ o. Puts (at-validate-known .validate-known .result) (at-validate-known .validate-known .last .1 .1 .1 .0) o) (rw (e, held-lone (at-load .load .ensures .1 (args .scratch .now) ∙ holds-top (args .lengths .now) (args .count) (args .scratch .now) h) (h .within .0))) (at-validate-known .validate-known .ensures)
 
 pub validate-top-spec : {M : Type 1} → statement M
 validate-top-spec =

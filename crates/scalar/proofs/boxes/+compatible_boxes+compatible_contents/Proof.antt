@@ -72,7 +72,9 @@ compatible-boxes-is-all-requires : (t : ℕ) → compatible-boxes-lts.Need-is-al
   compatible-codes-reads.Asked,
   compatible-codes-reads.Learnt,
 ) (compatible-boxes-at t) compatible-boxes.Post
-compatible-boxes-is-all-requires t c κs = (_, c .before .before .pre .1 .0)
+compatible-boxes-is-all-requires t c κs =
+    let entry = c .before .before in
+    (_, entry .pre .1 .0)
 
 compatible-boxes-is-all-requires-2 : (t : ℕ) → compatible-boxes-lts.Need-is-all-requires-2 (
   is-all-reads.Asked,
@@ -84,7 +86,9 @@ compatible-boxes-is-all-requires-2 : (t : ℕ) → compatible-boxes-lts.Need-is-
   compatible-codes-reads.Asked,
   compatible-codes-reads.Learnt,
 ) (compatible-boxes-at t) compatible-boxes.Post
-compatible-boxes-is-all-requires-2 t c κs = (_, c .before .before .before .before .pre .1 .1)
+compatible-boxes-is-all-requires-2 t c κs =
+    let entry = c .before .before .before .before in
+    (_, entry .pre .1 .1)
 
 compatible-boxes-add-compatible-contents :
     (t : ℕ) → compatible-boxes-lts.Need-add-compatible-contents (
@@ -97,7 +101,11 @@ compatible-boxes-add-compatible-contents :
       compatible-codes-reads.Asked,
       compatible-codes-reads.Learnt,
     ) (compatible-boxes-at t) compatible-boxes.Post
-compatible-boxes-add-compatible-contents t c = omega (arith, all-within _ _ _ (c .before .before .before .before .before .before .pre .1 .0) (sym (c .before .before .before .is-all .ensures _ _ (c .before .before .before .before .before .before .pre .1 .0 .there)) ∙ c .before .before .if1 .taken))
+compatible-boxes-add-compatible-contents t c =
+    let entry = c .before .before .before .before .before .before in
+    let at-is-all = c .before .before .before in
+    let at-if1 = c .before .before in
+    omega (arith, all-within _ _ _ (entry .pre .1 .0) (sym (at-is-all .is-all .ensures _ _ (entry .pre .1 .0 .there)) ∙ at-if1 .if1 .taken))
 
 compatible-boxes-add-compatible-contents-2 :
     (t : ℕ) → compatible-boxes-lts.Need-add-compatible-contents-2 (
@@ -110,7 +118,9 @@ compatible-boxes-add-compatible-contents-2 :
       compatible-codes-reads.Asked,
       compatible-codes-reads.Learnt,
     ) (compatible-boxes-at t) compatible-boxes.Post
-compatible-boxes-add-compatible-contents-2 t c = omega (arith, all-within _ _ _ (c .before .before .before .before .before .before .pre .1 .1) (sym (c .before .is-all2 .ensures _ _ (c .before .before .before .before .before .before .pre .1 .1 .there)) ∙ c .if2 .taken))
+compatible-boxes-add-compatible-contents-2 t c =
+    let entry = c .before .before .before .before .before .before in
+    omega (arith, all-within _ _ _ (entry .pre .1 .1) (sym (c .before .is-all2 .ensures _ _ (entry .pre .1 .1 .there)) ∙ c .if2 .taken))
 
 compatible-boxes-compatible-contents-requires :
     (t : ℕ) → compatible-boxes-lts.Need-compatible-contents-requires (
@@ -123,7 +133,11 @@ compatible-boxes-compatible-contents-requires :
       compatible-codes-reads.Asked,
       compatible-codes-reads.Learnt,
     ) (compatible-boxes-at t) compatible-boxes.Post
-compatible-boxes-compatible-contents-requires t c κs = (omega arith, (has-content _ _ _ (c .before .before .before .before .before .before .pre .1 .0) (sym (c .before .before .before .is-all .ensures _ _ (c .before .before .before .before .before .before .pre .1 .0 .there)) ∙ c .before .before .if1 .taken), has-content _ _ _ (c .before .before .before .before .before .before .pre .1 .1) (sym (c .before .is-all2 .ensures _ _ (c .before .before .before .before .before .before .pre .1 .1 .there)) ∙ c .if2 .taken)))
+compatible-boxes-compatible-contents-requires t c κs =
+    let entry = c .before .before .before .before .before .before in
+    let at-is-all = c .before .before .before in
+    let at-if1 = c .before .before in
+    (omega arith, (has-content _ _ _ (entry .pre .1 .0) (sym (at-is-all .is-all .ensures _ _ (entry .pre .1 .0 .there)) ∙ at-if1 .if1 .taken), has-content _ _ _ (entry .pre .1 .1) (sym (c .before .is-all2 .ensures _ _ (entry .pre .1 .1 .there)) ∙ c .if2 .taken)))
 
 compatible-boxes-returns : (t : ℕ) → compatible-boxes-lts.Need-returns (
   is-all-reads.Asked,
@@ -135,7 +149,12 @@ compatible-boxes-returns : (t : ℕ) → compatible-boxes-lts.Need-returns (
   compatible-codes-reads.Asked,
   compatible-codes-reads.Learnt,
 ) (compatible-boxes-at t) compatible-boxes.Post
-compatible-boxes-returns t c = λ k l h g. all-compatible _ _ _ _ _ k l h g (sym (c .before .before .before .before .is-all .ensures _ k h) ∙ c .before .before .before .if1 .taken) (sym (c .before .before .is-all2 .ensures _ l g) ∙ c .before .if2 .taken) (c .compatible-contents .ensures)
+compatible-boxes-returns t c =
+    let at-is-all = c .before .before .before .before in
+    let at-if1 = c .before .before .before in
+    let at-is-all2 = c .before .before in
+    λ k l h g.
+    all-compatible _ _ _ _ _ k l h g (sym (at-is-all .is-all .ensures _ k h) ∙ at-if1 .if1 .taken) (sym (at-is-all2 .is-all2 .ensures _ l g) ∙ c .before .if2 .taken) (c .compatible-contents .ensures)
 
 compatible-boxes-kind-at-requires : (t : ℕ) → compatible-boxes-lts.Need-kind-at-requires (
   is-all-reads.Asked,
@@ -147,7 +166,9 @@ compatible-boxes-kind-at-requires : (t : ℕ) → compatible-boxes-lts.Need-kind
   compatible-codes-reads.Asked,
   compatible-codes-reads.Learnt,
 ) (compatible-boxes-at t) compatible-boxes.Post
-compatible-boxes-kind-at-requires t c κs = kind-within _ _ (c .before .before .before .before .pre .1 .0 .scalar) (c .before .before .before .before .pre .1 .0 .there .stands)
+compatible-boxes-kind-at-requires t c κs =
+    let entry = c .before .before .before .before in
+    kind-within _ _ (entry .pre .1 .0 .scalar) (entry .pre .1 .0 .there .stands)
 
 compatible-boxes-kind-at-requires-2 : (t : ℕ) → compatible-boxes-lts.Need-kind-at-requires-2 (
   is-all-reads.Asked,
@@ -159,7 +180,9 @@ compatible-boxes-kind-at-requires-2 : (t : ℕ) → compatible-boxes-lts.Need-ki
   compatible-codes-reads.Asked,
   compatible-codes-reads.Learnt,
 ) (compatible-boxes-at t) compatible-boxes.Post
-compatible-boxes-kind-at-requires-2 t c κs = kind-within _ _ (c .before .before .before .before .before .pre .1 .1 .scalar) (c .before .before .before .before .before .pre .1 .1 .there .stands)
+compatible-boxes-kind-at-requires-2 t c κs =
+    let entry = c .before .before .before .before .before in
+    kind-within _ _ (entry .pre .1 .1 .scalar) (entry .pre .1 .1 .there .stands)
 
 compatible-boxes-compatible-codes-requires :
     (t : ℕ) → compatible-boxes-lts.Need-compatible-codes-requires (
@@ -184,7 +207,12 @@ compatible-boxes-returns-2 : (t : ℕ) → compatible-boxes-lts.Need-returns-2 (
   compatible-codes-reads.Asked,
   compatible-codes-reads.Learnt,
 ) (compatible-boxes-at t) compatible-boxes.Post
-compatible-boxes-returns-2 t c = λ k l h g. by-kind _ _ _ _ _ k l h g (λ e f. ⊎-elim (λ w. clash (w .1 .ensures _ l g) f (w .2 .left)) (λ w. clash (c .before .before .before .before .is-all .ensures _ k h) e (w .left)) (c .before .before .before .if1 .came)) (c .before .before .kind-at .ensures .0) (c .before .kind-at2 .ensures .0) (c .compatible-codes .ensures)
+compatible-boxes-returns-2 t c =
+    let at-is-all = c .before .before .before .before in
+    let at-if1 = c .before .before .before in
+    let at-kind-at = c .before .before in
+    λ k l h g.
+    by-kind _ _ _ _ _ k l h g (λ e f. ⊎-elim (λ w. clash (w .1 .ensures _ l g) f (w .2 .left)) (λ w. clash (at-is-all .is-all .ensures _ k h) e (w .left)) (at-if1 .if1 .came)) (at-kind-at .kind-at .ensures .0) (c .before .kind-at2 .ensures .0) (c .compatible-codes .ensures)
 
 compatible-contents-shape-at-requires : (t : ℕ) → compatible-contents-lts.Need-shape-at-requires (
   shape-at-reads.Asked,
@@ -196,7 +224,9 @@ compatible-contents-shape-at-requires : (t : ℕ) → compatible-contents-lts.Ne
   compatible-with-reads.Asked,
   compatible-with-reads.Learnt,
 ) (compatible-contents-at t) compatible-contents.Post
-compatible-contents-shape-at-requires t c κs = (_, c .before .before .pre .1 .0)
+compatible-contents-shape-at-requires t c κs =
+    let entry = c .before .before in
+    (_, entry .pre .1 .0)
 
 compatible-contents-shape-at-requires-2 :
     (t : ℕ) → compatible-contents-lts.Need-shape-at-requires-2 (
@@ -209,7 +239,9 @@ compatible-contents-shape-at-requires-2 :
       compatible-with-reads.Asked,
       compatible-with-reads.Learnt,
     ) (compatible-contents-at t) compatible-contents.Post
-compatible-contents-shape-at-requires-2 t c κs = (_, c .before .before .before .pre .1 .1)
+compatible-contents-shape-at-requires-2 t c κs =
+    let entry = c .before .before .before in
+    (_, entry .pre .1 .1)
 
 compatible-contents-shape-length-requires :
     (t : ℕ) → compatible-contents-lts.Need-shape-length-requires (
@@ -235,7 +267,10 @@ compatible-contents-add-compatible-boxes :
       compatible-with-reads.Asked,
       compatible-with-reads.Learnt,
     ) (compatible-contents-at t) compatible-contents.Post
-compatible-contents-add-compatible-boxes t c = omega (arith, behind-within _ _ (c .before .before .shape-at .result) (c .before .before .shape-at .ensures) (c .shape-length .ensures .0) _ (c .before .before .before .before .before .pre .1 .0))
+compatible-contents-add-compatible-boxes t c =
+    let entry = c .before .before .before .before .before in
+    let at-shape-at = c .before .before in
+    omega (arith, behind-within _ _ (at-shape-at .shape-at .result) (at-shape-at .shape-at .ensures) (c .shape-length .ensures .0) _ (entry .pre .1 .0))
 
 compatible-contents-shape-length-requires-2 :
     (t : ℕ) → compatible-contents-lts.Need-shape-length-requires-2 (
@@ -261,7 +296,10 @@ compatible-contents-add-compatible-boxes-2 :
       compatible-with-reads.Asked,
       compatible-with-reads.Learnt,
     ) (compatible-contents-at t) compatible-contents.Post
-compatible-contents-add-compatible-boxes-2 t c = omega (arith, behind-within _ _ (c .before .before .shape-at2 .result) (c .before .before .shape-at2 .ensures) (c .shape-length2 .ensures .0) _ (c .before .before .before .before .before .before .pre .1 .1))
+compatible-contents-add-compatible-boxes-2 t c =
+    let entry = c .before .before .before .before .before .before in
+    let at-shape-at2 = c .before .before in
+    omega (arith, behind-within _ _ (at-shape-at2 .shape-at2 .result) (at-shape-at2 .shape-at2 .ensures) (c .shape-length2 .ensures .0) _ (entry .pre .1 .1))
 
 compatible-contents-sub-compatible-boxes :
     (t : ℕ) → compatible-contents-lts.Need-sub-compatible-boxes (
@@ -274,7 +312,9 @@ compatible-contents-sub-compatible-boxes :
       compatible-with-reads.Asked,
       compatible-with-reads.Learnt,
     ) (compatible-contents-at t) compatible-contents.Post
-compatible-contents-sub-compatible-boxes t c = omega (arith, deep _ _ _ (c .before .before .before .before .before .before .pre .1 .0))
+compatible-contents-sub-compatible-boxes t c =
+    let entry = c .before .before .before .before .before .before in
+    omega (arith, deep _ _ _ (entry .pre .1 .0))
 
 compatible-contents-compatible-boxes-requires :
     (t : ℕ) → compatible-contents-lts.Need-compatible-boxes-requires (
@@ -287,7 +327,11 @@ compatible-contents-compatible-boxes-requires :
       compatible-with-reads.Asked,
       compatible-with-reads.Learnt,
     ) (compatible-contents-at t) compatible-contents.Post
-compatible-contents-compatible-boxes-requires t c κs = (omega (arith, deep _ _ _ (c .before .before .before .before .before .before .pre .1 .0)), (has-scalar _ _ (c .before .before .before .shape-at .result) (c .before .before .before .shape-at .ensures) (c .before .shape-length .ensures .0) _ (c .before .before .before .before .before .before .pre .1 .0), has-scalar _ _ (c .before .before .shape-at2 .result) (c .before .before .shape-at2 .ensures) (c .shape-length2 .ensures .0) _ (c .before .before .before .before .before .before .pre .1 .1)))
+compatible-contents-compatible-boxes-requires t c κs =
+    let entry = c .before .before .before .before .before .before in
+    let at-shape-at = c .before .before .before in
+    let at-shape-at2 = c .before .before in
+    (omega (arith, deep _ _ _ (entry .pre .1 .0)), (has-scalar _ _ (at-shape-at .shape-at .result) (at-shape-at .shape-at .ensures) (c .before .shape-length .ensures .0) _ (entry .pre .1 .0), has-scalar _ _ (at-shape-at2 .shape-at2 .result) (at-shape-at2 .shape-at2 .ensures) (c .shape-length2 .ensures .0) _ (entry .pre .1 .1)))
 
 compatible-contents-compatible-with-requires :
     (t : ℕ) → compatible-contents-lts.Need-compatible-with-requires (
@@ -312,7 +356,14 @@ compatible-contents-returns : (t : ℕ) → compatible-contents-lts.Need-returns
   compatible-with-reads.Asked,
   compatible-with-reads.Learnt,
 ) (compatible-contents-at t) compatible-contents.Post
-compatible-contents-returns t c = λ t u h g. contents-shapes t u (c .before .before .compatible-boxes .ensures (scalarOf t) (scalarOf u) (scalar-behind _ _ (c .before .before .before .before .before .before .shape-at .result) (c .before .before .before .before .before .before .shape-at .ensures) (c .before .before .before .before .shape-length .ensures .0) _ t h) (scalar-behind _ _ (c .before .before .before .before .before .shape-at2 .result) (c .before .before .before .before .before .shape-at2 .ensures) (c .before .before .before .shape-length2 .ensures .0) _ u g)) (c .before .if1 .taken) (c .compatible-with .ensures) (c .before .before .before .before .before .before .shape-at .ensures _ t h) (c .before .before .before .before .before .shape-at2 .ensures _ u g)
+compatible-contents-returns t c =
+    let at-shape-at = c .before .before .before .before .before .before in
+    let at-shape-at2 = c .before .before .before .before .before in
+    let at-shape-length = c .before .before .before .before in
+    let at-shape-length2 = c .before .before .before in
+    let at-compatible-boxes = c .before .before in
+    λ t u h g.
+    contents-shapes t u (at-compatible-boxes .compatible-boxes .ensures (scalarOf t) (scalarOf u) (scalar-behind _ _ (at-shape-at .shape-at .result) (at-shape-at .shape-at .ensures) (at-shape-length .shape-length .ensures .0) _ t h) (scalar-behind _ _ (at-shape-at2 .shape-at2 .result) (at-shape-at2 .shape-at2 .ensures) (at-shape-length2 .shape-length2 .ensures .0) _ u g)) (c .before .if1 .taken) (c .compatible-with .ensures) (at-shape-at .shape-at .ensures _ t h) (at-shape-at2 .shape-at2 .ensures _ u g)
 
 compatible-contents-returns-2 : (t : ℕ) → compatible-contents-lts.Need-returns-2 (
   shape-at-reads.Asked,
@@ -324,7 +375,13 @@ compatible-contents-returns-2 : (t : ℕ) → compatible-contents-lts.Need-retur
   compatible-with-reads.Asked,
   compatible-with-reads.Learnt,
 ) (compatible-contents-at t) compatible-contents.Post
-compatible-contents-returns-2 t c = λ t u h g. contents-no t u (c .before .compatible-boxes .ensures (scalarOf t) (scalarOf u) (scalar-behind _ _ (c .before .before .before .before .before .shape-at .result) (c .before .before .before .before .before .shape-at .ensures) (c .before .before .before .shape-length .ensures .0) _ t h) (scalar-behind _ _ (c .before .before .before .before .shape-at2 .result) (c .before .before .before .before .shape-at2 .ensures) (c .before .before .shape-length2 .ensures .0) _ u g)) (c .if1 .left)
+compatible-contents-returns-2 t c =
+    let at-shape-at = c .before .before .before .before .before in
+    let at-shape-at2 = c .before .before .before .before in
+    let at-shape-length = c .before .before .before in
+    let at-shape-length2 = c .before .before in
+    λ t u h g.
+    contents-no t u (c .before .compatible-boxes .ensures (scalarOf t) (scalarOf u) (scalar-behind _ _ (at-shape-at .shape-at .result) (at-shape-at .shape-at .ensures) (at-shape-length .shape-length .ensures .0) _ t h) (scalar-behind _ _ (at-shape-at2 .shape-at2 .result) (at-shape-at2 .shape-at2 .ensures) (at-shape-length2 .shape-length2 .ensures .0) _ u g)) (c .if1 .left)
 
 pub +compatible-boxes+compatible-contents-spec : {M : Type 1} → statement M
 +compatible-boxes+compatible-contents-spec =

@@ -18,7 +18,10 @@ superset-codes-requires-2 : tie.Need-superset-codes-requires-2
 superset-codes-requires-2 c κs = search needs
 
 returns-2 : tie.Need-returns-2
-returns-2 c = sym (compatible-under _ _ (c .before .before .before .superset-codes .ensures) (c .before .before .if1 .left) (c .before .superset-codes2 .ensures) (c .if2 .taken))
+returns-2 c =
+    let at-superset-codes = c .before .before .before in
+    let at-if1 = c .before .before in
+    sym (compatible-under _ _ (at-superset-codes .superset-codes .ensures) (at-if1 .if1 .left) (c .before .superset-codes2 .ensures) (c .if2 .taken))
 
 stream-or-box-requires : tie.Need-stream-or-box-requires
 stream-or-box-requires c κs = search needs
@@ -27,10 +30,21 @@ stream-or-box-requires-2 : tie.Need-stream-or-box-requires-2
 stream-or-box-requires-2 c κs = search needs
 
 returns-3 : tie.Need-returns-3
-returns-3 c = c .stream-or-box2 .ensures ∙ sym (compatible-both _ _ (c .before .before .before .before .before .before .superset-codes .ensures) (c .before .before .before .before .before .if1 .left) (c .before .before .before .before .superset-codes2 .ensures) (c .before .before .before .if2 .left) (c .before .before .stream-or-box .ensures) (c .before .if3 .taken))
+returns-3 c =
+    let at-superset-codes = c .before .before .before .before .before .before in
+    let at-if1 = c .before .before .before .before .before in
+    let at-superset-codes2 = c .before .before .before .before in
+    let at-if2 = c .before .before .before in
+    let at-stream-or-box = c .before .before in
+    c .stream-or-box2 .ensures ∙ sym (compatible-both _ _ (at-superset-codes .superset-codes .ensures) (at-if1 .if1 .left) (at-superset-codes2 .superset-codes2 .ensures) (at-if2 .if2 .left) (at-stream-or-box .stream-or-box .ensures) (c .before .if3 .taken))
 
 returns-4 : tie.Need-returns-4
-returns-4 c = sym (compatible-apart _ _ (c .before .before .before .before .before .superset-codes .ensures) (c .before .before .before .before .if1 .left) (c .before .before .before .superset-codes2 .ensures) (c .before .before .if2 .left) (c .before .stream-or-box .ensures) (c .if3 .left))
+returns-4 c =
+    let at-superset-codes = c .before .before .before .before .before in
+    let at-if1 = c .before .before .before .before in
+    let at-superset-codes2 = c .before .before .before in
+    let at-if2 = c .before .before in
+    sym (compatible-apart _ _ (at-superset-codes .superset-codes .ensures) (at-if1 .if1 .left) (at-superset-codes2 .superset-codes2 .ensures) (at-if2 .if2 .left) (c .before .stream-or-box .ensures) (c .if3 .left))
 
 pub compatible-codes-spec : {M : Type 1} → statement M
 compatible-codes-spec =

@@ -91,7 +91,9 @@ unrefine-at-kind-at-requires : (t : ℕ) → unrefine-at-lts.Need-kind-at-requir
   unrefine-fields-below t,
   unrefine-fields.Post,
 ) (unrefine-at-at t) unrefine-at.Post
-unrefine-at-kind-at-requires t c κs = kind-within _ _ (c .before .before .pre .1 .scalar) (c .before .before .pre .1 .there .stands)
+unrefine-at-kind-at-requires t c κs =
+    let entry = c .before .before in
+    kind-within _ _ (entry .pre .1 .scalar) (entry .pre .1 .there .stands)
 
 unrefine-at-unrefine-kind-requires : (t : ℕ) → unrefine-at-lts.Need-unrefine-kind-requires (
   kind-at-reads.Asked,
@@ -123,7 +125,10 @@ unrefine-at-cast-out : (t : ℕ) → unrefine-at-lts.Need-cast-out (
   unrefine-fields-below t,
   unrefine-fields.Post,
 ) (unrefine-at-at t) unrefine-at.Post
-unrefine-at-cast-out t c = omega (arith, kind-small _ _ _ (c .before .before .before .before .before .pre .1 .scalar) (c .before .before .before .before .before .pre .1 .there) (c .before .before .kind-at .ensures .0) (c .before .if1 .taken) (c .unrefine-kind .ensures))
+unrefine-at-cast-out t c =
+    let entry = c .before .before .before .before .before in
+    let at-kind-at = c .before .before in
+    omega (arith, kind-small _ _ _ (entry .pre .1 .scalar) (entry .pre .1 .there) (at-kind-at .kind-at .ensures .0) (c .before .if1 .taken) (c .unrefine-kind .ensures))
 
 unrefine-at-add-out : (t : ℕ) → unrefine-at-lts.Need-add-out (
   kind-at-reads.Asked,
@@ -139,7 +144,9 @@ unrefine-at-add-out : (t : ℕ) → unrefine-at-lts.Need-add-out (
   unrefine-fields-below t,
   unrefine-fields.Post,
 ) (unrefine-at-at t) unrefine-at.Post
-unrefine-at-add-out t c = omega (arith, kind-within _ _ (c .before .before .before .before .before .pre .1 .scalar) (c .before .before .before .before .before .pre .1 .there .stands))
+unrefine-at-add-out t c =
+    let entry = c .before .before .before .before .before in
+    omega (arith, kind-within _ _ (entry .pre .1 .scalar) (entry .pre .1 .there .stands))
 
 unrefine-at-slice-write-out : (t : ℕ) → unrefine-at-lts.Need-slice-write-out (
   kind-at-reads.Asked,
@@ -155,7 +162,9 @@ unrefine-at-slice-write-out : (t : ℕ) → unrefine-at-lts.Need-slice-write-out
   unrefine-fields-below t,
   unrefine-fields.Post,
 ) (unrefine-at-at t) unrefine-at.Post
-unrefine-at-slice-write-out t c = omega (arith, kind-within _ _ (c .before .before .before .before .before .pre .1 .scalar) (c .before .before .before .before .before .pre .1 .there .stands))
+unrefine-at-slice-write-out t c =
+    let entry = c .before .before .before .before .before in
+    omega (arith, kind-within _ _ (entry .pre .1 .scalar) (entry .pre .1 .there .stands))
 
 unrefine-at-add-result : (t : ℕ) → unrefine-at-lts.Need-add-result (
   kind-at-reads.Asked,
@@ -171,7 +180,9 @@ unrefine-at-add-result : (t : ℕ) → unrefine-at-lts.Need-add-result (
   unrefine-fields-below t,
   unrefine-fields.Post,
 ) (unrefine-at-at t) unrefine-at.Post
-unrefine-at-add-result t c = omega (arith, kind-within _ _ (c .before .before .before .before .before .pre .1 .scalar) (c .before .before .before .before .before .pre .1 .there .stands))
+unrefine-at-add-result t c =
+    let entry = c .before .before .before .before .before in
+    omega (arith, kind-within _ _ (entry .pre .1 .scalar) (entry .pre .1 .there .stands))
 
 unrefine-at-same-length : (t : ℕ) → unrefine-at-lts.Need-same-length (
   kind-at-reads.Asked,
@@ -203,7 +214,9 @@ unrefine-at-returns : (t : ℕ) → unrefine-at-lts.Need-returns (
   unrefine-fields-below t,
   unrefine-fields.Post,
 ) (unrefine-at-at t) unrefine-at.Post
-unrefine-at-returns t c = λ k h. unrefine-plain _ _ _ k h (c .before .before .kind-at .ensures .0) (c .before .if1 .taken) (c .unrefine-kind .ensures)
+unrefine-at-returns t c =
+    let at-kind-at = c .before .before in
+    λ k h. unrefine-plain _ _ _ k h (at-kind-at .kind-at .ensures .0) (c .before .if1 .taken) (c .unrefine-kind .ensures)
 
 unrefine-at-form-at-requires : (t : ℕ) → unrefine-at-lts.Need-form-at-requires (
   kind-at-reads.Asked,
@@ -219,7 +232,10 @@ unrefine-at-form-at-requires : (t : ℕ) → unrefine-at-lts.Need-form-at-requir
   unrefine-fields-below t,
   unrefine-fields.Post,
 ) (unrefine-at-at t) unrefine-at.Post
-unrefine-at-form-at-requires t c κs = box-within _ _ _ (c .before .before .before .before .before .pre .1 .scalar) (c .before .before .before .before .before .pre .1 .there) (c .before .before .kind-at .ensures .0) (c .before .if1 .left)
+unrefine-at-form-at-requires t c κs =
+    let entry = c .before .before .before .before .before in
+    let at-kind-at = c .before .before in
+    box-within _ _ _ (entry .pre .1 .scalar) (entry .pre .1 .there) (at-kind-at .kind-at .ensures .0) (c .before .if1 .left)
 
 unrefine-at-add-result-2 : (t : ℕ) → unrefine-at-lts.Need-add-result-2 (
   kind-at-reads.Asked,
@@ -235,7 +251,11 @@ unrefine-at-add-result-2 : (t : ℕ) → unrefine-at-lts.Need-add-result-2 (
   unrefine-fields-below t,
   unrefine-fields.Post,
 ) (unrefine-at-at t) unrefine-at.Post
-unrefine-at-add-result-2 t c = omega (arith, box-within _ _ _ (c .before .before .before .before .before .before .before .pre .1 .scalar) (c .before .before .before .before .before .before .before .pre .1 .there) (c .before .before .before .before .kind-at .ensures .0) (c .before .before .before .if1 .left))
+unrefine-at-add-result-2 t c =
+    let entry = c .before .before .before .before .before .before .before in
+    let at-kind-at = c .before .before .before .before in
+    let at-if1 = c .before .before .before in
+    omega (arith, box-within _ _ _ (entry .pre .1 .scalar) (entry .pre .1 .there) (at-kind-at .kind-at .ensures .0) (at-if1 .if1 .left))
 
 unrefine-at-same-length-2 : (t : ℕ) → unrefine-at-lts.Need-same-length-2 (
   kind-at-reads.Asked,
@@ -267,7 +287,11 @@ unrefine-at-returns-2 : (t : ℕ) → unrefine-at-lts.Need-returns-2 (
   unrefine-fields-below t,
   unrefine-fields.Post,
 ) (unrefine-at-at t) unrefine-at.Post
-unrefine-at-returns-2 t c = λ k h. unrefine-any _ _ _ k h (c .before .before .before .before .kind-at .ensures .0) (c .before .before .before .if1 .left) (c .before .form-at .ensures .0) (c .if2 .taken)
+unrefine-at-returns-2 t c =
+    let at-kind-at = c .before .before .before .before in
+    let at-if1 = c .before .before .before in
+    λ k h.
+    unrefine-any _ _ _ k h (at-kind-at .kind-at .ensures .0) (at-if1 .if1 .left) (c .before .form-at .ensures .0) (c .if2 .taken)
 
 unrefine-at-add-unrefine-type : (t : ℕ) → unrefine-at-lts.Need-add-unrefine-type (
   kind-at-reads.Asked,
@@ -283,7 +307,11 @@ unrefine-at-add-unrefine-type : (t : ℕ) → unrefine-at-lts.Need-add-unrefine-
   unrefine-fields-below t,
   unrefine-fields.Post,
 ) (unrefine-at-at t) unrefine-at.Post
-unrefine-at-add-unrefine-type t c = omega (arith, box-within _ _ _ (c .before .before .before .before .before .before .before .before .before .pre .1 .scalar) (c .before .before .before .before .before .before .before .before .before .pre .1 .there) (c .before .before .before .before .before .before .kind-at .ensures .0) (c .before .before .before .before .before .if1 .left))
+unrefine-at-add-unrefine-type t c =
+    let entry = c .before .before .before .before .before .before .before .before .before in
+    let at-kind-at = c .before .before .before .before .before .before in
+    let at-if1 = c .before .before .before .before .before in
+    omega (arith, box-within _ _ _ (entry .pre .1 .scalar) (entry .pre .1 .there) (at-kind-at .kind-at .ensures .0) (at-if1 .if1 .left))
 
 unrefine-at-unrefine-type-requires : (t : ℕ) → unrefine-at-lts.Need-unrefine-type-requires (
   kind-at-reads.Asked,
@@ -299,7 +327,12 @@ unrefine-at-unrefine-type-requires : (t : ℕ) → unrefine-at-lts.Need-unrefine
   unrefine-fields-below t,
   unrefine-fields.Post,
 ) (unrefine-at-at t) unrefine-at.Post
-unrefine-at-unrefine-type-requires t c κs = (omega arith, all-there _ _ _ (c .before .before .before .before .before .before .before .before .before .pre .1 .scalar) (c .before .before .before .before .before .before .before .before .before .pre .1 .there) (c .before .before .before .before .before .before .kind-at .ensures .0) (c .before .before .before .before .before .if1 .left) (c .before .before .before .form-at .ensures .0) (c .before .if3 .taken))
+unrefine-at-unrefine-type-requires t c κs =
+    let entry = c .before .before .before .before .before .before .before .before .before in
+    let at-kind-at = c .before .before .before .before .before .before in
+    let at-if1 = c .before .before .before .before .before in
+    let at-form-at = c .before .before .before in
+    (omega arith, all-there _ _ _ (entry .pre .1 .scalar) (entry .pre .1 .there) (at-kind-at .kind-at .ensures .0) (at-if1 .if1 .left) (at-form-at .form-at .ensures .0) (c .before .if3 .taken))
 
 unrefine-at-same-length-3 : (t : ℕ) → unrefine-at-lts.Need-same-length-3 (
   kind-at-reads.Asked,
@@ -331,7 +364,14 @@ unrefine-at-returns-3 : (t : ℕ) → unrefine-at-lts.Need-returns-3 (
   unrefine-fields-below t,
   unrefine-fields.Post,
 ) (unrefine-at-at t) unrefine-at.Post
-unrefine-at-returns-3 t c = λ k h. unrefine-all _ _ _ k h (c .before .before .before .before .before .before .before .before .before .kind-at .ensures .0) (c .before .before .before .before .before .before .before .before .if1 .left) (c .before .before .before .before .before .before .form-at .ensures .0) (c .before .before .before .before .if3 .taken) (c .before .before .unrefine-type .ensures)
+unrefine-at-returns-3 t c =
+    let at-kind-at = c .before .before .before .before .before .before .before .before .before in
+    let at-if1 = c .before .before .before .before .before .before .before .before in
+    let at-form-at = c .before .before .before .before .before .before in
+    let at-if3 = c .before .before .before .before in
+    let at-unrefine-type = c .before .before in
+    λ k h.
+    unrefine-all _ _ _ k h (at-kind-at .kind-at .ensures .0) (at-if1 .if1 .left) (at-form-at .form-at .ensures .0) (at-if3 .if3 .taken) (at-unrefine-type .unrefine-type .ensures)
 
 unrefine-at-add-name-end : (t : ℕ) → unrefine-at-lts.Need-add-name-end (
   kind-at-reads.Asked,
@@ -347,7 +387,11 @@ unrefine-at-add-name-end : (t : ℕ) → unrefine-at-lts.Need-add-name-end (
   unrefine-fields-below t,
   unrefine-fields.Post,
 ) (unrefine-at-at t) unrefine-at.Post
-unrefine-at-add-name-end t c = omega (arith, box-within _ _ _ (c .before .before .before .before .before .before .before .before .before .pre .1 .scalar) (c .before .before .before .before .before .before .before .before .before .pre .1 .there) (c .before .before .before .before .before .before .kind-at .ensures .0) (c .before .before .before .before .before .if1 .left))
+unrefine-at-add-name-end t c =
+    let entry = c .before .before .before .before .before .before .before .before .before in
+    let at-kind-at = c .before .before .before .before .before .before in
+    let at-if1 = c .before .before .before .before .before in
+    omega (arith, box-within _ _ _ (entry .pre .1 .scalar) (entry .pre .1 .there) (at-kind-at .kind-at .ensures .0) (at-if1 .if1 .left))
 
 unrefine-at-name-end-requires : (t : ℕ) → unrefine-at-lts.Need-name-end-requires (
   kind-at-reads.Asked,
@@ -363,7 +407,13 @@ unrefine-at-name-end-requires : (t : ℕ) → unrefine-at-lts.Need-name-end-requ
   unrefine-fields-below t,
   unrefine-fields.Post,
 ) (unrefine-at-at t) unrefine-at.Post
-unrefine-at-name-end-requires t c κs = has-name _ _ _ (def-there _ _ _ (c .before .before .before .before .before .before .before .before .before .pre .1 .scalar) (c .before .before .before .before .before .before .before .before .before .pre .1 .there) (c .before .before .before .before .before .before .kind-at .ensures .0) (c .before .before .before .before .before .if1 .left) (c .before .before .before .form-at .ensures .0) (c .before .before .if2 .left) (c .before .if3 .left))
+unrefine-at-name-end-requires t c κs =
+    let entry = c .before .before .before .before .before .before .before .before .before in
+    let at-kind-at = c .before .before .before .before .before .before in
+    let at-if1 = c .before .before .before .before .before in
+    let at-form-at = c .before .before .before in
+    let at-if2 = c .before .before in
+    has-name _ _ _ (def-there _ _ _ (entry .pre .1 .scalar) (entry .pre .1 .there) (at-kind-at .kind-at .ensures .0) (at-if1 .if1 .left) (at-form-at .form-at .ensures .0) (at-if2 .if2 .left) (c .before .if3 .left))
 
 unrefine-at-unrefine-fields-requires : (t : ℕ) → unrefine-at-lts.Need-unrefine-fields-requires (
   kind-at-reads.Asked,
@@ -379,7 +429,14 @@ unrefine-at-unrefine-fields-requires : (t : ℕ) → unrefine-at-lts.Need-unrefi
   unrefine-fields-below t,
   unrefine-fields.Post,
 ) (unrefine-at-at t) unrefine-at.Post
-unrefine-at-unrefine-fields-requires t c κs = (omega arith, has-fields _ _ _ (def-there _ _ _ (c .before .before .before .before .before .before .before .before .before .before .before .pre .1 .scalar) (c .before .before .before .before .before .before .before .before .before .before .before .pre .1 .there) (c .before .before .before .before .before .before .before .before .kind-at .ensures .0) (c .before .before .before .before .before .before .before .if1 .left) (c .before .before .before .before .before .form-at .ensures .0) (c .before .before .before .before .if2 .left) (c .before .before .before .if3 .left)) (c .before .name-end .ensures))
+unrefine-at-unrefine-fields-requires t c κs =
+    let entry = c .before .before .before .before .before .before .before .before .before .before .before in
+    let at-kind-at = c .before .before .before .before .before .before .before .before in
+    let at-if1 = c .before .before .before .before .before .before .before in
+    let at-form-at = c .before .before .before .before .before in
+    let at-if2 = c .before .before .before .before in
+    let at-if3 = c .before .before .before in
+    (omega arith, has-fields _ _ _ (def-there _ _ _ (entry .pre .1 .scalar) (entry .pre .1 .there) (at-kind-at .kind-at .ensures .0) (at-if1 .if1 .left) (at-form-at .form-at .ensures .0) (at-if2 .if2 .left) (at-if3 .if3 .left)) (c .before .name-end .ensures))
 
 unrefine-at-same-length-4 : (t : ℕ) → unrefine-at-lts.Need-same-length-4 (
   kind-at-reads.Asked,
@@ -411,7 +468,16 @@ unrefine-at-returns-4 : (t : ℕ) → unrefine-at-lts.Need-returns-4 (
   unrefine-fields-below t,
   unrefine-fields.Post,
 ) (unrefine-at-at t) unrefine-at.Post
-unrefine-at-returns-4 t c = λ k h. unrefine-def _ _ _ k h (c .before .before .before .before .before .before .before .before .before .before .before .kind-at .ensures .0) (c .before .before .before .before .before .before .before .before .before .before .if1 .left) (c .before .before .before .before .before .before .before .before .form-at .ensures .0) (c .before .before .before .before .before .before .before .if2 .left) (c .before .before .before .before .before .before .if3 .left) (c .before .before .before .before .name-end .ensures) (c .before .before .unrefine-fields .ensures)
+unrefine-at-returns-4 t c =
+    let at-kind-at = c .before .before .before .before .before .before .before .before .before .before .before in
+    let at-if1 = c .before .before .before .before .before .before .before .before .before .before in
+    let at-form-at = c .before .before .before .before .before .before .before .before in
+    let at-if2 = c .before .before .before .before .before .before .before in
+    let at-if3 = c .before .before .before .before .before .before in
+    let at-name-end = c .before .before .before .before in
+    let at-unrefine-fields = c .before .before in
+    λ k h.
+    unrefine-def _ _ _ k h (at-kind-at .kind-at .ensures .0) (at-if1 .if1 .left) (at-form-at .form-at .ensures .0) (at-if2 .if2 .left) (at-if3 .if3 .left) (at-name-end .name-end .ensures) (at-unrefine-fields .unrefine-fields .ensures)
 
 abbrev unrefine-fields-Inv-loop : unrefine-fields-lts.InvT-loop
 unrefine-fields-Inv-loop out₀ start depth left₀ at₀ out left at = (length out ≡ length out₀) × ((f : Fields) → CountedAt out₀ start depth f → Left out at depth left (start + 1 + length (writeFields f)) (over out₀ (start + 1) (writeFields (unrefineFields f))))
@@ -425,7 +491,9 @@ unrefine-fields-count-at-requires : (t : ℕ) → unrefine-fields-lts.Need-count
   unrefine-type-below t,
   unrefine-type.Post,
 ) (unrefine-fields-at t) unrefine-fields.Post unrefine-fields-Inv-loop unrefine-fields-μ-loop
-unrefine-fields-count-at-requires t c κs = omega (arith, fields-within _ _ _ (c .before .before .pre .1 .there))
+unrefine-fields-count-at-requires t c κs =
+    let entry = c .before .before in
+    omega (arith, fields-within _ _ _ (entry .pre .1 .there))
 
 unrefine-fields-add-at : (t : ℕ) → unrefine-fields-lts.Need-add-at (
   count-at-reads.Asked,
@@ -433,7 +501,9 @@ unrefine-fields-add-at : (t : ℕ) → unrefine-fields-lts.Need-add-at (
   unrefine-type-below t,
   unrefine-type.Post,
 ) (unrefine-fields-at t) unrefine-fields.Post unrefine-fields-Inv-loop unrefine-fields-μ-loop
-unrefine-fields-add-at t c = omega (arith, fields-within _ _ _ (c .before .before .before .pre .1 .there))
+unrefine-fields-add-at t c =
+    let entry = c .before .before .before in
+    omega (arith, fields-within _ _ _ (entry .pre .1 .there))
 
 unrefine-fields-loop-holds : (t : ℕ) → unrefine-fields-lts.Need-loop-holds (
   count-at-reads.Asked,
@@ -449,7 +519,10 @@ unrefine-fields-unrefine-type-requires : (t : ℕ) → unrefine-fields-lts.Need-
   unrefine-type-below t,
   unrefine-type.Post,
 ) (unrefine-fields-at t) unrefine-fields.Post unrefine-fields-Inv-loop unrefine-fields-μ-loop
-unrefine-fields-unrefine-type-requires t c κs = (omega arith, left-type (c .before .before .loop .inv .1 (c .before .before .before .before .before .before .pre .1 .fields) (c .before .before .before .before .before .before .pre .1 .there)) (c .before .loop-test .taken))
+unrefine-fields-unrefine-type-requires t c κs =
+    let entry = c .before .before .before .before .before .before in
+    let at-loop = c .before .before in
+    (omega arith, left-type (at-loop .loop .inv .1 (entry .pre .1 .fields) (entry .pre .1 .there)) (c .before .loop-test .taken))
 
 unrefine-fields-sub-left : (t : ℕ) → unrefine-fields-lts.Need-sub-left (
   count-at-reads.Asked,
@@ -473,7 +546,11 @@ unrefine-fields-loop-again : (t : ℕ) → unrefine-fields-lts.Need-loop-again (
   unrefine-type-below t,
   unrefine-type.Post,
 ) (unrefine-fields-at t) unrefine-fields.Post unrefine-fields-Inv-loop unrefine-fields-μ-loop
-unrefine-fields-loop-again t c = (c .before .before .unrefine-type .kept .0 ∙ c .before .before .before .before .before .loop .inv .0, λ f h. left-next (c .before .before .before .before .before .loop .inv .1 f h) (c .before .before .before .before .loop-test .taken) (c .before .before .unrefine-type .ensures))
+unrefine-fields-loop-again t c =
+    let at-loop = c .before .before .before .before .before in
+    let at-loop-test = c .before .before .before .before in
+    let at-unrefine-type = c .before .before in
+    (at-unrefine-type .unrefine-type .kept .0 ∙ at-loop .loop .inv .0, λ f h. left-next (at-loop .loop .inv .1 f h) (at-loop-test .loop-test .taken) (at-unrefine-type .unrefine-type .ensures))
 
 unrefine-fields-same-length : (t : ℕ) → unrefine-fields-lts.Need-same-length (
   count-at-reads.Asked,
@@ -499,7 +576,9 @@ unrefine-type-shape-at-requires : (t : ℕ) → unrefine-type-lts.Need-shape-at-
   unrefine-at-below t,
   unrefine-at.Post,
 ) (unrefine-type-at t) unrefine-type.Post
-unrefine-type-shape-at-requires t c κs = (_, c .before .before .pre .1)
+unrefine-type-shape-at-requires t c κs =
+    let entry = c .before .before in
+    (_, entry .pre .1)
 
 unrefine-type-shape-length-requires : (t : ℕ) → unrefine-type-lts.Need-shape-length-requires (
   shape-at-reads.Asked,
@@ -519,7 +598,10 @@ unrefine-type-add-unrefine-at : (t : ℕ) → unrefine-type-lts.Need-add-unrefin
   unrefine-at-below t,
   unrefine-at.Post,
 ) (unrefine-type-at t) unrefine-type.Post
-unrefine-type-add-unrefine-at t c = omega (arith, behind-within _ _ (c .before .before .shape-at .result) (c .before .before .shape-at .ensures) (c .shape-length .ensures .0) _ (c .before .before .before .before .before .pre .1))
+unrefine-type-add-unrefine-at t c =
+    let entry = c .before .before .before .before .before in
+    let at-shape-at = c .before .before in
+    omega (arith, behind-within _ _ (at-shape-at .shape-at .result) (at-shape-at .shape-at .ensures) (c .shape-length .ensures .0) _ (entry .pre .1))
 
 unrefine-type-sub-unrefine-at : (t : ℕ) → unrefine-type-lts.Need-sub-unrefine-at (
   shape-at-reads.Asked,
@@ -529,7 +611,9 @@ unrefine-type-sub-unrefine-at : (t : ℕ) → unrefine-type-lts.Need-sub-unrefin
   unrefine-at-below t,
   unrefine-at.Post,
 ) (unrefine-type-at t) unrefine-type.Post
-unrefine-type-sub-unrefine-at t c = omega (arith, deep _ _ _ (c .before .before .before .before .before .pre .1))
+unrefine-type-sub-unrefine-at t c =
+    let entry = c .before .before .before .before .before in
+    omega (arith, deep _ _ _ (entry .pre .1))
 
 unrefine-type-unrefine-at-requires : (t : ℕ) → unrefine-type-lts.Need-unrefine-at-requires (
   shape-at-reads.Asked,
@@ -539,7 +623,10 @@ unrefine-type-unrefine-at-requires : (t : ℕ) → unrefine-type-lts.Need-unrefi
   unrefine-at-below t,
   unrefine-at.Post,
 ) (unrefine-type-at t) unrefine-type.Post
-unrefine-type-unrefine-at-requires t c κs = (omega (arith, deep _ _ _ (c .before .before .before .before .before .pre .1)), has-scalar _ _ (c .before .before .shape-at .result) (c .before .before .shape-at .ensures) (c .shape-length .ensures .0) _ (c .before .before .before .before .before .pre .1))
+unrefine-type-unrefine-at-requires t c κs =
+    let entry = c .before .before .before .before .before in
+    let at-shape-at = c .before .before in
+    (omega (arith, deep _ _ _ (entry .pre .1)), has-scalar _ _ (at-shape-at .shape-at .result) (at-shape-at .shape-at .ensures) (c .shape-length .ensures .0) _ (entry .pre .1))
 
 unrefine-type-same-length : (t : ℕ) → unrefine-type-lts.Need-same-length (
   shape-at-reads.Asked,
@@ -559,7 +646,12 @@ unrefine-type-returns : (t : ℕ) → unrefine-type-lts.Need-returns (
   unrefine-at-below t,
   unrefine-at.Post,
 ) (unrefine-type-at t) unrefine-type.Post
-unrefine-type-returns t c = λ t h. unrefine-behind _ _ _ t h _ (behind _ _ (c .before .before .before .before .before .shape-at .result) (c .before .before .before .before .before .shape-at .ensures) (c .before .before .before .shape-length .ensures .0) _ t h) (c .before .before .unrefine-at .ensures (scalarOf t) (scalar-behind _ _ (c .before .before .before .before .before .shape-at .result) (c .before .before .before .before .before .shape-at .ensures) (c .before .before .before .shape-length .ensures .0) _ t h))
+unrefine-type-returns t c =
+    let at-shape-at = c .before .before .before .before .before in
+    let at-shape-length = c .before .before .before in
+    let at-unrefine-at = c .before .before in
+    λ t h.
+    unrefine-behind _ _ _ t h _ (behind _ _ (at-shape-at .shape-at .result) (at-shape-at .shape-at .ensures) (at-shape-length .shape-length .ensures .0) _ t h) (at-unrefine-at .unrefine-at .ensures (scalarOf t) (scalar-behind _ _ (at-shape-at .shape-at .result) (at-shape-at .shape-at .ensures) (at-shape-length .shape-length .ensures .0) _ t h))
 
 pub +unrefine-at+unrefine-fields+unrefine-type-spec : {M : Type 1} → statement M
 +unrefine-at+unrefine-fields+unrefine-type-spec =

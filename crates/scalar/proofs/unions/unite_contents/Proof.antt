@@ -23,13 +23,28 @@ enum-told-3 : tie.Need-enum-told-3
 enum-told-3 c = search needs
 
 returns : tie.Need-returns
-returns c = λ t u h g. second-later t u (c .before .before .before .before .compatible-contents .ensures t u h g) (c .before .before .before .if1 .taken) _ (c .before .before .compare-types .ensures t u h g) (c .enum-told .given .1)
+returns c =
+    let at-compatible-contents = c .before .before .before .before in
+    let at-if1 = c .before .before .before in
+    let at-compare-types = c .before .before in
+    λ t u h g.
+    second-later t u (at-compatible-contents .compatible-contents .ensures t u h g) (at-if1 .if1 .taken) _ (at-compare-types .compare-types .ensures t u h g) (c .enum-told .given .1)
 
 returns-2 : tie.Need-returns-2
-returns-2 c = λ t u h g. same-later t u (c .before .before .before .before .compatible-contents .ensures t u h g) (c .before .before .before .if1 .taken) _ (c .before .before .compare-types .ensures t u h g) (c .enum-told2 .given .1)
+returns-2 c =
+    let at-compatible-contents = c .before .before .before .before in
+    let at-if1 = c .before .before .before in
+    let at-compare-types = c .before .before in
+    λ t u h g.
+    same-later t u (at-compatible-contents .compatible-contents .ensures t u h g) (at-if1 .if1 .taken) _ (at-compare-types .compare-types .ensures t u h g) (c .enum-told2 .given .1)
 
 returns-3 : tie.Need-returns-3
-returns-3 c = λ t u h g. first-later t u (c .before .before .before .before .compatible-contents .ensures t u h g) (c .before .before .before .if1 .taken) _ (c .before .before .compare-types .ensures t u h g) (c .enum-told3 .given .1)
+returns-3 c =
+    let at-compatible-contents = c .before .before .before .before in
+    let at-if1 = c .before .before .before in
+    let at-compare-types = c .before .before in
+    λ t u h g.
+    first-later t u (at-compatible-contents .compatible-contents .ensures t u h g) (at-if1 .if1 .taken) _ (at-compare-types .compare-types .ensures t u h g) (c .enum-told3 .given .1)
 
 returns-4 : tie.Need-returns-4
 returns-4 c = λ t u h g. none-later t u (c .before .compatible-contents .ensures t u h g) (c .if1 .left)

@@ -16,10 +16,18 @@ superset-codes-requires-2 : tie.Need-superset-codes-requires-2
 superset-codes-requires-2 c κs = search needs
 
 returns-2 : tie.Need-returns-2
-returns-2 c = λ k l e f. second-wider k l e f (c .before .before .before .superset-codes .ensures) (c .before .before .if1 .left) (c .before .superset-codes2 .ensures) (c .if2 .taken)
+returns-2 c =
+    let at-superset-codes = c .before .before .before in
+    let at-if1 = c .before .before in
+    λ k l e f.
+    second-wider k l e f (at-superset-codes .superset-codes .ensures) (at-if1 .if1 .left) (c .before .superset-codes2 .ensures) (c .if2 .taken)
 
 returns-3 : tie.Need-returns-3
-returns-3 c = λ k l e f. neither-wider k l e f (c .before .before .before .superset-codes .ensures) (c .before .before .if1 .left) (c .before .superset-codes2 .ensures) (c .if2 .left)
+returns-3 c =
+    let at-superset-codes = c .before .before .before in
+    let at-if1 = c .before .before in
+    λ k l e f.
+    neither-wider k l e f (at-superset-codes .superset-codes .ensures) (at-if1 .if1 .left) (c .before .superset-codes2 .ensures) (c .if2 .left)
 
 pub widen-spec : {M : Type 1} → statement M
 widen-spec =

@@ -23,7 +23,11 @@ size-count-requires-2 : tie.Need-size-count-requires-2 Inv-loop μ-loop
 size-count-requires-2 c κs = search needs
 
 returns : tie.Need-returns Inv-loop μ-loop
-returns c = sym (compatible-uneven (dimsOf (c .before .before .before .args .a)) (dimsOf (c .before .before .before .args .b)) (λ e. c .if1 .taken (c .before .before .size-count .ensures .0 ∙ (e ∙ sym (c .before .size-count2 .ensures .0)))))
+returns c =
+    let entry = c .before .before .before in
+    let at-size-count = c .before .before in
+    let args = entry .args in
+    sym (compatible-uneven (dimsOf (args .a)) (dimsOf (args .b)) (λ e. c .if1 .taken (at-size-count .size-count .ensures .0 ∙ (e ∙ sym (c .before .size-count2 .ensures .0)))))
 
 loop-holds : tie.Need-loop-holds Inv-loop μ-loop
 loop-holds c = (search needs, refl)
@@ -38,7 +42,15 @@ row-compatible-requires : tie.Need-row-compatible-requires Inv-loop μ-loop
 row-compatible-requires c κs = search needs
 
 returns-2 : tie.Need-returns-2 Inv-loop μ-loop
-returns-2 c = sym (c .before .before .before .before .before .loop .inv .1 ∙ compatible-stop (dimsOf (c .before .before .before .before .before .before .before .before .before .args .a)) (dimsOf (c .before .before .before .before .before .before .before .before .before .args .b)) (c .before .before .before .before .before .loop .i) (omega (arith, c .before .before .before .before .before .before .before .before .size-count .ensures .0)) (omega (arith, c .before .before .before .before .before .before .before .size-count2 .ensures .0)) (c .before .before .before .size-at .ensures) (c .before .before .size-at2 .ensures) (c .before .row-compatible .ensures) (c .if2 .taken))
+returns-2 c =
+    let entry = c .before .before .before .before .before .before .before .before .before in
+    let at-size-count = c .before .before .before .before .before .before .before .before in
+    let at-size-count2 = c .before .before .before .before .before .before .before in
+    let at-loop = c .before .before .before .before .before in
+    let at-size-at = c .before .before .before in
+    let at-size-at2 = c .before .before in
+    let args = entry .args in
+    sym (at-loop .loop .inv .1 ∙ compatible-stop (dimsOf (args .a)) (dimsOf (args .b)) (at-loop .loop .i) (omega (arith, at-size-count .size-count .ensures .0)) (omega (arith, at-size-count2 .size-count2 .ensures .0)) (at-size-at .size-at .ensures) (at-size-at2 .size-at2 .ensures) (c .before .row-compatible .ensures) (c .if2 .taken))
 
 add-i : tie.Need-add-i Inv-loop μ-loop
 add-i c = search needs
@@ -47,10 +59,23 @@ loop-less : tie.Need-loop-less Inv-loop μ-loop
 loop-less c = search needs
 
 loop-again : tie.Need-loop-again Inv-loop μ-loop
-loop-again c = (omega arith, c .before .before .before .before .before .loop .inv .1 ∙ compatible-more (dimsOf (c .before .before .before .before .before .before .before .before .before .args .a)) (dimsOf (c .before .before .before .before .before .before .before .before .before .args .b)) (c .before .before .before .before .before .loop .i) (omega (arith, c .before .before .before .before .before .before .before .before .size-count .ensures .0)) (omega (arith, c .before .before .before .before .before .before .before .size-count2 .ensures .0)) (c .before .before .before .size-at .ensures) (c .before .before .size-at2 .ensures) (c .before .row-compatible .ensures) (c .if2 .left))
+loop-again c =
+    let entry = c .before .before .before .before .before .before .before .before .before in
+    let at-size-count = c .before .before .before .before .before .before .before .before in
+    let at-size-count2 = c .before .before .before .before .before .before .before in
+    let at-loop = c .before .before .before .before .before in
+    let at-size-at = c .before .before .before in
+    let at-size-at2 = c .before .before in
+    let args = entry .args in
+    (omega arith, at-loop .loop .inv .1 ∙ compatible-more (dimsOf (args .a)) (dimsOf (args .b)) (at-loop .loop .i) (omega (arith, at-size-count .size-count .ensures .0)) (omega (arith, at-size-count2 .size-count2 .ensures .0)) (at-size-at .size-at .ensures) (at-size-at2 .size-at2 .ensures) (c .before .row-compatible .ensures) (c .if2 .left))
 
 returns-3 : tie.Need-returns-3 Inv-loop μ-loop
-returns-3 c = sym (c .before .loop .inv .1 ∙ compatible-end (c .before .loop .i) (dimsOf (c .before .before .before .before .before .args .a)) (dimsOf (c .before .before .before .before .before .args .b)) (omega (arith, c .before .before .before .before .size-count .ensures .0)) (omega (arith, c .before .before .before .size-count2 .ensures .0)))
+returns-3 c =
+    let entry = c .before .before .before .before .before in
+    let at-size-count = c .before .before .before .before in
+    let at-size-count2 = c .before .before .before in
+    let args = entry .args in
+    sym (c .before .loop .inv .1 ∙ compatible-end (c .before .loop .i) (dimsOf (args .a)) (dimsOf (args .b)) (omega (arith, at-size-count .size-count .ensures .0)) (omega (arith, at-size-count2 .size-count2 .ensures .0)))
 
 pub compatible-dims-spec : {M : Type 1} → statement M
 compatible-dims-spec =

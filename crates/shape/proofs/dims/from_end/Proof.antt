@@ -13,13 +13,20 @@ size-count-requires : tie.Need-size-count-requires
 size-count-requires c κs = search needs
 
 returns : tie.Need-returns
-returns c = end-past (dimsOf (c .before .before .args .d)) (c .before .before .args .i) (omega (arith, c .before .size-count .ensures .0))
+returns c =
+    let entry = c .before .before in
+    let args = entry .args in
+    end-past (dimsOf (args .d)) (args .i) (omega (arith, c .before .size-count .ensures .0))
 
 size-at-requires : tie.Need-size-at-requires
 size-at-requires c κs = search needs
 
 returns-2 : tie.Need-returns-2
-returns-2 c = c .size-at .ensures ∙ (ap (λ n. getD (dimsOf (c .before .before .before .args .d)) (n - c .before .before .before .args .i) unknown) (c .before .before .size-count .ensures .0) ∙ end-there (dimsOf (c .before .before .before .args .d)) (c .before .before .before .args .i) (omega (arith, c .before .before .size-count .ensures .0)))
+returns-2 c =
+    let entry = c .before .before .before in
+    let at-size-count = c .before .before in
+    let args = entry .args in
+    c .size-at .ensures ∙ (ap (λ n. getD (dimsOf (args .d)) (n - args .i) unknown) (at-size-count .size-count .ensures .0) ∙ end-there (dimsOf (args .d)) (args .i) (omega (arith, at-size-count .size-count .ensures .0)))
 
 pub from-end-spec : {M : Type 1} → statement M
 from-end-spec = tie.close (tie.spec size-count-requires returns size-at-requires returns-2)

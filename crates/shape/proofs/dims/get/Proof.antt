@@ -17,10 +17,17 @@ element-copy-out-t10 : tie.Need-element-copy-out-t10
 element-copy-out-t10 c = search needs
 
 returns : tie.Need-returns
-returns c = sym (slot-there (c .before .before .before .args .t1) (c .before .before .before .args .i) (omega (arith, c .before .before .size-count .ensures .0)))
+returns c =
+    let entry = c .before .before .before in
+    let at-size-count = c .before .before in
+    let args = entry .args in
+    sym (slot-there (args .t1) (args .i) (omega (arith, at-size-count .size-count .ensures .0)))
 
 returns-2 : tie.Need-returns-2
-returns-2 c = sym (getElem?-out (dimsOf (c .before .before .args .t1)) (c .before .before .args .i) (omega (arith, c .before .size-count .ensures .0)))
+returns-2 c =
+    let entry = c .before .before in
+    let args = entry .args in
+    sym (getElem?-out (dimsOf (args .t1)) (args .i) (omega (arith, c .before .size-count .ensures .0)))
 
 pub get-spec : {M : Type 1} → statement M
 get-spec = tie.close (tie.spec size-count-requires mul-t7 element-copy-out-t10 returns returns-2)

@@ -45,10 +45,20 @@ loop-less : tie.Need-loop-less Inv-loop μ-loop
 loop-less c = search needs
 
 loop-again : tie.Need-loop-again Inv-loop μ-loop
-loop-again c = (omega arith, simp length-set (c .before .before .before .before .loop .inv .1), join-more (dimsOf (c .before .before .before .before .before .before .args .a)) (dimsOf (c .before .before .before .before .before .before .args .b)) (c .before .before .before .before .loop .sizes) (c .before .before .before .before .loop .i) (c .join-sizes .result) (omega arith) (omega (arith, c .before .before .before .before .before .shorter .ensures .0)) (c .before .before .size-at .ensures) (c .before .size-at2 .ensures) (c .join-sizes .ensures) (c .before .before .before .before .loop .inv .2))
+loop-again c =
+    let entry = c .before .before .before .before .before .before in
+    let at-shorter = c .before .before .before .before .before in
+    let at-loop = c .before .before .before .before in
+    let at-size-at = c .before .before in
+    let args = entry .args in
+    (omega arith, simp length-set (at-loop .loop .inv .1), join-more (dimsOf (args .a)) (dimsOf (args .b)) (at-loop .loop .sizes) (at-loop .loop .i) (c .join-sizes .result) (omega arith) (omega (arith, at-shorter .shorter .ensures .0)) (at-size-at .size-at .ensures) (c .before .size-at2 .ensures) (c .join-sizes .ensures) (at-loop .loop .inv .2))
 
 returns : tie.Need-returns Inv-loop μ-loop
-returns c = build-end (joinDims (dimsOf (c .before .before .before .args .a)) (dimsOf (c .before .before .before .args .b))) (c .before .loop .sizes) (c .before .loop .i) (omega arith) (c .before .before .shorter .ensures .0 ∙ sym (join-length (dimsOf (c .before .before .before .args .a)) (dimsOf (c .before .before .before .args .b)))) (c .before .loop .inv .2)
+returns c =
+    let entry = c .before .before .before in
+    let at-shorter = c .before .before in
+    let args = entry .args in
+    build-end (joinDims (dimsOf (args .a)) (dimsOf (args .b))) (c .before .loop .sizes) (c .before .loop .i) (omega arith) (at-shorter .shorter .ensures .0 ∙ sym (join-length (dimsOf (args .a)) (dimsOf (args .b)))) (c .before .loop .inv .2)
 
 pub join-dims-spec : {M : Type 1} → statement M
 join-dims-spec =

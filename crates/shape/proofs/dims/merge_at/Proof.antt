@@ -19,7 +19,11 @@ size-at-requires : tie.Need-size-at-requires
 size-at-requires c κs = search needs
 
 returns : tie.Need-returns
-returns c = merge-absent (dimsOf (c .before .before .before .before .args .b)) (c .before .before .before .before .args .i) (sym (ap slotOf (c .before .enum-told .given .1)) ∙ c .before .before .before .get .ensures) (c .size-at .ensures)
+returns c =
+    let entry = c .before .before .before .before in
+    let at-get = c .before .before .before in
+    let args = entry .args in
+    merge-absent (dimsOf (args .b)) (args .i) (sym (ap slotOf (c .before .enum-told .given .1)) ∙ at-get .get .ensures) (c .size-at .ensures)
 
 get-requires-2 : tie.Need-get-requires-2
 get-requires-2 c κs = search needs
@@ -31,13 +35,22 @@ enum-told-2 : tie.Need-enum-told-2
 enum-told-2 c = search needs
 
 returns-2 : tie.Need-returns-2
-returns-2 c = merge-alone (sym (ap slotOf (c .before .before .before .before .x .given .1)) ∙ c .before .before .before .before .before .before .get .ensures) (sym (ap slotOf (c .enum-told2 .given .1)) ∙ c .before .before .get2 .ensures)
+returns-2 c =
+    let at-get = c .before .before .before .before .before .before in
+    let at-x = c .before .before .before .before in
+    let at-get2 = c .before .before in
+    merge-alone (sym (ap slotOf (at-x .x .given .1)) ∙ at-get .get .ensures) (sym (ap slotOf (c .enum-told2 .given .1)) ∙ at-get2 .get2 .ensures)
 
 larger-requires : tie.Need-larger-requires
 larger-requires c κs = search needs
 
 returns-3 : tie.Need-returns-3
-returns-3 c = merge-both (sym (ap slotOf (c .before .before .before .before .before .before .x .given .1)) ∙ c .before .before .before .before .before .before .before .before .get .ensures) (sym (ap slotOf (c .before .before .y .given .1)) ∙ c .before .before .before .before .get2 .ensures) (c .larger .ensures)
+returns-3 c =
+    let at-get = c .before .before .before .before .before .before .before .before in
+    let at-x = c .before .before .before .before .before .before in
+    let at-get2 = c .before .before .before .before in
+    let at-y = c .before .before in
+    merge-both (sym (ap slotOf (at-x .x .given .1)) ∙ at-get .get .ensures) (sym (ap slotOf (at-y .y .given .1)) ∙ at-get2 .get2 .ensures) (c .larger .ensures)
 
 pub merge-at-spec : {M : Type 1} → statement M
 merge-at-spec =

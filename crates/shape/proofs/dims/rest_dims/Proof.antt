@@ -19,13 +19,17 @@ size-count-requires : tie.Need-size-count-requires Inv-loop μ-loop
 size-count-requires c κs = search needs
 
 returns : tie.Need-returns Inv-loop μ-loop
-returns c = rest-none (dimsOf (c .before .before .args .d)) (sym (c .before .size-count .ensures .0) ∙ c .if1 .taken)
+returns c =
+    let entry = c .before .before in
+    rest-none (dimsOf (entry .args .d)) (sym (c .before .size-count .ensures .0) ∙ c .if1 .taken)
 
 sub-count : tie.Need-sub-count Inv-loop μ-loop
 sub-count c = search needs
 
 loop-holds : tie.Need-loop-holds Inv-loop μ-loop
-loop-holds c = (search needs, search needs, build-start (drop 1 (dimsOf (c .before .before .args .d))) [])
+loop-holds c =
+    let entry = c .before .before in
+    (search needs, search needs, build-start (drop 1 (dimsOf (entry .args .d))) [])
 
 add-size-at : tie.Need-add-size-at Inv-loop μ-loop
 add-size-at c = search needs
@@ -46,10 +50,18 @@ loop-less : tie.Need-loop-less Inv-loop μ-loop
 loop-less c = search needs
 
 loop-again : tie.Need-loop-again Inv-loop μ-loop
-loop-again c = (omega arith, simp length-set (c .before .before .loop .inv .1), rest-more (dimsOf (c .before .before .before .before .before .args .d)) (c .before .before .loop .sizes) (c .before .before .loop .i) (c .size-at .result) (omega arith) (omega (arith, c .before .before .before .before .size-count .ensures .0)) (c .size-at .ensures) (c .before .before .loop .inv .2))
+loop-again c =
+    let entry = c .before .before .before .before .before in
+    let at-size-count = c .before .before .before .before in
+    let at-loop = c .before .before in
+    (omega arith, simp length-set (at-loop .loop .inv .1), rest-more (dimsOf (entry .args .d)) (at-loop .loop .sizes) (at-loop .loop .i) (c .size-at .result) (omega arith) (omega (arith, at-size-count .size-count .ensures .0)) (c .size-at .ensures) (at-loop .loop .inv .2))
 
 returns-2 : tie.Need-returns-2 Inv-loop μ-loop
-returns-2 c = build-end (drop 1 (dimsOf (c .before .before .before .before .args .d))) (c .before .loop .sizes) (c .before .loop .i) {n = c .before .before .before .size-count .result - 1} (omega arith) (omega (arith, length-drop 1 (dimsOf (c .before .before .before .before .args .d)), c .before .before .before .size-count .ensures .0)) (c .before .loop .inv .2)
+returns-2 c =
+    let entry = c .before .before .before .before in
+    let at-size-count = c .before .before .before in
+    let args = entry .args in
+    build-end (drop 1 (dimsOf (args .d))) (c .before .loop .sizes) (c .before .loop .i) {n = at-size-count .size-count .result - 1} (omega arith) (omega (arith, length-drop 1 (dimsOf (args .d)), at-size-count .size-count .ensures .0)) (c .before .loop .inv .2)
 
 pub rest-dims-spec : {M : Type 1} → statement M
 rest-dims-spec =

@@ -17,10 +17,18 @@ enum-known-size : tie.Need-enum-known-size
 enum-known-size c = search needs
 
 returns : tie.Need-returns
-returns c = slot-none (dimsOf (c .before .before .before .args .d)) (c .before .before .before .args .i) unknown (sym (ap slotOf (c .enum-told .given .1)) ∙ c .before .before .get .ensures)
+returns c =
+    let entry = c .before .before .before in
+    let at-get = c .before .before in
+    let args = entry .args in
+    slot-none (dimsOf (args .d)) (args .i) unknown (sym (ap slotOf (c .enum-told .given .1)) ∙ at-get .get .ensures)
 
 returns-2 : tie.Need-returns-2
-returns-2 c = slot-size (dimsOf (c .before .before .before .before .args .d)) (c .before .before .before .before .args .i) unknown (sym (ap slotOf (c .before .size .given .1)) ∙ c .before .before .before .get .ensures)
+returns-2 c =
+    let entry = c .before .before .before .before in
+    let at-get = c .before .before .before in
+    let args = entry .args in
+    slot-size (dimsOf (args .d)) (args .i) unknown (sym (ap slotOf (c .before .size .given .1)) ∙ at-get .get .ensures)
 
 pub size-at-spec : {M : Type 1} → statement M
 size-at-spec = tie.close (tie.spec get-requires enum-told enum-known-size returns returns-2)

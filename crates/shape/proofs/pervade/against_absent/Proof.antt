@@ -16,11 +16,15 @@ returns c = search needs
 
 returns-2 : tie.Need-returns-2
 unfolding againstAbsent
-returns-2 c = rw (c .before .before .x .given .1, c .if1 .taken)
+returns-2 c =
+    let at-x = c .before .before in
+    rw (at-x .x .given .1, c .if1 .taken)
 
 returns-3 : tie.Need-returns-3
 unfolding againstAbsent
-returns-3 c = rw (c .before .before .x .given .1, one-number (c .before .before .x .given .0 .0), ne-eqb _ _ (c .if1 .left))
+returns-3 c =
+    let at-x = c .before .before in
+    rw (at-x .x .given .1, one-number (at-x .x .given .0 .0), ne-eqb _ _ (c .if1 .left))
 
 pub against-absent-spec : {M : Type 1} → statement M
 against-absent-spec = tie.close (tie.spec enum-known-x enum-told returns returns-2 returns-3)

@@ -21,7 +21,10 @@ against-absent-requires : tie.Need-against-absent-requires
 against-absent-requires c κs = search needs
 
 returns : tie.Need-returns
-returns c = pervade-absent _ _ (sym (ap slotOf (c .before .enum-told .given .1)) ∙ c .before .before .before .before .get .ensures) (c .before .before .before .get2 .ensures) (c .against-absent .ensures)
+returns c =
+    let at-get = c .before .before .before .before in
+    let at-get2 = c .before .before .before in
+    pervade-absent _ _ (sym (ap slotOf (c .before .enum-told .given .1)) ∙ at-get .get .ensures) (at-get2 .get2 .ensures) (c .against-absent .ensures)
 
 enum-known-y : tie.Need-enum-known-y
 enum-known-y c = search needs
@@ -33,13 +36,22 @@ against-absent-requires-2 : tie.Need-against-absent-requires-2
 against-absent-requires-2 c κs = search needs
 
 returns-2 : tie.Need-returns-2
-returns-2 c = pervade-alone _ _ (sym (ap slotOf (c .before .before .before .before .x .given .1)) ∙ c .before .before .before .before .before .before .before .get .ensures) (sym (ap slotOf (c .before .enum-told2 .given .1)) ∙ c .before .before .before .before .before .before .get2 .ensures) (c .against-absent2 .ensures)
+returns-2 c =
+    let at-get = c .before .before .before .before .before .before .before in
+    let at-get2 = c .before .before .before .before .before .before in
+    let at-x = c .before .before .before .before in
+    pervade-alone _ _ (sym (ap slotOf (at-x .x .given .1)) ∙ at-get .get .ensures) (sym (ap slotOf (c .before .enum-told2 .given .1)) ∙ at-get2 .get2 .ensures) (c .against-absent2 .ensures)
 
 pervade-sizes-requires : tie.Need-pervade-sizes-requires
 pervade-sizes-requires c κs = search needs
 
 returns-3 : tie.Need-returns-3
-returns-3 c = pervade-both _ _ (sym (ap slotOf (c .before .before .before .before .before .x .given .1)) ∙ c .before .before .before .before .before .before .before .before .get .ensures) (sym (ap slotOf (c .before .before .y .given .1)) ∙ c .before .before .before .before .before .before .before .get2 .ensures) (c .pervade-sizes .ensures)
+returns-3 c =
+    let at-get = c .before .before .before .before .before .before .before .before in
+    let at-get2 = c .before .before .before .before .before .before .before in
+    let at-x = c .before .before .before .before .before in
+    let at-y = c .before .before in
+    pervade-both _ _ (sym (ap slotOf (at-x .x .given .1)) ∙ at-get .get .ensures) (sym (ap slotOf (at-y .y .given .1)) ∙ at-get2 .get2 .ensures) (c .pervade-sizes .ensures)
 
 pub pervade-at-spec : {M : Type 1} → statement M
 pervade-at-spec =

@@ -11,7 +11,11 @@ pervade-closing-requires : tie.Need-pervade-closing-requires
 pervade-closing-requires c κs = search needs
 
 returns : tie.Need-returns
-returns c = pervade-beside (c .before .before .before .before .before .args .a-fill) (c .before .before .before .before .before .args .b-fill) (dimsOf (c .before .before .before .before .before .args .a .dims)) (dimsOf (c .before .before .before .before .before .args .b .dims)) (closingFor (c .before .before .before .before .before .args .a)) (closingFor (c .before .before .before .before .before .args .b)) (c .before .before .pervade-dims .result .answer) (c .before .before .pervade-dims .ensures) (c .pervade-closing .ensures)
+returns c =
+    let entry = c .before .before .before .before .before in
+    let at-pervade-dims = c .before .before in
+    let args = entry .args in
+    pervade-beside (args .a-fill) (args .b-fill) (dimsOf (args .a .dims)) (dimsOf (args .b .dims)) (closingFor (args .a)) (closingFor (args .b)) (at-pervade-dims .pervade-dims .result .answer) (at-pervade-dims .pervade-dims .ensures) (c .pervade-closing .ensures)
 
 pub pervade-dyn-shapes-spec : {M : Type 1} → statement M
 pervade-dyn-shapes-spec =

@@ -9,13 +9,25 @@ returns : tie.Need-returns
 returns c = sym (together-first (c .before .args .fill-a) (c .before .args .fill-b) (c .before .args .a) (c .before .args .b) (c .if1 .taken))
 
 returns-2 : tie.Need-returns-2
-returns-2 c = sym (together-second (c .before .before .args .fill-a) (c .before .before .args .fill-b) (c .before .before .args .a) (c .before .before .args .b) (c .before .if1 .left) (c .if2 .taken))
+returns-2 c =
+    let entry = c .before .before in
+    let args = entry .args in
+    sym (together-second (args .fill-a) (args .fill-b) (args .a) (args .b) (c .before .if1 .left) (c .if2 .taken))
 
 returns-3 : tie.Need-returns-3
-returns-3 c = sym (together-unknown (c .before .before .before .args .fill-a) (c .before .before .before .args .fill-b) (c .before .before .before .args .a) (c .before .before .before .args .b) (c .before .before .if1 .left) (c .before .if2 .left) (c .if3 .taken))
+returns-3 c =
+    let entry = c .before .before .before in
+    let at-if1 = c .before .before in
+    let args = entry .args in
+    sym (together-unknown (args .fill-a) (args .fill-b) (args .a) (args .b) (at-if1 .if1 .left) (c .before .if2 .left) (c .if3 .taken))
 
 returns-4 : tie.Need-returns-4
-returns-4 c = sym (together-static (c .before .before .before .before .args .fill-a) (c .before .before .before .before .args .fill-b) (c .before .before .before .before .args .a) (c .before .before .before .before .args .b) (c .before .before .before .if1 .left) (c .before .before .if2 .left) (c .before .if3 .left) (c .if4 .taken))
+returns-4 c =
+    let entry = c .before .before .before .before in
+    let at-if1 = c .before .before .before in
+    let at-if2 = c .before .before in
+    let args = entry .args in
+    sym (together-static (args .fill-a) (args .fill-b) (args .a) (args .b) (at-if1 .if1 .left) (at-if2 .if2 .left) (c .before .if3 .left) (c .if4 .taken))
 
 cmp-requires : tie.Need-cmp-requires
 cmp-requires c κs = search needs
@@ -36,13 +48,37 @@ where-filled-requires-2 : tie.Need-where-filled-requires-2
 where-filled-requires-2 c κs = search needs
 
 returns-5 : tie.Need-returns-5
-returns-5 c = c .where-filled .ensures ∙ sym (together-order (c .before .before .before .before .before .before .before .before .args .fill-a) (c .before .before .before .before .before .before .before .before .args .fill-b) (c .before .before .before .before .before .before .before .before .args .a) (c .before .before .before .before .before .before .before .before .args .b) (c .before .before .before .before .before .before .before .if1 .left) (c .before .before .before .before .before .before .if2 .left) (c .before .before .before .before .before .if3 .left) (c .before .before .before .before .if4 .left) (sym (ap orderOf (c .before .enum-told .given .1)) ∙ c .before .before .before .cmp .ensures))
+returns-5 c =
+    let entry = c .before .before .before .before .before .before .before .before in
+    let at-if1 = c .before .before .before .before .before .before .before in
+    let at-if2 = c .before .before .before .before .before .before in
+    let at-if3 = c .before .before .before .before .before in
+    let at-if4 = c .before .before .before .before in
+    let at-cmp = c .before .before .before in
+    let args = entry .args in
+    c .where-filled .ensures ∙ sym (together-order (args .fill-a) (args .fill-b) (args .a) (args .b) (at-if1 .if1 .left) (at-if2 .if2 .left) (at-if3 .if3 .left) (at-if4 .if4 .left) (sym (ap orderOf (c .before .enum-told .given .1)) ∙ at-cmp .cmp .ensures))
 
 returns-6 : tie.Need-returns-6
-returns-6 c = sym (together-order (c .before .before .before .before .before .before .before .args .fill-a) (c .before .before .before .before .before .before .before .args .fill-b) (c .before .before .before .before .before .before .before .args .a) (c .before .before .before .before .before .before .before .args .b) (c .before .before .before .before .before .before .if1 .left) (c .before .before .before .before .before .if2 .left) (c .before .before .before .before .if3 .left) (c .before .before .before .if4 .left) (sym (ap orderOf (c .enum-told2 .given .1)) ∙ c .before .before .cmp .ensures))
+returns-6 c =
+    let entry = c .before .before .before .before .before .before .before in
+    let at-if1 = c .before .before .before .before .before .before in
+    let at-if2 = c .before .before .before .before .before in
+    let at-if3 = c .before .before .before .before in
+    let at-if4 = c .before .before .before in
+    let at-cmp = c .before .before in
+    let args = entry .args in
+    sym (together-order (args .fill-a) (args .fill-b) (args .a) (args .b) (at-if1 .if1 .left) (at-if2 .if2 .left) (at-if3 .if3 .left) (at-if4 .if4 .left) (sym (ap orderOf (c .enum-told2 .given .1)) ∙ at-cmp .cmp .ensures))
 
 returns-7 : tie.Need-returns-7
-returns-7 c = c .where-filled2 .ensures ∙ sym (together-order (c .before .before .before .before .before .before .before .before .args .fill-a) (c .before .before .before .before .before .before .before .before .args .fill-b) (c .before .before .before .before .before .before .before .before .args .a) (c .before .before .before .before .before .before .before .before .args .b) (c .before .before .before .before .before .before .before .if1 .left) (c .before .before .before .before .before .before .if2 .left) (c .before .before .before .before .before .if3 .left) (c .before .before .before .before .if4 .left) (sym (ap orderOf (c .before .enum-told3 .given .1)) ∙ c .before .before .before .cmp .ensures))
+returns-7 c =
+    let entry = c .before .before .before .before .before .before .before .before in
+    let at-if1 = c .before .before .before .before .before .before .before in
+    let at-if2 = c .before .before .before .before .before .before in
+    let at-if3 = c .before .before .before .before .before in
+    let at-if4 = c .before .before .before .before in
+    let at-cmp = c .before .before .before in
+    let args = entry .args in
+    c .where-filled2 .ensures ∙ sym (together-order (args .fill-a) (args .fill-b) (args .a) (args .b) (at-if1 .if1 .left) (at-if2 .if2 .left) (at-if3 .if3 .left) (at-if4 .if4 .left) (sym (ap orderOf (c .before .enum-told3 .given .1)) ∙ at-cmp .cmp .ensures))
 
 pub pervade-sizes-spec : {M : Type 1} → statement M
 pervade-sizes-spec =

@@ -19,7 +19,11 @@ of-parts-requires : tie.Need-of-parts-requires
 of-parts-requires c κs = search needs
 
 returns : tie.Need-returns
-returns c = c .of-parts .ensures ∙ (ap (λ d. shape d (closingFor (c .before .before .before .before .before .before .args .shape))) (c .before .rest-dims .ensures) ∙ sym (row-opening (dimsOf (c .before .before .before .before .before .before .args .shape .dims)) (closingFor (c .before .before .before .before .before .before .args .shape)) (omega (arith, c .before .before .before .size-count .ensures .0))))
+returns c =
+    let entry = c .before .before .before .before .before .before in
+    let at-size-count = c .before .before .before in
+    let args = entry .args in
+    c .of-parts .ensures ∙ (ap (λ d. shape d (closingFor (args .shape))) (c .before .rest-dims .ensures) ∙ sym (row-opening (dimsOf (args .shape .dims)) (closingFor (args .shape)) (omega (arith, at-size-count .size-count .ensures .0))))
 
 rest-dims-requires-2 : tie.Need-rest-dims-requires-2
 rest-dims-requires-2 c κs = search needs
@@ -28,7 +32,11 @@ of-parts-requires-2 : tie.Need-of-parts-requires-2
 of-parts-requires-2 c κs = search needs
 
 returns-2 : tie.Need-returns-2
-returns-2 c = c .of-parts2 .ensures ∙ (ap (λ d. shape (dimsOf (c .before .before .before .before .before .before .args .shape .dims)) (cond (c .before .before .before .before .before .before .args .shape .closed) none (some d))) (c .before .rest-dims2 .ensures) ∙ sym (row-closing (dimsOf (c .before .before .before .before .before .before .args .shape .dims)) (c .before .before .before .before .before .before .args .shape .closed) (dimsOf (c .before .before .before .before .before .before .args .shape .suffix)) (omega (arith, c .before .before .before .size-count .ensures .0))))
+returns-2 c =
+    let entry = c .before .before .before .before .before .before in
+    let at-size-count = c .before .before .before in
+    let args = entry .args in
+    c .of-parts2 .ensures ∙ (ap (λ d. shape (dimsOf (args .shape .dims)) (cond (args .shape .closed) none (some d))) (c .before .rest-dims2 .ensures) ∙ sym (row-closing (dimsOf (args .shape .dims)) (args .shape .closed) (dimsOf (args .shape .suffix)) (omega (arith, at-size-count .size-count .ensures .0))))
 
 pub into-row-spec : {M : Type 1} → statement M
 into-row-spec =

@@ -11,16 +11,27 @@ size-count-requires : tie.Need-size-count-requires
 size-count-requires c κs = search needs
 
 returns : tie.Need-returns
-returns c = sym (any-opening (dimsOf (c .before .before .before .args .shape .dims)) (closingFor (c .before .before .before .args .shape)) (omega (arith, c .before .size-count .ensures .0)))
+returns c =
+    let entry = c .before .before .before in
+    let args = entry .args in
+    sym (any-opening (dimsOf (args .shape .dims)) (closingFor (args .shape)) (omega (arith, c .before .size-count .ensures .0)))
 
 returns-2 : tie.Need-returns-2
-returns-2 c = sym (any-closed (dimsOf (c .before .before .before .before .args .shape .dims)) (closed-is (c .before .before .before .before .args .shape) (c .if2 .taken)))
+returns-2 c =
+    let entry = c .before .before .before .before in
+    let args = entry .args in
+    sym (any-closed (dimsOf (args .shape .dims)) (closed-is (args .shape) (c .if2 .taken)))
 
 size-count-requires-2 : tie.Need-size-count-requires-2
 size-count-requires-2 c κs = search needs
 
 returns-3 : tie.Need-returns-3
-returns-3 c = sym (any-open (dimsOf (c .before .before .before .before .before .before .args .shape .dims)) (omega (arith, c .before .before .before .before .size-count .ensures .0)) (open-is (c .before .before .before .before .before .before .args .shape) (c .before .before .if2 .left)) (c .size-count2 .ensures .0))
+returns-3 c =
+    let entry = c .before .before .before .before .before .before in
+    let at-size-count = c .before .before .before .before in
+    let at-if2 = c .before .before in
+    let args = entry .args in
+    sym (any-open (dimsOf (args .shape .dims)) (omega (arith, at-size-count .size-count .ensures .0)) (open-is (args .shape) (at-if2 .if2 .left)) (c .size-count2 .ensures .0))
 
 pub is-any-spec : {M : Type 1} → statement M
 is-any-spec =

@@ -10,10 +10,16 @@ size-count-requires : tie.Need-size-count-requires
 size-count-requires c κs = search needs
 
 returns : tie.Need-returns
-returns c = sym (scalar-opening (dimsOf (c .before .before .before .args .shape .dims)) (closingFor (c .before .before .before .args .shape)) (omega (arith, c .before .size-count .ensures .0)))
+returns c =
+    let entry = c .before .before .before in
+    let args = entry .args in
+    sym (scalar-opening (dimsOf (args .shape .dims)) (closingFor (args .shape)) (omega (arith, c .before .size-count .ensures .0)))
 
 returns-2 : tie.Need-returns-2
-returns-2 c = sym (scalar-closing (dimsOf (c .before .before .before .args .shape .dims)) (c .before .before .before .args .shape .closed) (dimsOf (c .before .before .before .args .shape .suffix)) (omega (arith, c .before .size-count .ensures .0)))
+returns-2 c =
+    let entry = c .before .before .before in
+    let args = entry .args in
+    sym (scalar-closing (dimsOf (args .shape .dims)) (args .shape .closed) (dimsOf (args .shape .suffix)) (omega (arith, c .before .size-count .ensures .0)))
 
 pub is-scalar-spec : {M : Type 1} → statement M
 is-scalar-spec = tie.close (tie.spec size-count-requires returns returns-2)

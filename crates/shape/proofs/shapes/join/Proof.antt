@@ -16,13 +16,22 @@ of-parts-requires : tie.Need-of-parts-requires
 of-parts-requires c κs = search needs
 
 returns : tie.Need-returns
-returns c = c .of-parts .ensures ∙ join-closed (dimsOf (c .before .before .before .before .before .before .before .before .args .a .dims)) (dimsOf (c .before .before .before .before .before .before .before .before .args .b .dims)) (closingFor (c .before .before .before .before .before .before .before .before .args .b)) (c .before .before .before .join-dims .ensures) (closed-is (c .before .before .before .before .before .before .before .before .args .a) (c .before .if1 .taken))
+returns c =
+    let entry = c .before .before .before .before .before .before .before .before in
+    let at-join-dims = c .before .before .before in
+    let args = entry .args in
+    c .of-parts .ensures ∙ join-closed (dimsOf (args .a .dims)) (dimsOf (args .b .dims)) (closingFor (args .b)) (at-join-dims .join-dims .ensures) (closed-is (args .a) (c .before .if1 .taken))
 
 of-parts-requires-2 : tie.Need-of-parts-requires-2
 of-parts-requires-2 c κs = search needs
 
 returns-2 : tie.Need-returns-2
-returns-2 c = c .of-parts2 .ensures ∙ join-open (dimsOf (c .before .before .before .before .before .before .before .before .args .a .dims)) (dimsOf (c .before .before .before .before .before .before .before .before .args .b .dims)) (c .before .before .before .before .before .before .before .before .args .b .closed) (dimsOf (c .before .before .before .before .before .before .before .before .args .b .suffix)) (c .before .before .before .join-dims .ensures) (open-is (c .before .before .before .before .before .before .before .before .args .a) (c .before .if1 .left)) (c .before .before .join-ends .ensures)
+returns-2 c =
+    let entry = c .before .before .before .before .before .before .before .before in
+    let at-join-dims = c .before .before .before in
+    let at-join-ends = c .before .before in
+    let args = entry .args in
+    c .of-parts2 .ensures ∙ join-open (dimsOf (args .a .dims)) (dimsOf (args .b .dims)) (args .b .closed) (dimsOf (args .b .suffix)) (at-join-dims .join-dims .ensures) (open-is (args .a) (c .before .if1 .left)) (at-join-ends .join-ends .ensures)
 
 pub join-spec : {M : Type 1} → statement M
 join-spec =

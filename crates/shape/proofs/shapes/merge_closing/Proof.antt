@@ -11,7 +11,10 @@ of-parts-requires : tie.Need-of-parts-requires
 of-parts-requires c κs = search needs
 
 returns : tie.Need-returns
-returns c = c .of-parts .ensures ∙ ap (shape (dimsOf (c .before .before .before .before .args .dims))) (sym (merge-closed (closingFor (c .before .before .before .before .args .b)) (closed-is (c .before .before .before .before .args .a) (c .before .if1 .taken))))
+returns c =
+    let entry = c .before .before .before .before in
+    let args = entry .args in
+    c .of-parts .ensures ∙ ap (shape (dimsOf (args .dims))) (sym (merge-closed (closingFor (args .b)) (closed-is (args .a) (c .before .if1 .taken))))
 
 size-count-requires : tie.Need-size-count-requires
 size-count-requires c κs = search needs
@@ -20,7 +23,12 @@ of-parts-requires-2 : tie.Need-of-parts-requires-2
 of-parts-requires-2 c κs = search needs
 
 returns-2 : tie.Need-returns-2
-returns-2 c = c .of-parts2 .ensures ∙ ap (shape (dimsOf (c .before .before .before .before .before .before .args .dims))) (sym (merge-unnamed (open-is (c .before .before .before .before .before .before .args .a) (c .before .before .before .if1 .left)) (closed-is (c .before .before .before .before .before .before .args .b) (c .before .before .if2 .taken)) (c .before .size-count .ensures .0)))
+returns-2 c =
+    let entry = c .before .before .before .before .before .before in
+    let at-if1 = c .before .before .before in
+    let at-if2 = c .before .before in
+    let args = entry .args in
+    c .of-parts2 .ensures ∙ ap (shape (dimsOf (args .dims))) (sym (merge-unnamed (open-is (args .a) (at-if1 .if1 .left)) (closed-is (args .b) (at-if2 .if2 .taken)) (c .before .size-count .ensures .0)))
 
 merge-dims-requires : tie.Need-merge-dims-requires
 merge-dims-requires c κs = search needs
@@ -29,7 +37,12 @@ of-parts-requires-3 : tie.Need-of-parts-requires-3
 of-parts-requires-3 c κs = search needs
 
 returns-3 : tie.Need-returns-3
-returns-3 c = c .of-parts3 .ensures ∙ ap (shape (dimsOf (c .before .before .before .before .before .before .args .dims))) (sym (merge-named (open-is (c .before .before .before .before .before .before .args .a) (c .before .before .before .if1 .left)) (open-is (c .before .before .before .before .before .before .args .b) (c .before .before .if2 .left)) (c .before .merge-dims .ensures)))
+returns-3 c =
+    let entry = c .before .before .before .before .before .before in
+    let at-if1 = c .before .before .before in
+    let at-if2 = c .before .before in
+    let args = entry .args in
+    c .of-parts3 .ensures ∙ ap (shape (dimsOf (args .dims))) (sym (merge-named (open-is (args .a) (at-if1 .if1 .left)) (open-is (args .b) (at-if2 .if2 .left)) (c .before .merge-dims .ensures)))
 
 pub merge-closing-spec : {M : Type 1} → statement M
 merge-closing-spec =

@@ -14,7 +14,10 @@ merge-closing-requires c κs = search needs
 
 returns : tie.Need-returns
 unfolding mergeFrom
-returns c = c .merge-closing .ensures ∙ ap (λ d. shape d (mergeClosing (closingFor (c .before .before .before .before .args .a)) (closingFor (c .before .before .before .before .args .b)))) (c .before .merge-dims .ensures)
+returns c =
+    let entry = c .before .before .before .before in
+    let args = entry .args in
+    c .merge-closing .ensures ∙ ap (λ d. shape d (mergeClosing (closingFor (args .a)) (closingFor (args .b)))) (c .before .merge-dims .ensures)
 
 pub merge-from-spec : {M : Type 1} → statement M
 merge-from-spec = tie.close (tie.spec merge-dims-requires merge-closing-requires returns)

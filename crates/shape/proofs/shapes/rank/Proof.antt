@@ -10,7 +10,10 @@ size-count-requires : tie.Need-size-count-requires
 size-count-requires c κs = search needs
 
 returns : tie.Need-returns
-returns c = (rank-closed (dimsOf (c .before .before .before .args .shape .dims)) (c .before .size-count .ensures .0) (closed-is (c .before .before .before .args .shape) (c .if1 .taken)), omega (arith, c .before .size-count .ensures .1))
+returns c =
+    let entry = c .before .before .before in
+    let args = entry .args in
+    (rank-closed (dimsOf (args .shape .dims)) (c .before .size-count .ensures .0) (closed-is (args .shape) (c .if1 .taken)), omega (arith, c .before .size-count .ensures .1))
 
 size-count-requires-2 : tie.Need-size-count-requires-2
 size-count-requires-2 c κs = search needs
@@ -19,7 +22,12 @@ add-result : tie.Need-add-result
 add-result c = search needs
 
 returns-2 : tie.Need-returns-2
-returns-2 c = (rank-open (dimsOf (c .before .before .before .before .before .args .shape .dims)) (c .before .before .before .size-count .ensures .0) (c .size-count2 .ensures .0) (open-is (c .before .before .before .before .before .args .shape) (c .before .before .if1 .left)), omega (arith, c .before .before .before .size-count .ensures .1, c .size-count2 .ensures .1))
+returns-2 c =
+    let entry = c .before .before .before .before .before in
+    let at-size-count = c .before .before .before in
+    let at-if1 = c .before .before in
+    let args = entry .args in
+    (rank-open (dimsOf (args .shape .dims)) (at-size-count .size-count .ensures .0) (c .size-count2 .ensures .0) (open-is (args .shape) (at-if1 .if1 .left)), omega (arith, at-size-count .size-count .ensures .1, c .size-count2 .ensures .1))
 
 pub rank-spec : {M : Type 1} → statement M
 rank-spec =

@@ -14,16 +14,28 @@ enum-known-size : tie.Need-enum-known-size
 enum-known-size c = search needs
 
 returns : tie.Need-returns
-returns c = rows-first (dimsOf (c .before .before .before .before .before .args .shape .dims)) (closingFor (c .before .before .before .before .before .args .shape)) (sym (ap slotOf (c .before .size .given .1)) ∙ c .before .before .before .get .ensures)
+returns c =
+    let entry = c .before .before .before .before .before in
+    let at-get = c .before .before .before in
+    let args = entry .args in
+    rows-first (dimsOf (args .shape .dims)) (closingFor (args .shape)) (sym (ap slotOf (c .before .size .given .1)) ∙ at-get .get .ensures)
 
 enum-told : tie.Need-enum-told
 enum-told c = search needs
 
 returns-2 : tie.Need-returns-2
-returns-2 c = rows-closed (dimsOf (c .before .before .before .before .before .args .shape .dims)) (sym (ap slotOf (c .before .enum-told .given .1)) ∙ c .before .before .before .get .ensures) (closed-is (c .before .before .before .before .before .args .shape) (c .if1 .taken))
+returns-2 c =
+    let entry = c .before .before .before .before .before in
+    let at-get = c .before .before .before in
+    let args = entry .args in
+    rows-closed (dimsOf (args .shape .dims)) (sym (ap slotOf (c .before .enum-told .given .1)) ∙ at-get .get .ensures) (closed-is (args .shape) (c .if1 .taken))
 
 returns-3 : tie.Need-returns-3
-returns-3 c = rows-open (dimsOf (c .before .before .before .before .before .args .shape .dims)) (sym (ap slotOf (c .before .enum-told .given .1)) ∙ c .before .before .before .get .ensures) (open-is (c .before .before .before .before .before .args .shape) (c .if1 .left))
+returns-3 c =
+    let entry = c .before .before .before .before .before in
+    let at-get = c .before .before .before in
+    let args = entry .args in
+    rows-open (dimsOf (args .shape .dims)) (sym (ap slotOf (c .before .enum-told .given .1)) ∙ at-get .get .ensures) (open-is (args .shape) (c .if1 .left))
 
 pub row-count-spec : {M : Type 1} → statement M
 row-count-spec =

@@ -21,7 +21,9 @@ cmp-numbers-requires c κs = search needs
 
 returns-4 : tie.Need-returns-4
 unfolding cmpDefined
-returns-4 c = rw (ne-eqb _ _ (c .before .before .if1 .left), ne-eqb _ _ (c .before .if3 .left)) (c .cmp-numbers .ensures)
+returns-4 c =
+    let at-if1 = c .before .before in
+    rw (ne-eqb _ _ (at-if1 .if1 .left), ne-eqb _ _ (c .before .if3 .left)) (c .cmp-numbers .ensures)
 
 pub cmp-defined-spec : {M : Type 1} → statement M
 cmp-defined-spec = tie.close (tie.spec returns returns-2 returns-3 cmp-numbers-requires returns-4)

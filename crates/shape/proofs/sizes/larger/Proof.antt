@@ -19,15 +19,21 @@ enum-told-3 c = search needs
 
 returns : tie.Need-returns
 unfolding larger
-returns c = rw (sym (c .before .before .cmp .ensures) ∙ ap orderOf (c .enum-told .given .1))
+returns c =
+    let at-cmp = c .before .before in
+    rw (sym (at-cmp .cmp .ensures) ∙ ap orderOf (c .enum-told .given .1))
 
 returns-2 : tie.Need-returns-2
 unfolding larger
-returns-2 c = rw (sym (c .before .before .cmp .ensures) ∙ ap orderOf (c .enum-told2 .given .1))
+returns-2 c =
+    let at-cmp = c .before .before in
+    rw (sym (at-cmp .cmp .ensures) ∙ ap orderOf (c .enum-told2 .given .1))
 
 returns-3 : tie.Need-returns-3
 unfolding larger
-returns-3 c = rw (sym (c .before .before .cmp .ensures) ∙ ap orderOf (c .enum-told3 .given .1))
+returns-3 c =
+    let at-cmp = c .before .before in
+    rw (sym (at-cmp .cmp .ensures) ∙ ap orderOf (c .enum-told3 .given .1))
 
 pub larger-spec : {M : Type 1} → statement M
 larger-spec =

@@ -15,11 +15,18 @@ returns c = rw (sym (c .before .compatible .ensures) ∙ c .if1 .taken)
 
 returns-2 : tie.Need-returns-2
 unfolding rowCompatible
-returns-2 c = rw ((sym (c .before .before .compatible .ensures) ∙ c .before .if1 .left), one-number (c .before .before .before .args .a), eq-eqb _ _ (c .if2 .taken))
+returns-2 c =
+    let entry = c .before .before .before in
+    let at-compatible = c .before .before in
+    rw ((sym (at-compatible .compatible .ensures) ∙ c .before .if1 .left), one-number (entry .args .a), eq-eqb _ _ (c .if2 .taken))
 
 returns-3 : tie.Need-returns-3
 unfolding rowCompatible
-returns-3 c = rw ((sym (c .before .before .compatible .ensures) ∙ c .before .if1 .left), one-number (c .before .before .before .args .a), ne-eqb _ _ (c .if2 .left), one-number (c .before .before .before .args .b))
+returns-3 c =
+    let entry = c .before .before .before in
+    let at-compatible = c .before .before in
+    let args = entry .args in
+    rw ((sym (at-compatible .compatible .ensures) ∙ c .before .if1 .left), one-number (args .a), ne-eqb _ _ (c .if2 .left), one-number (args .b))
 
 pub row-compatible-spec : {M : Type 1} → statement M
 row-compatible-spec = tie.close (tie.spec compatible-requires returns returns-2 returns-3)

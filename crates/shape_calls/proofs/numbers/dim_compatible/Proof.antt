@@ -14,7 +14,11 @@ enum-known-number : tie.Need-enum-known-number
 enum-known-number c = search needs
 
 returns : tie.Need-returns
-returns c = sym (sizes-told (c .before .before .before .before .args .a) (c .before .before .before .before .args .b) compatible (sym (c .before .before .before .judge-sizes .ensures) ∙ ap judgedOf (c .before .number .given .1)))
+returns c =
+    let entry = c .before .before .before .before in
+    let at-judge-sizes = c .before .before .before in
+    let args = entry .args in
+    sym (sizes-told (args .a) (args .b) compatible (sym (at-judge-sizes .judge-sizes .ensures) ∙ ap judgedOf (c .before .number .given .1)))
 
 enum-told : tie.Need-enum-told
 enum-told c = search needs
@@ -26,7 +30,12 @@ tell-requires : tie.Need-tell-requires
 tell-requires c κs = search needs
 
 returns-2 : tie.Need-returns-2
-returns-2 c = c .tell .ensures ∙ (ap accepted (c .before .compatible .ensures) ∙ sym (sizes-passed (c .before .before .before .before .before .args .a) (c .before .before .before .before .before .args .b) compatible (sym (c .before .before .before .before .judge-sizes .ensures) ∙ ap judgedOf (c .before .before .enum-told .given .1))))
+returns-2 c =
+    let entry = c .before .before .before .before .before in
+    let at-judge-sizes = c .before .before .before .before in
+    let at-enum-told = c .before .before in
+    let args = entry .args in
+    c .tell .ensures ∙ (ap accepted (c .before .compatible .ensures) ∙ sym (sizes-passed (args .a) (args .b) compatible (sym (at-judge-sizes .judge-sizes .ensures) ∙ ap judgedOf (at-enum-told .enum-told .given .1))))
 
 pub dim-compatible-spec : {M : Type 1} → statement M
 dim-compatible-spec =

@@ -17,7 +17,9 @@ same-length c = search needs
 -- src/out.rt:68:1
 returns : tie.Need-returns
 unfolding zeroed
-returns c = c .before .before .zero-first .ensures
+returns c =
+    let at-zero-first = c .before .before in
+    at-zero-first .zero-first .ensures
 
 pub clear-spec : {M : Type 1} → statement M
 clear-spec = tie.close (tie.spec zero-first-requires same-length returns)

@@ -21,11 +21,17 @@ abbrev μ-loop : tie.MeasureT-loop
 
 -- src/out.rt:56:5
 loop-holds : tie.Need-loop-holds Inv-loop μ-loop
-loop-holds c = (search needs, search needs, sym (laid-none (c .before .before .before .args .lengths .now) (c .before .before .before .args .scratch .now)), laid-start (c .before .before .before .args .lengths .now) (c .before .before .before .args .scratch .now) (c .before .before .before .args .result .now))
+loop-holds c =
+    let entry = c .before .before .before in
+    let args = entry .args in
+    (search needs, search needs, sym (laid-none (args .lengths .now) (args .scratch .now)), laid-start (args .lengths .now) (args .scratch .now) (args .result .now))
 
 -- src/out.rt:57:13
 load-requires : tie.Need-load-requires Inv-loop μ-loop
-load-requires c κs = (c .before .before .before .before .before .args .count, c .before .before .before .before .before .args .scratch .now, c .loop-test .taken, c .before .before .before .before .before .pre .0)
+load-requires c κs =
+    let entry = c .before .before .before .before .before in
+    let args = entry .args in
+    (args .count, args .scratch .now, c .loop-test .taken, entry .pre .0)
 
 -- src/out.rt:60:13
 sub-lay : tie.Need-sub-lay Inv-loop μ-loop
@@ -37,19 +43,37 @@ part-lay-start c = c .load .ensures .0 .0
 
 -- src/out.rt:60:13
 part-lay-end : tie.Need-part-lay-end Inv-loop μ-loop
-part-lay-end c = let e : c .load .result .end ≤ length (c .before .before .before .before .before .before .args .scratch .now) = omega (arith, c .load .ensures .0 .1, c .before .before .before .before .before .before .pre .0 .held .room) in e
+part-lay-end c =
+    let entry = c .before .before .before .before .before .before in
+    let e : c .load .result .end ≤ length (entry .args .scratch .now) = omega (arith, c .load .ensures .0 .1, entry .pre .0 .held .room) in
+    e
 
 -- src/out.rt:60:9
 lay-requires : tie.Need-lay-requires Inv-loop μ-loop
-lay-requires c κs = rw (c .before .before .load .ensures .1 (c .before .before .before .before .before .before .before .before .args .scratch .now)) (omega (arith, lay-fits (c .before .before .before .before .before .before .before .before .args .lengths .now) (c .before .before .before .before .before .before .before .before .args .count) (c .before .before .before .before .before .before .before .before .args .scratch .now) (c .before .before .before .before .before .before .before .before .pre .0) (c .before .before .before .before .loop .k) (c .before .before .before .loop-test .taken) (c .before .before .before .before .loop .inv .2) (c .before .before .before .before .before .before .before .before .pre .1), c .before .before .before .before .loop .inv .1))
+lay-requires c κs =
+    let entry = c .before .before .before .before .before .before .before .before in
+    let at-loop = c .before .before .before .before in
+    let at-loop-test = c .before .before .before in
+    let at-load = c .before .before in
+    let args = entry .args in
+    rw (at-load .load .ensures .1 (args .scratch .now)) (omega (arith, lay-fits (args .lengths .now) (args .count) (args .scratch .now) (entry .pre .0) (at-loop .loop .k) (at-loop-test .loop-test .taken) (at-loop .loop .inv .2) (entry .pre .1), at-loop .loop .inv .1))
 
 -- src/out.rt:61:15
 sub-at : tie.Need-sub-at Inv-loop μ-loop
-sub-at c = c .before .before .before .before .before .load .ensures .0 .0
+sub-at c =
+    let at-load = c .before .before .before .before .before in
+    at-load .load .ensures .0 .0
 
 -- src/out.rt:61:9
 add-at : tie.Need-add-at Inv-loop μ-loop
-add-at c = let e : (c .before .before .before .before .before .before .before .loop .at) + ((c .before .before .before .before .before .load .result .end) - (c .before .before .before .before .before .load .result .start)) ≤ length (c .before .before .before .before .before .before .before .before .before .before .before .args .result .now) = omega (arith, lay-adds (c .before .before .before .before .before .before .before .before .before .before .before .args .lengths .now) (c .before .before .before .before .before .before .before .before .before .before .before .args .count) (c .before .before .before .before .before .before .before .before .before .before .before .args .scratch .now) (c .before .before .before .before .before .before .before .before .before .before .before .pre .0) (c .before .before .before .before .before .before .before .loop .k) (c .before .before .before .before .before .before .loop-test .taken) (c .before .before .before .before .before .load .result .start) (c .before .before .before .before .before .load .result .end) (c .before .before .before .before .before .before .before .loop .inv .2) (c .before .before .before .before .before .load .ensures .1 (c .before .before .before .before .before .before .before .before .before .before .before .args .scratch .now)) (c .before .before .before .before .before .load .ensures .0 .0) (omega (arith, c .before .before .before .before .before .load .ensures .0 .1, c .before .before .before .before .before .before .before .before .before .before .before .pre .0 .held .room)), laid-within (c .before .before .before .before .before .before .before .before .before .before .before .args .lengths .now) (c .before .before .before .before .before .before .before .before .before .before .before .args .count) (c .before .before .before .before .before .before .before .before .before .before .before .args .scratch .now) (c .before .before .before .before .before .before .before .before .before .before .before .pre .0) (c .before .before .before .before .before .before .before .loop .k + 1) (omega arith), c .before .before .before .before .before .before .before .before .before .before .before .pre .1) in search needs
+add-at c =
+    let entry = c .before .before .before .before .before .before .before .before .before .before .before in
+    let at-loop = c .before .before .before .before .before .before .before in
+    let at-loop-test = c .before .before .before .before .before .before in
+    let at-load = c .before .before .before .before .before in
+    let args = entry .args in
+    let e : (at-loop .loop .at) + ((at-load .load .result .end) - (at-load .load .result .start)) ≤ length (args .result .now) = omega (arith, lay-adds (args .lengths .now) (args .count) (args .scratch .now) (entry .pre .0) (at-loop .loop .k) (at-loop-test .loop-test .taken) (at-load .load .result .start) (at-load .load .result .end) (at-loop .loop .inv .2) (at-load .load .ensures .1 (args .scratch .now)) (at-load .load .ensures .0 .0) (omega (arith, at-load .load .ensures .0 .1, entry .pre .0 .held .room)), laid-within (args .lengths .now) (args .count) (args .scratch .now) (entry .pre .0) (at-loop .loop .k + 1) (omega arith), entry .pre .1) in
+    search needs
 
 -- src/out.rt:62:9
 add-k : tie.Need-add-k Inv-loop μ-loop
@@ -61,7 +85,14 @@ loop-less c = search needs
 
 -- src/out.rt:56:5
 loop-again : tie.Need-loop-again Inv-loop μ-loop
-loop-again c = (omega arith, c .before .before .lay .kept .1 .0 ∙ c .before .before .before .before .before .before .before .loop .inv .1, lay-adds (c .before .before .before .before .before .before .before .before .before .before .before .args .lengths .now) (c .before .before .before .before .before .before .before .before .before .before .before .args .count) (c .before .before .before .before .before .before .before .before .before .before .before .args .scratch .now) (c .before .before .before .before .before .before .before .before .before .before .before .pre .0) (c .before .before .before .before .before .before .before .loop .k) (c .before .before .before .before .before .before .loop-test .taken) (c .before .before .before .before .before .load .result .start) (c .before .before .before .before .before .load .result .end) (c .before .before .before .before .before .before .before .loop .inv .2) (c .before .before .before .before .before .load .ensures .1 (c .before .before .before .before .before .before .before .before .before .before .before .args .scratch .now)) (c .before .before .before .before .before .load .ensures .0 .0) (omega (arith, c .before .before .before .before .before .load .ensures .0 .1, c .before .before .before .before .before .before .before .before .before .before .before .pre .0 .held .room)), c .before .before .lay .ensures ∙ rw (c .before .before .before .before .before .load .ensures .1 (c .before .before .before .before .before .before .before .before .before .before .before .args .scratch .now)) (laid-next (c .before .before .before .before .before .before .before .before .before .before .before .args .lengths .now) (c .before .before .before .before .before .before .before .before .before .before .before .args .scratch .now) (c .before .before .before .before .before .before .before .before .before .before .before .args .result .now) (c .before .before .before .before .before .before .before .loop .result) (c .before .before .before .before .before .before .before .loop .at) (c .before .before .before .before .before .before .before .loop .k) (c .before .before .before .before .before .before .before .loop .inv .3) (c .before .before .before .before .before .before .before .loop .inv .2) (omega (arith, lay-fits (c .before .before .before .before .before .before .before .before .before .before .before .args .lengths .now) (c .before .before .before .before .before .before .before .before .before .before .before .args .count) (c .before .before .before .before .before .before .before .before .before .before .before .args .scratch .now) (c .before .before .before .before .before .before .before .before .before .before .before .pre .0) (c .before .before .before .before .before .before .before .loop .k) (c .before .before .before .before .before .before .loop-test .taken) (c .before .before .before .before .before .before .before .loop .inv .2) (c .before .before .before .before .before .before .before .before .before .before .before .pre .1)))))
+loop-again c =
+    let entry = c .before .before .before .before .before .before .before .before .before .before .before in
+    let at-loop = c .before .before .before .before .before .before .before in
+    let at-loop-test = c .before .before .before .before .before .before in
+    let at-load = c .before .before .before .before .before in
+    let at-lay = c .before .before in
+    let args = entry .args in
+    (omega arith, at-lay .lay .kept .1 .0 ∙ at-loop .loop .inv .1, lay-adds (args .lengths .now) (args .count) (args .scratch .now) (entry .pre .0) (at-loop .loop .k) (at-loop-test .loop-test .taken) (at-load .load .result .start) (at-load .load .result .end) (at-loop .loop .inv .2) (at-load .load .ensures .1 (args .scratch .now)) (at-load .load .ensures .0 .0) (omega (arith, at-load .load .ensures .0 .1, entry .pre .0 .held .room)), at-lay .lay .ensures ∙ rw (at-load .load .ensures .1 (args .scratch .now)) (laid-next (args .lengths .now) (args .scratch .now) (args .result .now) (at-loop .loop .result) (at-loop .loop .at) (at-loop .loop .k) (at-loop .loop .inv .3) (at-loop .loop .inv .2) (omega (arith, lay-fits (args .lengths .now) (args .count) (args .scratch .now) (entry .pre .0) (at-loop .loop .k) (at-loop-test .loop-test .taken) (at-loop .loop .inv .2) (entry .pre .1)))))
 
 -- src/out.rt:50:1
 same-length : tie.Need-same-length Inv-loop μ-loop
@@ -69,7 +100,11 @@ same-length c = c .before .loop .inv .1
 
 -- src/out.rt:50:1
 returns : tie.Need-returns Inv-loop μ-loop
-returns c = let e : c .before .loop .k ≡ c .before .before .before .before .before .args .count = omega arith in c .before .loop .inv .3 ∙ ap (λ k. over (c .before .before .before .before .before .args .result .now) 0 (laid (c .before .before .before .before .before .args .lengths .now) (c .before .before .before .before .before .args .scratch .now) k)) e
+returns c =
+    let entry = c .before .before .before .before .before in
+    let args = entry .args in
+    let e : c .before .loop .k ≡ args .count = omega arith in
+    c .before .loop .inv .3 ∙ ap (λ k. over (args .result .now) 0 (laid (args .lengths .now) (args .scratch .now) k)) e
 
 pub lay-types-spec : {M : Type 1} → statement M
 lay-types-spec =

@@ -24,19 +24,38 @@ loop-holds c = (search needs, search needs, λ d h. sym (laid-none (c .args .len
 
 -- src/out.rt:44:17
 mul-size : tie.Need-mul-size Inv-loop μ-loop
-mul-size c = let short : getD (c .before .before .args .lengths .now) (c .before .loop .k) 0 ≤ 4992 = c .before .before .pre .1 .held .short (c .before .loop .k) (c .loop-test .taken) in let few = c .before .before .pre .1 .held .few in search needs
+mul-size c =
+    let entry = c .before .before in
+    let short : getD (entry .args .lengths .now) (c .before .loop .k) 0 ≤ 4992 = entry .pre .1 .held .short (c .before .loop .k) (c .loop-test .taken) in
+    let few = entry .pre .1 .held .few in
+    search needs
 
 -- src/out.rt:44:17
 shared-slice-read-size : tie.Need-shared-slice-read-size Inv-loop μ-loop
-shared-slice-read-size c = let short : getD (c .before .before .before .args .lengths .now) (c .before .before .loop .k) 0 ≤ 4992 = c .before .before .before .pre .1 .held .short (c .before .before .loop .k) (c .before .loop-test .taken) in let few = c .before .before .before .pre .1 .held .few in search needs
+shared-slice-read-size c =
+    let entry = c .before .before .before in
+    let at-loop = c .before .before in
+    let short : getD (entry .args .lengths .now) (at-loop .loop .k) 0 ≤ 4992 = entry .pre .1 .held .short (at-loop .loop .k) (c .before .loop-test .taken) in
+    let few = entry .pre .1 .held .few in
+    search needs
 
 -- src/out.rt:44:9
 add-size : tie.Need-add-size Inv-loop μ-loop
-add-size c = let short : getD (c .before .before .before .args .lengths .now) (c .before .before .loop .k) 0 ≤ 4992 = c .before .before .before .pre .1 .held .short (c .before .before .loop .k) (c .before .loop-test .taken) in let few = c .before .before .before .pre .1 .held .few in search needs
+add-size c =
+    let entry = c .before .before .before in
+    let at-loop = c .before .before in
+    let short : getD (entry .args .lengths .now) (at-loop .loop .k) 0 ≤ 4992 = entry .pre .1 .held .short (at-loop .loop .k) (c .before .loop-test .taken) in
+    let few = entry .pre .1 .held .few in
+    search needs
 
 -- src/out.rt:45:9
 add-k : tie.Need-add-k Inv-loop μ-loop
-add-k c = let short : getD (c .before .before .before .args .lengths .now) (c .before .before .loop .k) 0 ≤ 4992 = c .before .before .before .pre .1 .held .short (c .before .before .loop .k) (c .before .loop-test .taken) in let few = c .before .before .before .pre .1 .held .few in search needs
+add-k c =
+    let entry = c .before .before .before in
+    let at-loop = c .before .before in
+    let short : getD (entry .args .lengths .now) (at-loop .loop .k) 0 ≤ 4992 = entry .pre .1 .held .short (at-loop .loop .k) (c .before .loop-test .taken) in
+    let few = entry .pre .1 .held .few in
+    search needs
 
 -- src/out.rt:43:5
 loop-less : tie.Need-loop-less Inv-loop μ-loop
@@ -44,11 +63,22 @@ loop-less c = search needs
 
 -- src/out.rt:43:5
 loop-again : tie.Need-loop-again Inv-loop μ-loop
-loop-again c = let short : getD (c .before .before .before .args .lengths .now) (c .before .before .loop .k) 0 ≤ 4992 = c .before .before .before .pre .1 .held .short (c .before .before .loop .k) (c .before .loop-test .taken) in let few = c .before .before .before .pre .1 .held .few in (omega arith, omega arith, λ d h. ap (λ n. n + getD (c .before .before .before .args .lengths .now) (c .before .before .loop .k) 0) (c .before .before .loop .inv .2 d h) ∙ sym (laid-more (c .before .before .before .args .lengths .now) (c .before .before .before .args .count) d h (c .before .before .loop .k) (c .before .loop-test .taken)))
+loop-again c =
+    let entry = c .before .before .before in
+    let at-loop = c .before .before in
+    let args = entry .args in
+    let short : getD (args .lengths .now) (at-loop .loop .k) 0 ≤ 4992 = entry .pre .1 .held .short (at-loop .loop .k) (c .before .loop-test .taken) in
+    let few = entry .pre .1 .held .few in
+    (omega arith, omega arith, λ d h. ap (λ n. n + getD (args .lengths .now) (at-loop .loop .k) 0) (at-loop .loop .inv .2 d h) ∙ sym (laid-more (args .lengths .now) (args .count) d h (at-loop .loop .k) (c .before .loop-test .taken)))
 
 -- src/out.rt:37:1
 returns : tie.Need-returns Inv-loop μ-loop
-returns c = λ d h. let e : c .before .loop .k ≡ c .before .before .args .count = omega arith in c .before .loop .inv .2 d h ∙ ap (λ k. length (laid (c .before .before .args .lengths .now) d k)) e
+returns c =
+    let entry = c .before .before in
+    let args = entry .args in
+    λ d h.
+    let e : c .before .loop .k ≡ args .count = omega arith in
+    c .before .loop .inv .2 d h ∙ ap (λ k. length (laid (args .lengths .now) d k)) e
 
 pub total-spec : {M : Type 1} → statement M
 total-spec =

@@ -13,15 +13,25 @@ use Rattle.stack.proofs.out.total.Reads as total-reads
 
 -- src/out.rt:26:9
 total-requires : tie.Need-total-requires
-total-requires c κs = (c .before .before .before .args .scratch .now, c .before .before .before .pre)
+total-requires c κs =
+    let entry = c .before .before .before in
+    (entry .args .scratch .now, entry .pre)
 
 -- src/out.rt:28:9
 returns : tie.Need-returns
-returns c = λ ts h. let e = laid-left (c .before .before .before .before .before .args .lengths .now) (c .before .before .before .before .before .args .count) (c .before .before .before .before .before .args .scratch .now) h in sym (deliver-short (c .before .before .before .before .before .args .result .now) (ap accepted (sym e)) (omega (arith, c .before .total .ensures (c .before .before .before .before .before .args .scratch .now) (c .before .before .before .before .before .pre), c .if1 .taken)))
+returns c =
+    let entry = c .before .before .before .before .before in
+    let args = entry .args in
+    λ ts h.
+    let e = laid-left (args .lengths .now) (args .count) (args .scratch .now) h in
+    sym (deliver-short (args .result .now) (ap accepted (sym e)) (omega (arith, c .before .total .ensures (args .scratch .now) (entry .pre), c .if1 .taken)))
 
 -- src/out.rt:33:5
 lay-types-requires : tie.Need-lay-types-requires
-lay-types-requires c κs = (c .before .before .before .before .before .before .pre, omega (arith, c .before .before .total .ensures (c .before .before .before .before .before .before .args .scratch .now) (c .before .before .before .before .before .before .pre), c .before .if1 .left))
+lay-types-requires c κs =
+    let entry = c .before .before .before .before .before .before in
+    let at-total = c .before .before in
+    (entry .pre, omega (arith, at-total .total .ensures (entry .args .scratch .now) (entry .pre), c .before .if1 .left))
 
 -- src/out.rt:22:1
 same-length : tie.Need-same-length
@@ -29,7 +39,15 @@ same-length c = search needs
 
 -- src/out.rt:22:1
 returns-2 : tie.Need-returns-2
-returns-2 c = λ ts h. let e = laid-left (c .before .before .before .before .before .before .before .before .before .args .lengths .now) (c .before .before .before .before .before .before .before .before .before .args .count) (c .before .before .before .before .before .before .before .before .before .args .scratch .now) h in deliver-wrote (c .before .before .before .before .before .before .before .before .before .args .result .now) (ap accepted (sym e)) (omega (arith, c .before .before .before .before .before .total .ensures (c .before .before .before .before .before .before .before .before .before .args .scratch .now) (c .before .before .before .before .before .before .before .before .before .pre), c .before .before .before .before .if1 .left)) (c .before .before .before .before .before .total .ensures (c .before .before .before .before .before .before .before .before .before .args .scratch .now) (c .before .before .before .before .before .before .before .before .before .pre)) (c .before .before .lay-types .ensures)
+returns-2 c =
+    let entry = c .before .before .before .before .before .before .before .before .before in
+    let at-total = c .before .before .before .before .before in
+    let at-if1 = c .before .before .before .before in
+    let at-lay-types = c .before .before in
+    let args = entry .args in
+    λ ts h.
+    let e = laid-left (args .lengths .now) (args .count) (args .scratch .now) h in
+    deliver-wrote (args .result .now) (ap accepted (sym e)) (omega (arith, at-total .total .ensures (args .scratch .now) (entry .pre), at-if1 .if1 .left)) (at-total .total .ensures (args .scratch .now) (entry .pre)) (at-lay-types .lay-types .ensures)
 
 pub write-types-spec : {M : Type 1} → statement M
 write-types-spec =

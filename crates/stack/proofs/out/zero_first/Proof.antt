@@ -34,7 +34,9 @@ loop-less c = search needs
 
 -- src/out.rt:78:5
 loop-again : tie.Need-loop-again Inv-loop μ-loop
-loop-again c = (omega arith, search needs, ap (λ (d : List ℕ). set d (c .before .loop .i) 0) (c .before .loop .inv .2) ∙ fill-more (c .before .loop .i) 0 (c .before .before .args .buffer .now) (omega arith))
+loop-again c =
+    let entry = c .before .before in
+    (omega arith, search needs, ap (λ (d : List ℕ). set d (c .before .loop .i) 0) (c .before .loop .inv .2) ∙ fill-more (c .before .loop .i) 0 (entry .args .buffer .now) (omega arith))
 
 -- src/out.rt:73:1
 same-length : tie.Need-same-length Inv-loop μ-loop
@@ -42,7 +44,11 @@ same-length c = c .before .loop .inv .1
 
 -- src/out.rt:73:1
 returns : tie.Need-returns Inv-loop μ-loop
-returns c = let e : c .before .loop .i ≡ c .before .before .args .n = omega arith in c .before .loop .inv .2 ∙ ap (λ (k : ℕ). replicate k 0 ++ drop k (c .before .before .args .buffer .now)) e
+returns c =
+    let entry = c .before .before in
+    let args = entry .args in
+    let e : c .before .loop .i ≡ args .n = omega arith in
+    c .before .loop .inv .2 ∙ ap (λ (k : ℕ). replicate k 0 ++ drop k (args .buffer .now)) e
 
 pub zero-first-spec : {M : Type 1} → statement M
 zero-first-spec =

@@ -27,7 +27,12 @@ hex-digit-value-requires : tie.Need-hex-digit-value-requires Inv-loop μ-loop
 hex-digit-value-requires c κs = search needs
 
 returns : tie.Need-returns Inv-loop μ-loop
-returns c = let d : _ ≡ digit (getD (c .before .before .before .before .before .before .args .text .now) (c .before .before .before .before .loop .i) 0) = c .before .hex-digit-value .ensures .0 in sym (c .before .before .before .before .loop .inv .1 ∙ digits-stop _ _ _ (c .before .before .before .loop-test .taken) (omega arith))
+returns c =
+    let entry = c .before .before .before .before .before .before in
+    let at-loop = c .before .before .before .before in
+    let at-loop-test = c .before .before .before in
+    let d : _ ≡ digit (getD (entry .args .text .now) (at-loop .loop .i) 0) = c .before .hex-digit-value .ensures .0 in
+    sym (at-loop .loop .inv .1 ∙ digits-stop _ _ _ (at-loop-test .loop-test .taken) (omega arith))
 
 add-i : tie.Need-add-i Inv-loop μ-loop
 add-i c = search needs
@@ -36,7 +41,12 @@ loop-less : tie.Need-loop-less Inv-loop μ-loop
 loop-less c = search needs
 
 loop-again : tie.Need-loop-again Inv-loop μ-loop
-loop-again c = let d : _ ≡ digit (getD (c .before .before .before .before .before .before .args .text .now) (c .before .before .before .before .loop .i) 0) = c .before .hex-digit-value .ensures .0 in (omega arith, c .before .before .before .before .loop .inv .1 ∙ digits-more _ _ _ (c .before .before .before .loop-test .taken) (omega arith))
+loop-again c =
+    let entry = c .before .before .before .before .before .before in
+    let at-loop = c .before .before .before .before in
+    let at-loop-test = c .before .before .before in
+    let d : _ ≡ digit (getD (entry .args .text .now) (at-loop .loop .i) 0) = c .before .hex-digit-value .ensures .0 in
+    (omega arith, at-loop .loop .inv .1 ∙ digits-more _ _ _ (at-loop-test .loop-test .taken) (omega arith))
 
 returns-2 : tie.Need-returns-2 Inv-loop μ-loop
 returns-2 c = sym (c .before .loop .inv .1 ∙ digits-end _ _ _ (c .loop-test .left))

@@ -18,19 +18,31 @@ are-digits-requires : tie.Need-are-digits-requires
 are-digits-requires c κs = search needs
 
 returns-2 : tie.Need-returns-2
-returns-2 c = decode-wrong _ _ _ (c .before .before .if1 .left) (sym (c .before .are-digits .ensures) ∙ not-true _ (c .if2 .taken))
+returns-2 c =
+    let at-if1 = c .before .before in
+    decode-wrong _ _ _ (at-if1 .if1 .left) (sym (c .before .are-digits .ensures) ∙ not-true _ (c .if2 .taken))
 
 returns-3 : tie.Need-returns-3
-returns-3 c = decode-right _ _ _ (c .before .before .before .if1 .left) (sym (c .before .before .are-digits .ensures) ∙ not-false _ (c .before .if2 .left)) _ (place-short _ _ _ (simp length-unhex (omega arith)))
+returns-3 c =
+    let at-if1 = c .before .before .before in
+    let at-are-digits = c .before .before in
+    decode-right _ _ _ (at-if1 .if1 .left) (sym (at-are-digits .are-digits .ensures) ∙ not-false _ (c .before .if2 .left)) _ (place-short _ _ _ (simp length-unhex (omega arith)))
 
 sub-if4 : tie.Need-sub-if4
 sub-if4 c = search needs
 
 returns-4 : tie.Need-returns-4
-returns-4 c = decode-right _ _ _ (c .before .before .before .before .if1 .left) (sym (c .before .before .before .are-digits .ensures) ∙ not-false _ (c .before .before .if2 .left)) _ (place-short _ _ _ (simp length-unhex (omega arith)))
+returns-4 c =
+    let at-if1 = c .before .before .before .before in
+    let at-are-digits = c .before .before .before in
+    let at-if2 = c .before .before in
+    decode-right _ _ _ (at-if1 .if1 .left) (sym (at-are-digits .are-digits .ensures) ∙ not-false _ (at-if2 .if2 .left)) _ (place-short _ _ _ (simp length-unhex (omega arith)))
 
 lay-decoded-requires : tie.Need-lay-decoded-requires
-lay-decoded-requires c κs = ((sym (c .before .before .before .before .are-digits .ensures) ∙ not-false _ (c .before .before .before .if2 .left)), omega arith)
+lay-decoded-requires c κs =
+    let at-are-digits = c .before .before .before .before in
+    let at-if2 = c .before .before .before in
+    ((sym (at-are-digits .are-digits .ensures) ∙ not-false _ (at-if2 .if2 .left)), omega arith)
 
 add-t5 : tie.Need-add-t5
 add-t5 c = search needs
@@ -39,7 +51,12 @@ same-length : tie.Need-same-length
 same-length c = search needs
 
 returns-5 : tie.Need-returns-5
-returns-5 c = decode-right _ _ _ (c .before .before .before .before .before .before .before .before .if1 .left) (sym (c .before .before .before .before .before .before .before .are-digits .ensures) ∙ not-false _ (c .before .before .before .before .before .before .if2 .left)) _ (place-fits _ _ _ _ _ (simp length-unhex) (simp length-unhex (omega arith)) (c .before .before .lay-decoded .ensures))
+returns-5 c =
+    let at-if1 = c .before .before .before .before .before .before .before .before in
+    let at-are-digits = c .before .before .before .before .before .before .before in
+    let at-if2 = c .before .before .before .before .before .before in
+    let at-lay-decoded = c .before .before in
+    decode-right _ _ _ (at-if1 .if1 .left) (sym (at-are-digits .are-digits .ensures) ∙ not-false _ (at-if2 .if2 .left)) _ (place-fits _ _ _ _ _ (simp length-unhex) (simp length-unhex (omega arith)) (at-lay-decoded .lay-decoded .ensures))
 
 pub decode-hex-spec : {M : Type 1} → statement M
 decode-hex-spec =

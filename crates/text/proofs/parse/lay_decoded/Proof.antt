@@ -20,7 +20,10 @@ abbrev μ-loop : tie.MeasureT-loop
 μ-loop text out₀ at n i₀ out i = length text / 2 - i
 
 loop-holds : tie.Need-loop-holds Inv-loop μ-loop
-loop-holds c = (search needs, search needs, paste-zero (c .before .before .args .out .now) (c .before .before .args .at) (unhex (c .before .before .args .text .now)))
+loop-holds c =
+    let entry = c .before .before in
+    let args = entry .args in
+    (search needs, search needs, paste-zero (args .out .now) (args .at) (unhex (args .text .now)))
 
 mul-hex-digit-value : tie.Need-mul-hex-digit-value Inv-loop μ-loop
 mul-hex-digit-value c = search needs
@@ -44,10 +47,22 @@ hex-digit-value-requires-2 : tie.Need-hex-digit-value-requires-2 Inv-loop μ-loo
 hex-digit-value-requires-2 c κs = search needs
 
 mul-out : tie.Need-mul-out Inv-loop μ-loop
-mul-out c = let h : digit (getD (c .before .before .before .before .before .before .before .before .args .text .now) (2 * (c .before .before .before .before .before .loop .i)) 0) < 16 = digit-below 16 (c .before .before .before .before .before .before .before .before .args .text .now) (2 * (c .before .before .before .before .before .loop .i)) (c .before .before .before .before .before .before .before .before .pre .0) (omega arith) in let l : digit (getD (c .before .before .before .before .before .before .before .before .args .text .now) (2 * (c .before .before .before .before .before .loop .i) + 1) 0) < 16 = digit-below 16 (c .before .before .before .before .before .before .before .before .args .text .now) (2 * (c .before .before .before .before .before .loop .i) + 1) (c .before .before .before .before .before .before .before .before .pre .0) (omega arith) in omega arith
+mul-out c =
+    let entry = c .before .before .before .before .before .before .before .before in
+    let at-loop = c .before .before .before .before .before in
+    let args = entry .args in
+    let h : digit (getD (args .text .now) (2 * (at-loop .loop .i)) 0) < 16 = digit-below 16 (args .text .now) (2 * (at-loop .loop .i)) (entry .pre .0) (omega arith) in
+    let l : digit (getD (args .text .now) (2 * (at-loop .loop .i) + 1) 0) < 16 = digit-below 16 (args .text .now) (2 * (at-loop .loop .i) + 1) (entry .pre .0) (omega arith) in
+    omega arith
 
 add-out : tie.Need-add-out Inv-loop μ-loop
-add-out c = let h : digit (getD (c .before .before .before .before .before .before .before .before .args .text .now) (2 * (c .before .before .before .before .before .loop .i)) 0) < 16 = digit-below 16 (c .before .before .before .before .before .before .before .before .args .text .now) (2 * (c .before .before .before .before .before .loop .i)) (c .before .before .before .before .before .before .before .before .pre .0) (omega arith) in let l : digit (getD (c .before .before .before .before .before .before .before .before .args .text .now) (2 * (c .before .before .before .before .before .loop .i) + 1) 0) < 16 = digit-below 16 (c .before .before .before .before .before .before .before .before .args .text .now) (2 * (c .before .before .before .before .before .loop .i) + 1) (c .before .before .before .before .before .before .before .before .pre .0) (omega arith) in omega arith
+add-out c =
+    let entry = c .before .before .before .before .before .before .before .before in
+    let at-loop = c .before .before .before .before .before in
+    let args = entry .args in
+    let h : digit (getD (args .text .now) (2 * (at-loop .loop .i)) 0) < 16 = digit-below 16 (args .text .now) (2 * (at-loop .loop .i)) (entry .pre .0) (omega arith) in
+    let l : digit (getD (args .text .now) (2 * (at-loop .loop .i) + 1) 0) < 16 = digit-below 16 (args .text .now) (2 * (at-loop .loop .i) + 1) (entry .pre .0) (omega arith) in
+    omega arith
 
 add-out-2 : tie.Need-add-out-2 Inv-loop μ-loop
 add-out-2 c = search needs
@@ -62,13 +77,21 @@ loop-less : tie.Need-loop-less Inv-loop μ-loop
 loop-less c = search needs
 
 loop-again : tie.Need-loop-again Inv-loop μ-loop
-loop-again c = (omega arith, search needs, decoded-more _ _ _ _ _ _ _ (c .before .before .before .before .before .before .before .before .pre .1) (c .before .before .before .before .loop-test .taken) (c .before .before .hex-digit-value .ensures .0) (c .hex-digit-value2 .ensures .0) (c .before .before .before .before .before .loop .inv .2))
+loop-again c =
+    let entry = c .before .before .before .before .before .before .before .before in
+    let at-loop = c .before .before .before .before .before in
+    let at-loop-test = c .before .before .before .before in
+    let at-hex-digit-value = c .before .before in
+    (omega arith, search needs, decoded-more _ _ _ _ _ _ _ (entry .pre .1) (at-loop-test .loop-test .taken) (at-hex-digit-value .hex-digit-value .ensures .0) (c .hex-digit-value2 .ensures .0) (at-loop .loop .inv .2))
 
 same-length : tie.Need-same-length Inv-loop μ-loop
 same-length c = search needs
 
 returns : tie.Need-returns Inv-loop μ-loop
-returns c = c .before .loop .inv .2 ∙ paste-all (c .before .before .before .before .args .out .now) (c .before .before .before .before .args .at) (unhex (c .before .before .before .before .args .text .now)) (c .before .loop .i) (simp length-unhex (omega arith))
+returns c =
+    let entry = c .before .before .before .before in
+    let args = entry .args in
+    c .before .loop .inv .2 ∙ paste-all (args .out .now) (args .at) (unhex (args .text .now)) (c .before .loop .i) (simp length-unhex (omega arith))
 
 pub lay-decoded-spec : {M : Type 1} → statement M
 lay-decoded-spec =

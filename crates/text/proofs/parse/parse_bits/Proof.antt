@@ -9,13 +9,17 @@ use Rattle.text.proofs.parse.parse_bits.Lts as lts
 use Rattle.text.proofs.parse.parse_number.Reads as parse-number-reads
 
 returns : tie.Need-returns
-returns c = rw (ne-eqb (length (c .before .before .args .text .now)) 16 (c .if1 .taken))
+returns c =
+    let entry = c .before .before in
+    rw (ne-eqb (length (entry .args .text .now)) 16 (c .if1 .taken))
 
 parse-number-requires : tie.Need-parse-number-requires
 parse-number-requires c κs = search needs
 
 returns-2 : tie.Need-returns-2
-returns-2 c = c .parse-number .ensures ∙ rw (eq-eqb (length (c .before .before .before .args .text .now)) 16 (c .before .if1 .left))
+returns-2 c =
+    let entry = c .before .before .before in
+    c .parse-number .ensures ∙ rw (eq-eqb (length (entry .args .text .now)) 16 (c .before .if1 .left))
 
 pub parse-bits-spec : {M : Type 1} → statement M
 parse-bits-spec = tie.close (tie.spec returns parse-number-requires returns-2)

@@ -30,7 +30,12 @@ cast-d : tie.Need-cast-d Inv-loop μ-loop
 cast-d c = search needs
 
 returns : tie.Need-returns Inv-loop μ-loop
-returns c = let d : c .before .hex-digit-value .result ≡ digit (getD (c .before .before .before .before .before .before .args .text .now) (c .before .before .before .before .loop .i) 0) = c .before .hex-digit-value .ensures .0 in sym (numeral-wrong _ _ (c .before .before .before .before .loop .inv .2 ∙ digits-stop _ _ _ (c .before .before .before .loop-test .taken) (omega arith)))
+returns c =
+    let entry = c .before .before .before .before .before .before in
+    let at-loop = c .before .before .before .before in
+    let at-loop-test = c .before .before .before in
+    let d : c .before .hex-digit-value .result ≡ digit (getD (entry .args .text .now) (at-loop .loop .i) 0) = c .before .hex-digit-value .ensures .0 in
+    sym (numeral-wrong _ _ (at-loop .loop .inv .2 ∙ digits-stop _ _ _ (at-loop-test .loop-test .taken) (omega arith)))
 
 sub-if2 : tie.Need-sub-if2 Inv-loop μ-loop
 sub-if2 c = search needs
@@ -39,13 +44,28 @@ div-if2 : tie.Need-div-if2 Inv-loop μ-loop
 div-if2 c = search needs
 
 returns-2 : tie.Need-returns-2 Inv-loop μ-loop
-returns-2 c = sym (numeral-over _ _ _ (c .before .before .before .before .before .before .before .pre) (c .before .before .hex-digit-value .ensures .1) _ _ (c .before .before .before .before .loop-test .taken) (c .before .before .hex-digit-value .ensures .0) (c .before .before .before .before .before .loop .inv .3) (c .if2 .taken))
+returns-2 c =
+    let entry = c .before .before .before .before .before .before .before in
+    let at-loop = c .before .before .before .before .before in
+    let at-loop-test = c .before .before .before .before in
+    let at-hex-digit-value = c .before .before in
+    sym (numeral-over _ _ _ (entry .pre) (at-hex-digit-value .hex-digit-value .ensures .1) _ _ (at-loop-test .loop-test .taken) (at-hex-digit-value .hex-digit-value .ensures .0) (at-loop .loop .inv .3) (c .if2 .taken))
 
 mul-n : tie.Need-mul-n Inv-loop μ-loop
-mul-n c = let l : (c .before .before .before .before .before .loop .n) * (c .before .before .before .before .before .before .before .args .base) + (c .before .before .hex-digit-value .result) < 2 ^ 64 = room-left _ _ _ (c .before .before .before .before .before .before .before .pre) (c .before .before .hex-digit-value .ensures .1) (c .if2 .left) in omega arith
+mul-n c =
+    let entry = c .before .before .before .before .before .before .before in
+    let at-loop = c .before .before .before .before .before in
+    let at-hex-digit-value = c .before .before in
+    let l : (at-loop .loop .n) * (entry .args .base) + (at-hex-digit-value .hex-digit-value .result) < 2 ^ 64 = room-left _ _ _ (entry .pre) (at-hex-digit-value .hex-digit-value .ensures .1) (c .if2 .left) in
+    omega arith
 
 add-n : tie.Need-add-n Inv-loop μ-loop
-add-n c = let l : (c .before .before .before .before .before .loop .n) * (c .before .before .before .before .before .before .before .args .base) + (c .before .before .hex-digit-value .result) < 2 ^ 64 = room-left _ _ _ (c .before .before .before .before .before .before .before .pre) (c .before .before .hex-digit-value .ensures .1) (c .if2 .left) in omega arith
+add-n c =
+    let entry = c .before .before .before .before .before .before .before in
+    let at-loop = c .before .before .before .before .before in
+    let at-hex-digit-value = c .before .before in
+    let l : (at-loop .loop .n) * (entry .args .base) + (at-hex-digit-value .hex-digit-value .result) < 2 ^ 64 = room-left _ _ _ (entry .pre) (at-hex-digit-value .hex-digit-value .ensures .1) (c .if2 .left) in
+    omega arith
 
 add-i : tie.Need-add-i Inv-loop μ-loop
 add-i c = search needs
@@ -54,7 +74,15 @@ loop-less : tie.Need-loop-less Inv-loop μ-loop
 loop-less c = search needs
 
 loop-again : tie.Need-loop-again Inv-loop μ-loop
-loop-again c = let d : c .before .before .hex-digit-value .result ≡ digit (getD (c .before .before .before .before .before .before .before .args .text .now) (c .before .before .before .before .before .loop .i) 0) = c .before .before .hex-digit-value .ensures .0 in let l : (c .before .before .before .before .before .loop .n) * (c .before .before .before .before .before .before .before .args .base) + (c .before .before .hex-digit-value .result) < 2 ^ 64 = room-left _ _ _ (c .before .before .before .before .before .before .before .pre) (c .before .before .hex-digit-value .ensures .1) (c .if2 .left) in (omega arith, l, c .before .before .before .before .before .loop .inv .2 ∙ digits-more _ _ _ (c .before .before .before .before .loop-test .taken) (omega arith), c .before .before .before .before .before .loop .inv .3 ∙ number-more _ _ _ (c .before .before .before .before .loop-test .taken) _ ∙ ap (λ v. numberAfter (c .before .before .before .before .before .before .before .args .base) ((c .before .before .before .before .before .loop .n) * (c .before .before .before .before .before .before .before .args .base) + v) (drop ((c .before .before .before .before .before .loop .i) + 1) (c .before .before .before .before .before .before .before .args .text .now))) (sym d))
+loop-again c =
+    let entry = c .before .before .before .before .before .before .before in
+    let at-loop = c .before .before .before .before .before in
+    let at-loop-test = c .before .before .before .before in
+    let at-hex-digit-value = c .before .before in
+    let args = entry .args in
+    let d : at-hex-digit-value .hex-digit-value .result ≡ digit (getD (args .text .now) (at-loop .loop .i) 0) = at-hex-digit-value .hex-digit-value .ensures .0 in
+    let l : (at-loop .loop .n) * (args .base) + (at-hex-digit-value .hex-digit-value .result) < 2 ^ 64 = room-left _ _ _ (entry .pre) (at-hex-digit-value .hex-digit-value .ensures .1) (c .if2 .left) in
+    (omega arith, l, at-loop .loop .inv .2 ∙ digits-more _ _ _ (at-loop-test .loop-test .taken) (omega arith), at-loop .loop .inv .3 ∙ number-more _ _ _ (at-loop-test .loop-test .taken) _ ∙ ap (λ v. numberAfter (args .base) ((at-loop .loop .n) * (args .base) + v) (drop ((at-loop .loop .i) + 1) (args .text .now))) (sym d))
 
 returns-3 : tie.Need-returns-3 Inv-loop μ-loop
 returns-3 c = sym (numeral-right _ _ _ (c .before .loop .inv .2 ∙ digits-end _ _ _ (c .loop-test .left)) (c .before .loop .inv .3 ∙ number-end _ _ _ (c .loop-test .left) _) (c .before .loop .inv .1))

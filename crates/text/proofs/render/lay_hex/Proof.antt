@@ -21,7 +21,10 @@ abbrev μ-loop : tie.MeasureT-loop
 μ-loop bytes out₀ at i₀ out i = length bytes - i
 
 loop-holds : tie.Need-loop-holds Inv-loop μ-loop
-loop-holds c = (search needs, search needs, paste-zero (c .before .before .args .out .now) (c .before .before .args .at) (hexOf (c .before .before .args .bytes .now)))
+loop-holds c =
+    let entry = c .before .before in
+    let args = entry .args in
+    (search needs, search needs, paste-zero (args .out .now) (args .at) (hexOf (args .bytes .now)))
 
 shared-slice-read-b : tie.Need-shared-slice-read-b Inv-loop μ-loop
 shared-slice-read-b c = search needs
@@ -33,13 +36,17 @@ add-to : tie.Need-add-to Inv-loop μ-loop
 add-to c = search needs
 
 hex-digit-requires : tie.Need-hex-digit-requires Inv-loop μ-loop
-hex-digit-requires c κs = omega (arith, c .shared-slice-known2 .given (c .before .before .loop .i))
+hex-digit-requires c κs =
+    let at-loop = c .before .before in
+    omega (arith, c .shared-slice-known2 .given (at-loop .loop .i))
 
 slice-write-out : tie.Need-slice-write-out Inv-loop μ-loop
 slice-write-out c = search needs
 
 hex-digit-requires-2 : tie.Need-hex-digit-requires-2 Inv-loop μ-loop
-hex-digit-requires-2 c κs = omega (arith, c .before .shared-slice-known2 .given (c .before .before .before .loop .i))
+hex-digit-requires-2 c κs =
+    let at-loop = c .before .before .before in
+    omega (arith, c .before .shared-slice-known2 .given (at-loop .loop .i))
 
 add-out : tie.Need-add-out Inv-loop μ-loop
 add-out c = search needs
@@ -54,13 +61,20 @@ loop-less : tie.Need-loop-less Inv-loop μ-loop
 loop-less c = search needs
 
 loop-again : tie.Need-loop-again Inv-loop μ-loop
-loop-again c = (omega arith, simp length-set (c .before .before .before .before .loop .inv .1), hex-more _ _ _ _ _ _ _ (c .before .before .before .before .before .before .before .pre) (c .before .before .before .loop-test .taken) (c .before .hex-digit .ensures) (c .hex-digit2 .ensures) (c .before .before .before .before .loop .inv .2))
+loop-again c =
+    let entry = c .before .before .before .before .before .before .before in
+    let at-loop = c .before .before .before .before in
+    let at-loop-test = c .before .before .before in
+    (omega arith, simp length-set (at-loop .loop .inv .1), hex-more _ _ _ _ _ _ _ (entry .pre) (at-loop-test .loop-test .taken) (c .before .hex-digit .ensures) (c .hex-digit2 .ensures) (at-loop .loop .inv .2))
 
 same-length : tie.Need-same-length Inv-loop μ-loop
 same-length c = search needs
 
 returns : tie.Need-returns Inv-loop μ-loop
-returns c = c .before .loop .inv .2 ∙ paste-all (c .before .before .before .before .args .out .now) (c .before .before .before .before .args .at) (hexOf (c .before .before .before .before .args .bytes .now)) (2 * (c .before .loop .i)) (simp length-hexOf (omega arith))
+returns c =
+    let entry = c .before .before .before .before in
+    let args = entry .args in
+    c .before .loop .inv .2 ∙ paste-all (args .out .now) (args .at) (hexOf (args .bytes .now)) (2 * (c .before .loop .i)) (simp length-hexOf (omega arith))
 
 pub lay-hex-spec : {M : Type 1} → statement M
 lay-hex-spec =

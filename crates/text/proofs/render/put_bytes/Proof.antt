@@ -27,7 +27,9 @@ same-length : tie.Need-same-length
 same-length c = search needs
 
 returns-3 : tie.Need-returns-3
-returns-3 c = place-fits _ _ _ _ _ refl (omega arith) (c .before .before .lay .ensures)
+returns-3 c =
+    let at-lay = c .before .before in
+    place-fits _ _ _ _ _ refl (omega arith) (at-lay .lay .ensures)
 
 pub put-bytes-spec : {M : Type 1} → statement M
 put-bytes-spec =

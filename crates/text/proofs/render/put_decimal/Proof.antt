@@ -25,7 +25,12 @@ same-length : tie.Need-same-length
 same-length c = search needs
 
 returns : tie.Need-returns
-returns c = c .before .before .put-bytes .ensures ∙ ap (place (c .before .before .before .before .before .before .before .before .args .out .now) (c .before .before .before .before .before .before .before .before .args .at)) (c .before .before .before .before .before .decimal .ensures .1 .1 ∙ fewest-digits (c .before .before .before .before .before .before .before .before .args .n) (c .before .before .before .before .before .decimal .result) (c .before .before .before .before .before .before .before .before .fits .n .fits) (c .before .before .before .before .before .decimal .ensures .1 .0))
+returns c =
+    let entry = c .before .before .before .before .before .before .before .before in
+    let at-decimal = c .before .before .before .before .before in
+    let at-put-bytes = c .before .before in
+    let args = entry .args in
+    at-put-bytes .put-bytes .ensures ∙ ap (place (args .out .now) (args .at)) (at-decimal .decimal .ensures .1 .1 ∙ fewest-digits (args .n) (at-decimal .decimal .result) (entry .fits .n .fits) (at-decimal .decimal .ensures .1 .0))
 
 pub put-decimal-spec : {M : Type 1} → statement M
 put-decimal-spec =

@@ -30,7 +30,9 @@ same-length : tie.Need-same-length
 same-length c = search needs
 
 returns-3 : tie.Need-returns-3
-returns-3 c = place-fits _ _ _ _ _ (simp length-hexOf) (simp length-hexOf (omega arith)) (c .before .before .lay-hex .ensures)
+returns-3 c =
+    let at-lay-hex = c .before .before in
+    place-fits _ _ _ _ _ (simp length-hexOf) (simp length-hexOf (omega arith)) (at-lay-hex .lay-hex .ensures)
 
 pub put-hex-spec : {M : Type 1} → statement M
 put-hex-spec =

@@ -35,10 +35,18 @@ enum-known-held : tie.Need-enum-known-held
 enum-known-held c = search needs
 
 sub-hand-over : tie.Need-sub-hand-over
-sub-hand-over c = all-there (c .before .before .before .before .before .before .args .ty .now) (λ i. omega (arith, c .before .before .before .before .before .shared-slice-known .given i)) (c .before .before .before .look-inside .ensures ∙ ap accepted (c .before .held .given .1))
+sub-hand-over c =
+    let entry = c .before .before .before .before .before .before in
+    let at-shared-slice-known = c .before .before .before .before .before in
+    let at-look-inside = c .before .before .before in
+    all-there (entry .args .ty .now) (λ i. omega (arith, at-shared-slice-known .shared-slice-known .given i)) (at-look-inside .look-inside .ensures ∙ ap accepted (c .before .held .given .1))
 
 part-hand-over-start : tie.Need-part-hand-over-start
-part-hand-over-start c = all-there (c .before .before .before .before .before .before .args .ty .now) (λ i. omega (arith, c .before .before .before .before .before .shared-slice-known .given i)) (c .before .before .before .look-inside .ensures ∙ ap accepted (c .before .held .given .1))
+part-hand-over-start c =
+    let entry = c .before .before .before .before .before .before in
+    let at-shared-slice-known = c .before .before .before .before .before in
+    let at-look-inside = c .before .before .before in
+    all-there (entry .args .ty .now) (λ i. omega (arith, at-shared-slice-known .shared-slice-known .given i)) (at-look-inside .look-inside .ensures ∙ ap accepted (c .before .held .given .1))
 
 part-hand-over-end : tie.Need-part-hand-over-end
 part-hand-over-end c = search needs
@@ -50,13 +58,21 @@ enum-known-held-2 : tie.Need-enum-known-held-2
 enum-known-held-2 c = search needs
 
 find-field-requires : tie.Need-find-field-requires
-find-field-requires c κs = (c .before .before .before .look-inside .ensures ∙ ap accepted (c .before .held2 .given .1))
+find-field-requires c κs =
+    let at-look-inside = c .before .before .before in
+    (at-look-inside .look-inside .ensures ∙ ap accepted (c .before .held2 .given .1))
 
 enum-known-part : tie.Need-enum-known-part
 enum-known-part c = search needs
 
 add-end : tie.Need-add-end
-add-end c = omega (arith, field-there (c .before .before .before .before .before .before .before .before .before .before .args .ty .now) (λ i. omega (arith, c .before .before .before .before .before .before .before .before .before .shared-slice-known .given i)) (c .before .before .before .before .before .before .before .look-inside .ensures ∙ ap accepted (c .before .before .before .before .before .held2 .given .1)) 0 (c .before .before .before .find-field .ensures ∙ ap (λ p. accepted (partOf p)) (c .before .part .given .1)))
+add-end c =
+    let entry = c .before .before .before .before .before .before .before .before .before .before in
+    let at-shared-slice-known = c .before .before .before .before .before .before .before .before .before in
+    let at-look-inside = c .before .before .before .before .before .before .before in
+    let at-held2 = c .before .before .before .before .before in
+    let at-find-field = c .before .before .before in
+    omega (arith, field-there (entry .args .ty .now) (λ i. omega (arith, at-shared-slice-known .shared-slice-known .given i)) (at-look-inside .look-inside .ensures ∙ ap accepted (at-held2 .held2 .given .1)) 0 (at-find-field .find-field .ensures ∙ ap (λ p. accepted (partOf p)) (c .before .part .given .1)))
 
 sub-hand-over-2 : tie.Need-sub-hand-over-2
 sub-hand-over-2 c = search needs
@@ -65,7 +81,13 @@ part-hand-over-start-2 : tie.Need-part-hand-over-start-2
 part-hand-over-start-2 c = search needs
 
 part-hand-over-end-2 : tie.Need-part-hand-over-end-2
-part-hand-over-end-2 c = field-there (c .before .before .before .before .before .before .before .before .before .before .args .ty .now) (λ i. omega (arith, c .before .before .before .before .before .before .before .before .before .shared-slice-known .given i)) (c .before .before .before .before .before .before .before .look-inside .ensures ∙ ap accepted (c .before .before .before .before .before .held2 .given .1)) 0 (c .before .before .before .find-field .ensures ∙ ap (λ p. accepted (partOf p)) (c .before .part .given .1))
+part-hand-over-end-2 c =
+    let entry = c .before .before .before .before .before .before .before .before .before .before in
+    let at-shared-slice-known = c .before .before .before .before .before .before .before .before .before in
+    let at-look-inside = c .before .before .before .before .before .before .before in
+    let at-held2 = c .before .before .before .before .before in
+    let at-find-field = c .before .before .before in
+    field-there (entry .args .ty .now) (λ i. omega (arith, at-shared-slice-known .shared-slice-known .given i)) (at-look-inside .look-inside .ensures ∙ ap accepted (at-held2 .held2 .given .1)) 0 (at-find-field .find-field .ensures ∙ ap (λ p. accepted (partOf p)) (c .before .part .given .1))
 
 hand-over-requires-4 : tie.Need-hand-over-requires-4
 hand-over-requires-4 c κs = search needs
@@ -83,31 +105,70 @@ same-length : tie.Need-same-length
 same-length c = search needs
 
 returns : tie.Need-returns
-returns c = c .before .before .hand-over .ensures ∙ ap (λ o. deliver o (c .before .before .before .before .before .before .before .before .before .args .result .now)) (sym (content-plain (c .before .before .before .before .before .before .before .before .before .args .ty .now) (λ i. omega (arith, c .before .before .before .before .before .before .before .before .shared-slice-known .given i)) (c .before .before .before .before .before .before .look-inside .ensures ∙ ap accepted (c .before .before .before .before .enum-told .given .1))))
+returns c =
+    let entry = c .before .before .before .before .before .before .before .before .before in
+    let at-shared-slice-known = c .before .before .before .before .before .before .before .before in
+    let at-look-inside = c .before .before .before .before .before .before in
+    let at-enum-told = c .before .before .before .before in
+    let at-hand-over = c .before .before in
+    let args = entry .args in
+    at-hand-over .hand-over .ensures ∙ ap (λ o. deliver o (args .result .now)) (sym (content-plain (args .ty .now) (λ i. omega (arith, at-shared-slice-known .shared-slice-known .given i)) (at-look-inside .look-inside .ensures ∙ ap accepted (at-enum-told .enum-told .given .1))))
 
 same-length-2 : tie.Need-same-length-2
 same-length-2 c = search needs
 
 returns-2 : tie.Need-returns-2
-returns-2 c = c .before .before .hand-over2 .ensures ∙ ap (λ o. deliver o (c .before .before .before .before .before .before .before .before .before .before .args .result .now)) (sym (content-any (c .before .before .before .before .before .before .before .before .before .before .args .ty .now) (λ i. omega (arith, c .before .before .before .before .before .before .before .before .before .shared-slice-known .given i)) (c .before .before .before .before .before .before .before .look-inside .ensures ∙ ap accepted (c .before .before .before .before .before .enum-told2 .given .1))))
+returns-2 c =
+    let entry = c .before .before .before .before .before .before .before .before .before .before in
+    let at-shared-slice-known = c .before .before .before .before .before .before .before .before .before in
+    let at-look-inside = c .before .before .before .before .before .before .before in
+    let at-enum-told2 = c .before .before .before .before .before in
+    let at-hand-over2 = c .before .before in
+    let args = entry .args in
+    at-hand-over2 .hand-over2 .ensures ∙ ap (λ o. deliver o (args .result .now)) (sym (content-any (args .ty .now) (λ i. omega (arith, at-shared-slice-known .shared-slice-known .given i)) (at-look-inside .look-inside .ensures ∙ ap accepted (at-enum-told2 .enum-told2 .given .1))))
 
 same-length-3 : tie.Need-same-length-3
 same-length-3 c = search needs
 
 returns-3 : tie.Need-returns-3
-returns-3 c = c .before .before .hand-over3 .ensures ∙ (ap (λ w. deliver (accepted w) (c .before .before .before .before .before .before .before .before .before .before .before .args .result .now)) (rest-is (c .before .before .before .before .before .before .before .before .before .before .before .args .ty .now) (c .before .before .before .before .before .before .held .given .0 .0)) ∙ ap (λ o. deliver o (c .before .before .before .before .before .before .before .before .before .before .before .args .result .now)) (sym (content-all (c .before .before .before .before .before .before .before .before .before .before .before .args .ty .now) (λ i. omega (arith, c .before .before .before .before .before .before .before .before .before .before .shared-slice-known .given i)) (c .before .before .before .before .before .before .before .before .look-inside .ensures ∙ ap accepted (c .before .before .before .before .before .before .held .given .1)))))
+returns-3 c =
+    let entry = c .before .before .before .before .before .before .before .before .before .before .before in
+    let at-shared-slice-known = c .before .before .before .before .before .before .before .before .before .before in
+    let at-look-inside = c .before .before .before .before .before .before .before .before in
+    let at-held = c .before .before .before .before .before .before in
+    let at-hand-over3 = c .before .before in
+    let args = entry .args in
+    at-hand-over3 .hand-over3 .ensures ∙ (ap (λ w. deliver (accepted w) (args .result .now)) (rest-is (args .ty .now) (at-held .held .given .0 .0)) ∙ ap (λ o. deliver o (args .result .now)) (sym (content-all (args .ty .now) (λ i. omega (arith, at-shared-slice-known .shared-slice-known .given i)) (at-look-inside .look-inside .ensures ∙ ap accepted (at-held .held .given .1)))))
 
 same-length-4 : tie.Need-same-length-4
 same-length-4 c = search needs
 
 returns-4 : tie.Need-returns-4
-returns-4 c = c .before .before .hand-over4 .ensures ∙ (ap (λ w. deliver (accepted w) (c .before .before .before .before .before .before .before .before .before .before .before .before .before .before .before .args .result .now)) (stretch-is (c .before .before .before .before .before .before .before .before .before .before .before .before .before .before .before .args .ty .now) (c .before .before .before .before .before .before .part .given .0 .0) (c .before .before .before .before .before .before .part .given .0 .1 .0)) ∙ ap (λ o. deliver o (c .before .before .before .before .before .before .before .before .before .before .before .before .before .before .before .args .result .now)) (sym (content-first (c .before .before .before .before .before .before .before .before .before .before .before .before .before .before .before .args .ty .now) (λ i. omega (arith, c .before .before .before .before .before .before .before .before .before .before .before .before .before .before .shared-slice-known .given i)) (c .before .before .before .before .before .before .before .before .before .before .before .before .look-inside .ensures ∙ ap accepted (c .before .before .before .before .before .before .before .before .before .before .held2 .given .1)) (c .before .before .before .before .before .before .before .before .find-field .ensures ∙ ap (λ p. accepted (partOf p)) (c .before .before .before .before .before .before .part .given .1)))))
+returns-4 c =
+    let entry = c .before .before .before .before .before .before .before .before .before .before .before .before .before .before .before in
+    let at-shared-slice-known = c .before .before .before .before .before .before .before .before .before .before .before .before .before .before in
+    let at-look-inside = c .before .before .before .before .before .before .before .before .before .before .before .before in
+    let at-held2 = c .before .before .before .before .before .before .before .before .before .before in
+    let at-find-field = c .before .before .before .before .before .before .before .before in
+    let at-part = c .before .before .before .before .before .before in
+    let at-hand-over4 = c .before .before in
+    let args = entry .args in
+    at-hand-over4 .hand-over4 .ensures ∙ (ap (λ w. deliver (accepted w) (args .result .now)) (stretch-is (args .ty .now) (at-part .part .given .0 .0) (at-part .part .given .0 .1 .0)) ∙ ap (λ o. deliver o (args .result .now)) (sym (content-first (args .ty .now) (λ i. omega (arith, at-shared-slice-known .shared-slice-known .given i)) (at-look-inside .look-inside .ensures ∙ ap accepted (at-held2 .held2 .given .1)) (at-find-field .find-field .ensures ∙ ap (λ p. accepted (partOf p)) (at-part .part .given .1)))))
 
 same-length-5 : tie.Need-same-length-5
 same-length-5 c = search needs
 
 returns-5 : tie.Need-returns-5
-returns-5 c = c .before .before .hand-over5 .ensures ∙ ap (λ o. deliver o (c .before .before .before .before .before .before .before .before .before .before .before .before .before .before .args .result .now)) (sym (content-none (c .before .before .before .before .before .before .before .before .before .before .before .before .before .before .args .ty .now) (λ i. omega (arith, c .before .before .before .before .before .before .before .before .before .before .before .before .before .shared-slice-known .given i)) (c .before .before .before .before .before .before .before .before .before .before .before .look-inside .ensures ∙ ap accepted (c .before .before .before .before .before .before .before .before .before .held2 .given .1)) (c .before .before .before .before .before .before .before .find-field .ensures ∙ ap (λ p. accepted (partOf p)) (c .before .before .before .before .before .enum-told3 .given .1))))
+returns-5 c =
+    let entry = c .before .before .before .before .before .before .before .before .before .before .before .before .before .before in
+    let at-shared-slice-known = c .before .before .before .before .before .before .before .before .before .before .before .before .before in
+    let at-look-inside = c .before .before .before .before .before .before .before .before .before .before .before in
+    let at-held2 = c .before .before .before .before .before .before .before .before .before in
+    let at-find-field = c .before .before .before .before .before .before .before in
+    let at-enum-told3 = c .before .before .before .before .before in
+    let at-hand-over5 = c .before .before in
+    let args = entry .args in
+    at-hand-over5 .hand-over5 .ensures ∙ ap (λ o. deliver o (args .result .now)) (sym (content-none (args .ty .now) (λ i. omega (arith, at-shared-slice-known .shared-slice-known .given i)) (at-look-inside .look-inside .ensures ∙ ap accepted (at-held2 .held2 .given .1)) (at-find-field .find-field .ensures ∙ ap (λ p. accepted (partOf p)) (at-enum-told3 .enum-told3 .given .1))))
 
 pub write-content-spec : {M : Type 1} → statement M
 write-content-spec =

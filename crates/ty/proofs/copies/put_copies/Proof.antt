@@ -19,13 +19,25 @@ abbrev μ-loop : tie.MeasureT-loop
 μ-loop t n out₀ start at₀ i₀ out at i = n - i
 
 loop-holds : tie.Need-loop-holds Inv-loop μ-loop
-loop-holds c = (search needs, repeated-none (c .before .before .args .t .now) (c .before .before .args .start), refl, lay-none (c .before .before .args .out .now) (c .before .before .args .start) (c .before .before .args .t .now))
+loop-holds c =
+    let entry = c .before .before in
+    let args = entry .args in
+    (search needs, repeated-none (args .t .now) (args .start), refl, lay-none (args .out .now) (args .start) (args .t .now))
 
 lay-requires : tie.Need-lay-requires Inv-loop μ-loop
-lay-requires c κs = omega (arith, one-more (c .before .before .before .before .before .args .t .now) (c .before .before .loop .i) (c .before .before .before .before .before .args .n) (c .before .loop-test .taken), c .before .before .before .before .before .pre)
+lay-requires c κs =
+    let entry = c .before .before .before .before .before in
+    let at-loop = c .before .before in
+    let args = entry .args in
+    omega (arith, one-more (args .t .now) (at-loop .loop .i) (args .n) (c .before .loop-test .taken), entry .pre)
 
 add-at : tie.Need-add-at Inv-loop μ-loop
-add-at c = omega (arith, one-more (c .before .before .before .before .before .before .before .before .args .t .now) (c .before .before .before .before .before .loop .i) (c .before .before .before .before .before .before .before .before .args .n) (c .before .before .before .before .loop-test .taken), c .before .before .before .before .before .before .before .before .pre)
+add-at c =
+    let entry = c .before .before .before .before .before .before .before .before in
+    let at-loop = c .before .before .before .before .before in
+    let at-loop-test = c .before .before .before .before in
+    let args = entry .args in
+    omega (arith, one-more (args .t .now) (at-loop .loop .i) (args .n) (at-loop-test .loop-test .taken), entry .pre)
 
 add-i : tie.Need-add-i Inv-loop μ-loop
 add-i c = search needs
@@ -34,13 +46,22 @@ loop-less : tie.Need-loop-less Inv-loop μ-loop
 loop-less c = search needs
 
 loop-again : tie.Need-loop-again Inv-loop μ-loop
-loop-again c = (omega arith, repeated-more (c .before .before .before .before .before .before .before .before .args .t .now) (c .before .before .before .before .before .loop .i) (c .before .before .before .before .before .before .before .before .args .start) (c .before .before .before .before .before .loop .inv .1), c .before .before .lay .kept .1 .0 ∙ c .before .before .before .before .before .loop .inv .2, lay-more (c .before .before .before .before .before .before .before .before .args .out .now) (c .before .before .before .before .before .before .before .before .args .start) (c .before .before .before .before .before .before .before .before .args .t .now) (c .before .before .before .before .before .loop .i) (c .before .before .before .before .before .before .before .before .args .n) (c .before .before .before .before .loop-test .taken) (c .before .before .before .before .before .before .before .before .pre) (c .before .before .before .before .before .loop .inv .1) (c .before .before .before .before .before .loop .inv .3) (c .before .before .lay .ensures))
+loop-again c =
+    let entry = c .before .before .before .before .before .before .before .before in
+    let at-loop = c .before .before .before .before .before in
+    let at-loop-test = c .before .before .before .before in
+    let at-lay = c .before .before in
+    let args = entry .args in
+    (omega arith, repeated-more (args .t .now) (at-loop .loop .i) (args .start) (at-loop .loop .inv .1), at-lay .lay .kept .1 .0 ∙ at-loop .loop .inv .2, lay-more (args .out .now) (args .start) (args .t .now) (at-loop .loop .i) (args .n) (at-loop-test .loop-test .taken) (entry .pre) (at-loop .loop .inv .1) (at-loop .loop .inv .3) (at-lay .lay .ensures))
 
 same-length : tie.Need-same-length Inv-loop μ-loop
 same-length c = c .before .loop .inv .2
 
 returns : tie.Need-returns Inv-loop μ-loop
-returns c = c .before .loop .inv .3 ∙ ap (λ k. over (c .before .before .before .before .args .out .now) (c .before .before .before .before .args .start) (repeated k (c .before .before .before .before .args .t .now))) (omega arith)
+returns c =
+    let entry = c .before .before .before .before in
+    let args = entry .args in
+    c .before .loop .inv .3 ∙ ap (λ k. over (args .out .now) (args .start) (repeated k (args .t .now))) (omega arith)
 
 pub put-copies-spec : {M : Type 1} → statement M
 put-copies-spec =

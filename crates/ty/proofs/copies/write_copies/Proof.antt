@@ -16,10 +16,18 @@ same-length : tie.Need-same-length
 same-length c = search needs
 
 returns : tie.Need-returns
-returns c = c .before .before .write-list .ensures ∙ ap (λ o. deliver o (c .before .before .before .before .before .before .before .args .result .now)) (sym (listed-unknown (c .before .before .before .before .before .before .before .args .rows) (c .before .before .before .before .before .before .before .args .t .now) (c .before .before .before .before .if1 .taken)))
+returns c =
+    let entry = c .before .before .before .before .before .before .before in
+    let at-if1 = c .before .before .before .before in
+    let at-write-list = c .before .before in
+    let args = entry .args in
+    at-write-list .write-list .ensures ∙ ap (λ o. deliver o (args .result .now)) (sym (listed-unknown (args .rows) (args .t .now) (at-if1 .if1 .taken)))
 
 returns-2 : tie.Need-returns-2
-returns-2 c = sym (deliver-refused _ (listed-over (c .before .before .before .before .args .rows) (c .before .before .before .before .args .t .now) (c .before .if1 .left) (c .if2 .taken)))
+returns-2 c =
+    let entry = c .before .before .before .before in
+    let args = entry .args in
+    sym (deliver-refused _ (listed-over (args .rows) (args .t .now) (c .before .if1 .left) (c .if2 .taken)))
 
 write-list-requires-2 : tie.Need-write-list-requires-2
 write-list-requires-2 c κs = search needs
@@ -28,7 +36,13 @@ same-length-2 : tie.Need-same-length-2
 same-length-2 c = search needs
 
 returns-3 : tie.Need-returns-3
-returns-3 c = c .before .before .write-list2 .ensures ∙ ap (λ o. deliver o (c .before .before .before .before .before .before .before .before .args .result .now)) (sym (listed-some (c .before .before .before .before .before .before .before .before .args .rows) (c .before .before .before .before .before .before .before .before .args .t .now) (c .before .before .before .before .before .if1 .left) (c .before .before .before .before .if2 .left)))
+returns-3 c =
+    let entry = c .before .before .before .before .before .before .before .before in
+    let at-if1 = c .before .before .before .before .before in
+    let at-if2 = c .before .before .before .before in
+    let at-write-list2 = c .before .before in
+    let args = entry .args in
+    at-write-list2 .write-list2 .ensures ∙ ap (λ o. deliver o (args .result .now)) (sym (listed-some (args .rows) (args .t .now) (at-if1 .if1 .left) (at-if2 .if2 .left)))
 
 pub write-copies-spec : {M : Type 1} → statement M
 write-copies-spec =

@@ -11,13 +11,22 @@ use Rattle.ty.proofs.copies.write_list.Lts as lts
 use Rattle.ty.proofs.copies.put_copies.Reads as put-copies-reads
 
 mul-size : tie.Need-mul-size
-mul-size c = omega (arith, copies-fit (c .before .before .args .n) (c .before .before .args .t .now) (c .before .before .pre .0) (c .before .before .pre .1))
+mul-size c =
+    let entry = c .before .before in
+    let args = entry .args in
+    omega (arith, copies-fit (args .n) (args .t .now) (entry .pre .0) (entry .pre .1))
 
 add-size : tie.Need-add-size
-add-size c = omega (arith, copies-fit (c .before .before .args .n) (c .before .before .args .t .now) (c .before .before .pre .0) (c .before .before .pre .1))
+add-size c =
+    let entry = c .before .before in
+    let args = entry .args in
+    omega (arith, copies-fit (args .n) (args .t .now) (entry .pre .0) (entry .pre .1))
 
 returns : tie.Need-returns
-returns c = sym (deliver-short _ refl (omega (arith, c .if1 .taken, length-listed (c .before .before .before .args .n) (c .before .before .before .args .t .now))))
+returns c =
+    let entry = c .before .before .before in
+    let args = entry .args in
+    sym (deliver-short _ refl (omega (arith, c .if1 .taken, length-listed (args .n) (args .t .now))))
 
 cast-result : tie.Need-cast-result
 cast-result c = search needs
@@ -32,13 +41,23 @@ slice-write-result-2 : tie.Need-slice-write-result-2
 slice-write-result-2 c = simp length-set (omega (arith, c .if1 .left))
 
 put-copies-requires : tie.Need-put-copies-requires
-put-copies-requires c κs = simp length-set (omega (arith, c .before .if1 .left, length-repeated (c .before .before .before .before .args .t .now) (c .before .before .before .before .args .n)))
+put-copies-requires c κs =
+    let entry = c .before .before .before .before in
+    let args = entry .args in
+    simp length-set (omega (arith, c .before .if1 .left, length-repeated (args .t .now) (args .n)))
 
 same-length : tie.Need-same-length
-same-length c = c .before .before .put-copies .kept .1 .1 .0 ∙ simp length-set
+same-length c =
+    let at-put-copies = c .before .before in
+    at-put-copies .put-copies .kept .1 .1 .0 ∙ simp length-set
 
 returns-2 : tie.Need-returns-2
-returns-2 c = deliver-wrote _ refl (omega (arith, c .before .before .before .before .if1 .left, length-listed (c .before .before .before .before .before .before .before .args .n) (c .before .before .before .before .before .before .before .args .t .now))) (sym (length-listed (c .before .before .before .before .before .before .before .args .n) (c .before .before .before .before .before .before .before .args .t .now))) (lay-listed (c .before .before .before .before .before .before .before .args .result .now) (c .before .before .before .before .before .before .before .args .n) (c .before .before .before .before .before .before .before .args .t .now) (omega (arith, c .before .before .before .before .if1 .left, length-listed (c .before .before .before .before .before .before .before .args .n) (c .before .before .before .before .before .before .before .args .t .now))) (c .before .before .put-copies .ensures))
+returns-2 c =
+    let entry = c .before .before .before .before .before .before .before in
+    let at-if1 = c .before .before .before .before in
+    let at-put-copies = c .before .before in
+    let args = entry .args in
+    deliver-wrote _ refl (omega (arith, at-if1 .if1 .left, length-listed (args .n) (args .t .now))) (sym (length-listed (args .n) (args .t .now))) (lay-listed (args .result .now) (args .n) (args .t .now) (omega (arith, at-if1 .if1 .left, length-listed (args .n) (args .t .now))) (at-put-copies .put-copies .ensures))
 
 pub write-list-spec : {M : Type 1} → statement M
 write-list-spec =

@@ -28,7 +28,10 @@ loop-less : tie.Need-loop-less Inv-loop μ-loop
 loop-less c = search needs
 
 loop-again : tie.Need-loop-again Inv-loop μ-loop
-loop-again c = c .before .before .loop .inv ∙ (after-more _ _ _ (c .before .loop-test .taken) ∙ ap (afterTypes (c .before .before .before .before .args .s .now) _) (sym (c .after-type .ensures)))
+loop-again c =
+    let entry = c .before .before .before .before in
+    let at-loop = c .before .before in
+    at-loop .loop .inv ∙ (after-more _ _ _ (c .before .loop-test .taken) ∙ ap (afterTypes (entry .args .s .now) _) (sym (c .after-type .ensures)))
 
 returns : tie.Need-returns Inv-loop μ-loop
 returns c = after-end _ _ _ (omega arith) ∙ sym (c .before .loop .inv)

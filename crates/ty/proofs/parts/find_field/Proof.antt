@@ -9,7 +9,10 @@ use Rattle.ty.proofs.parts.after_type.Reads as after-type-reads
 use Rattle.ty.proofs.parts.after_types.Reads as after-types-reads
 
 returns : tie.Need-returns
-returns c = find-none (c .before .before .args .s .now) (λ i. omega (arith, c .before .shared-slice-known .given i)) (c .before .before .args .start) (c .before .before .args .count) (c .before .before .pre) (c .before .before .args .n) (c .if1 .taken)
+returns c =
+    let entry = c .before .before in
+    let args = entry .args in
+    find-none (args .s .now) (λ i. omega (arith, c .before .shared-slice-known .given i)) (args .start) (args .count) (entry .pre) (args .n) (c .if1 .taken)
 
 after-types-requires : tie.Need-after-types-requires
 after-types-requires c κs = search needs
@@ -18,10 +21,20 @@ after-type-requires : tie.Need-after-type-requires
 after-type-requires c κs = search needs
 
 sub-t8 : tie.Need-sub-t8
-sub-t8 c = find-forward (c .before .before .before .before .args .s .now) (λ i. omega (arith, c .before .before .before .shared-slice-known .given i)) (c .before .before .before .before .args .start) (c .before .before .before .before .args .count) (c .before .before .before .before .pre) (c .before .before .before .before .args .n) (c .before .before .if1 .left) (c .before .after-types .ensures) (c .after-type .ensures)
+sub-t8 c =
+    let entry = c .before .before .before .before in
+    let at-shared-slice-known = c .before .before .before in
+    let at-if1 = c .before .before in
+    let args = entry .args in
+    find-forward (args .s .now) (λ i. omega (arith, at-shared-slice-known .shared-slice-known .given i)) (args .start) (args .count) (entry .pre) (args .n) (at-if1 .if1 .left) (c .before .after-types .ensures) (c .after-type .ensures)
 
 returns-2 : tie.Need-returns-2
-returns-2 c = find-some (c .before .before .before .before .args .s .now) (λ i. omega (arith, c .before .before .before .shared-slice-known .given i)) (c .before .before .before .before .args .start) (c .before .before .before .before .args .count) (c .before .before .before .before .pre) (c .before .before .before .before .args .n) (c .before .before .if1 .left) (c .before .after-types .ensures) (c .after-type .ensures)
+returns-2 c =
+    let entry = c .before .before .before .before in
+    let at-shared-slice-known = c .before .before .before in
+    let at-if1 = c .before .before in
+    let args = entry .args in
+    find-some (args .s .now) (λ i. omega (arith, at-shared-slice-known .shared-slice-known .given i)) (args .start) (args .count) (entry .pre) (args .n) (at-if1 .if1 .left) (c .before .after-types .ensures) (c .after-type .ensures)
 
 pub find-field-spec : {M : Type 1} → statement M
 find-field-spec =

@@ -19,15 +19,24 @@ add-kind c = search needs
 
 -- src/parts.rt:37:16
 shared-slice-read-kind : tie.Need-shared-slice-read-kind
-shared-slice-read-kind c = omega (arith, kind-there (c .before .before .before .args .s .now) (λ i. omega (arith, c .before .before .shared-slice-known .given i)) (c .before .lone-scalar .result) (c .before .lone-scalar .ensures .0) (c .before .lone-scalar .ensures .1))
+shared-slice-read-kind c =
+    let entry = c .before .before .before in
+    let at-shared-slice-known = c .before .before in
+    omega (arith, kind-there (entry .args .s .now) (λ i. omega (arith, at-shared-slice-known .shared-slice-known .given i)) (c .before .lone-scalar .result) (c .before .lone-scalar .ensures .0) (c .before .lone-scalar .ensures .1))
 
 -- src/parts.rt:37:16
 cast-kind : tie.Need-cast-kind
-cast-kind c = omega (arith, c .before .before .shared-slice-known .given (c .before .lone-scalar .result + 2))
+cast-kind c =
+    let at-shared-slice-known = c .before .before in
+    omega (arith, at-shared-slice-known .shared-slice-known .given (c .before .lone-scalar .result + 2))
 
 -- src/parts.rt:39:9
 returns : tie.Need-returns
-returns c = held-plain (c .before .before .before .before .args .s .now) (λ i. omega (arith, c .before .before .before .shared-slice-known .given i)) (c .before .before .lone-scalar .result) (c .before .before .lone-scalar .ensures .0) (c .before .before .lone-scalar .ensures .1) (c .if1 .taken)
+returns c =
+    let entry = c .before .before .before .before in
+    let at-shared-slice-known = c .before .before .before in
+    let at-lone-scalar = c .before .before in
+    held-plain (entry .args .s .now) (λ i. omega (arith, at-shared-slice-known .shared-slice-known .given i)) (at-lone-scalar .lone-scalar .result) (at-lone-scalar .lone-scalar .ensures .0) (at-lone-scalar .lone-scalar .ensures .1) (c .if1 .taken)
 
 -- src/parts.rt:41:18
 add-form : tie.Need-add-form
@@ -35,15 +44,27 @@ add-form c = search needs
 
 -- src/parts.rt:41:16
 shared-slice-read-form : tie.Need-shared-slice-read-form
-shared-slice-read-form c = omega (arith, form-there (c .before .before .before .before .before .args .s .now) (λ i. omega (arith, c .before .before .before .before .shared-slice-known .given i)) (c .before .before .before .lone-scalar .result) (c .before .before .before .lone-scalar .ensures .0) (c .before .before .before .lone-scalar .ensures .1) (c .before .if1 .left))
+shared-slice-read-form c =
+    let entry = c .before .before .before .before .before in
+    let at-shared-slice-known = c .before .before .before .before in
+    let at-lone-scalar = c .before .before .before in
+    omega (arith, form-there (entry .args .s .now) (λ i. omega (arith, at-shared-slice-known .shared-slice-known .given i)) (at-lone-scalar .lone-scalar .result) (at-lone-scalar .lone-scalar .ensures .0) (at-lone-scalar .lone-scalar .ensures .1) (c .before .if1 .left))
 
 -- src/parts.rt:41:16
 cast-form : tie.Need-cast-form
-cast-form c = omega (arith, c .before .before .before .before .shared-slice-known .given (c .before .before .before .lone-scalar .result + 5))
+cast-form c =
+    let at-shared-slice-known = c .before .before .before .before in
+    let at-lone-scalar = c .before .before .before in
+    omega (arith, at-shared-slice-known .shared-slice-known .given (at-lone-scalar .lone-scalar .result + 5))
 
 -- src/parts.rt:43:9
 returns-2 : tie.Need-returns-2
-returns-2 c = held-any (c .before .before .before .before .before .before .args .s .now) (λ i. omega (arith, c .before .before .before .before .before .shared-slice-known .given i)) (c .before .before .before .before .lone-scalar .result) (c .before .before .before .before .lone-scalar .ensures .0) (c .before .before .before .before .lone-scalar .ensures .1) (c .before .before .if1 .left) (c .if2 .taken)
+returns-2 c =
+    let entry = c .before .before .before .before .before .before in
+    let at-shared-slice-known = c .before .before .before .before .before in
+    let at-lone-scalar = c .before .before .before .before in
+    let at-if1 = c .before .before in
+    held-any (entry .args .s .now) (λ i. omega (arith, at-shared-slice-known .shared-slice-known .given i)) (at-lone-scalar .lone-scalar .result) (at-lone-scalar .lone-scalar .ensures .0) (at-lone-scalar .lone-scalar .ensures .1) (at-if1 .if1 .left) (c .if2 .taken)
 
 -- src/parts.rt:46:38
 add-t12 : tie.Need-add-t12
@@ -51,7 +72,12 @@ add-t12 c = search needs
 
 -- src/parts.rt:46:9
 returns-3 : tie.Need-returns-3
-returns-3 c = held-all (c .before .before .before .before .before .before .before .args .s .now) (λ i. omega (arith, c .before .before .before .before .before .before .shared-slice-known .given i)) (c .before .before .before .before .before .lone-scalar .result) (c .before .before .before .before .before .lone-scalar .ensures .0) (c .before .before .before .before .before .lone-scalar .ensures .1) (c .before .before .before .if1 .left) (c .if3 .taken)
+returns-3 c =
+    let entry = c .before .before .before .before .before .before .before in
+    let at-shared-slice-known = c .before .before .before .before .before .before in
+    let at-lone-scalar = c .before .before .before .before .before in
+    let at-if1 = c .before .before .before in
+    held-all (entry .args .s .now) (λ i. omega (arith, at-shared-slice-known .shared-slice-known .given i)) (at-lone-scalar .lone-scalar .result) (at-lone-scalar .lone-scalar .ensures .0) (at-lone-scalar .lone-scalar .ensures .1) (at-if1 .if1 .left) (c .if3 .taken)
 
 -- src/parts.rt:48:29
 add-list-count : tie.Need-add-list-count
@@ -59,11 +85,20 @@ add-list-count c = search needs
 
 -- src/parts.rt:48:27
 shared-slice-read-list-count : tie.Need-shared-slice-read-list-count
-shared-slice-read-list-count c = omega (arith, name-there (c .before .before .before .before .before .before .before .before .args .s .now) (λ i. omega (arith, c .before .before .before .before .before .before .before .shared-slice-known .given i)) (c .before .before .before .before .before .before .lone-scalar .result) (c .before .before .before .before .before .before .lone-scalar .ensures .0) (c .before .before .before .before .before .before .lone-scalar .ensures .1) (c .before .before .before .before .if1 .left) (c .before .before .if2 .left) (c .before .if3 .left))
+shared-slice-read-list-count c =
+    let entry = c .before .before .before .before .before .before .before .before in
+    let at-shared-slice-known = c .before .before .before .before .before .before .before in
+    let at-lone-scalar = c .before .before .before .before .before .before in
+    let at-if1 = c .before .before .before .before in
+    let at-if2 = c .before .before in
+    omega (arith, name-there (entry .args .s .now) (λ i. omega (arith, at-shared-slice-known .shared-slice-known .given i)) (at-lone-scalar .lone-scalar .result) (at-lone-scalar .lone-scalar .ensures .0) (at-lone-scalar .lone-scalar .ensures .1) (at-if1 .if1 .left) (at-if2 .if2 .left) (c .before .if3 .left))
 
 -- src/parts.rt:48:27
 cast-list-count : tie.Need-cast-list-count
-cast-list-count c = omega (arith, c .before .before .before .before .before .before .before .shared-slice-known .given (c .before .before .before .before .before .before .lone-scalar .result + 6))
+cast-list-count c =
+    let at-shared-slice-known = c .before .before .before .before .before .before .before in
+    let at-lone-scalar = c .before .before .before .before .before .before in
+    omega (arith, at-shared-slice-known .shared-slice-known .given (at-lone-scalar .lone-scalar .result + 6))
 
 -- src/parts.rt:48:16
 list-count-requires : tie.Need-list-count-requires
@@ -75,23 +110,54 @@ add-end c = search needs
 
 -- src/parts.rt:49:15
 add-end-2 : tie.Need-add-end-2
-add-end-2 c = omega (arith, count-there (c .before .before .before .before .before .before .before .before .before .args .s .now) (λ i. omega (arith, c .before .before .before .before .before .before .before .before .shared-slice-known .given i)) (c .before .before .before .before .before .before .before .lone-scalar .result) (c .before .before .before .before .before .before .before .lone-scalar .ensures .0) (c .before .before .before .before .before .before .before .lone-scalar .ensures .1) (c .before .before .before .before .before .if1 .left) (c .before .before .before .if2 .left) (c .before .before .if3 .left) (c .list-count .ensures))
+add-end-2 c =
+    let entry = c .before .before .before .before .before .before .before .before .before in
+    let at-shared-slice-known = c .before .before .before .before .before .before .before .before in
+    let at-lone-scalar = c .before .before .before .before .before .before .before in
+    let at-if1 = c .before .before .before .before .before in
+    let at-if2 = c .before .before .before in
+    let at-if3 = c .before .before in
+    omega (arith, count-there (entry .args .s .now) (λ i. omega (arith, at-shared-slice-known .shared-slice-known .given i)) (at-lone-scalar .lone-scalar .result) (at-lone-scalar .lone-scalar .ensures .0) (at-lone-scalar .lone-scalar .ensures .1) (at-if1 .if1 .left) (at-if2 .if2 .left) (at-if3 .if3 .left) (c .list-count .ensures))
 
 -- src/parts.rt:51:16
 add-t7 : tie.Need-add-t7
-add-t7 c = omega (arith, count-there (c .before .before .before .before .before .before .before .before .before .args .s .now) (λ i. omega (arith, c .before .before .before .before .before .before .before .before .shared-slice-known .given i)) (c .before .before .before .before .before .before .before .lone-scalar .result) (c .before .before .before .before .before .before .before .lone-scalar .ensures .0) (c .before .before .before .before .before .before .before .lone-scalar .ensures .1) (c .before .before .before .before .before .if1 .left) (c .before .before .before .if2 .left) (c .before .before .if3 .left) (c .list-count .ensures))
+add-t7 c =
+    let entry = c .before .before .before .before .before .before .before .before .before in
+    let at-shared-slice-known = c .before .before .before .before .before .before .before .before in
+    let at-lone-scalar = c .before .before .before .before .before .before .before in
+    let at-if1 = c .before .before .before .before .before in
+    let at-if2 = c .before .before .before in
+    let at-if3 = c .before .before in
+    omega (arith, count-there (entry .args .s .now) (λ i. omega (arith, at-shared-slice-known .shared-slice-known .given i)) (at-lone-scalar .lone-scalar .result) (at-lone-scalar .lone-scalar .ensures .0) (at-lone-scalar .lone-scalar .ensures .1) (at-if1 .if1 .left) (at-if2 .if2 .left) (at-if3 .if3 .left) (c .list-count .ensures))
 
 -- src/parts.rt:52:16
 shared-slice-read-t9 : tie.Need-shared-slice-read-t9
-shared-slice-read-t9 c = omega (arith, count-there (c .before .before .before .before .before .before .before .before .before .before .args .s .now) (λ i. omega (arith, c .before .before .before .before .before .before .before .before .before .shared-slice-known .given i)) (c .before .before .before .before .before .before .before .before .lone-scalar .result) (c .before .before .before .before .before .before .before .before .lone-scalar .ensures .0) (c .before .before .before .before .before .before .before .before .lone-scalar .ensures .1) (c .before .before .before .before .before .before .if1 .left) (c .before .before .before .before .if2 .left) (c .before .before .before .if3 .left) (c .before .list-count .ensures))
+shared-slice-read-t9 c =
+    let entry = c .before .before .before .before .before .before .before .before .before .before in
+    let at-shared-slice-known = c .before .before .before .before .before .before .before .before .before in
+    let at-lone-scalar = c .before .before .before .before .before .before .before .before in
+    let at-if1 = c .before .before .before .before .before .before in
+    let at-if2 = c .before .before .before .before in
+    let at-if3 = c .before .before .before in
+    omega (arith, count-there (entry .args .s .now) (λ i. omega (arith, at-shared-slice-known .shared-slice-known .given i)) (at-lone-scalar .lone-scalar .result) (at-lone-scalar .lone-scalar .ensures .0) (at-lone-scalar .lone-scalar .ensures .1) (at-if1 .if1 .left) (at-if2 .if2 .left) (at-if3 .if3 .left) (c .before .list-count .ensures))
 
 -- src/parts.rt:52:16
 cast-t13 : tie.Need-cast-t13
-cast-t13 c = omega (arith, c .before .before .before .before .before .before .before .before .before .shared-slice-known .given (c .before .before .before .before .before .before .before .before .lone-scalar .result + 7 + c .before .list-count .result))
+cast-t13 c =
+    let at-shared-slice-known = c .before .before .before .before .before .before .before .before .before in
+    let at-lone-scalar = c .before .before .before .before .before .before .before .before in
+    omega (arith, at-shared-slice-known .shared-slice-known .given (at-lone-scalar .lone-scalar .result + 7 + c .before .list-count .result))
 
 -- src/parts.rt:32:1
 returns-4 : tie.Need-returns-4
-returns-4 c = held-def (c .before .before .before .before .before .before .before .before .before .before .args .s .now) (λ i. omega (arith, c .before .before .before .before .before .before .before .before .before .shared-slice-known .given i)) (c .before .before .before .before .before .before .before .before .lone-scalar .result) (c .before .before .before .before .before .before .before .before .lone-scalar .ensures .0) (c .before .before .before .before .before .before .before .before .lone-scalar .ensures .1) (c .before .before .before .before .before .before .if1 .left) (c .before .before .before .before .if2 .left) (c .before .before .before .if3 .left) (c .before .list-count .ensures)
+returns-4 c =
+    let entry = c .before .before .before .before .before .before .before .before .before .before in
+    let at-shared-slice-known = c .before .before .before .before .before .before .before .before .before in
+    let at-lone-scalar = c .before .before .before .before .before .before .before .before in
+    let at-if1 = c .before .before .before .before .before .before in
+    let at-if2 = c .before .before .before .before in
+    let at-if3 = c .before .before .before in
+    held-def (entry .args .s .now) (λ i. omega (arith, at-shared-slice-known .shared-slice-known .given i)) (at-lone-scalar .lone-scalar .result) (at-lone-scalar .lone-scalar .ensures .0) (at-lone-scalar .lone-scalar .ensures .1) (at-if1 .if1 .left) (at-if2 .if2 .left) (at-if3 .if3 .left) (c .before .list-count .ensures)
 
 pub look-inside-spec : {M : Type 1} → statement M
 look-inside-spec =

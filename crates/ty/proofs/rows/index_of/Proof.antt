@@ -14,7 +14,10 @@ enum-told-2 : tie.Need-enum-told-2
 enum-told-2 c = search needs
 
 returns : tie.Need-returns
-returns c = index-none (c .before .before .before .args .count) (c .if1 .taken) ∙ sym (ap (λ w. indexOf w (c .before .before .before .args .count)) (c .before .enum-told2 .given .1))
+returns c =
+    let entry = c .before .before .before in
+    let args = entry .args in
+    index-none (args .count) (c .if1 .taken) ∙ sym (ap (λ w. indexOf w (args .count)) (c .before .enum-told2 .given .1))
 
 sub-result : tie.Need-sub-result
 sub-result c = search needs
@@ -23,16 +26,30 @@ enum-known-which : tie.Need-enum-known-which
 enum-known-which c = search needs
 
 returns-2 : tie.Need-returns-2
-returns-2 c = index-low (c .before .before .which .given .0 .0) (c .before .before .before .before .args .count) (c .if2 .taken) ∙ sym (ap (λ w. indexOf w (c .before .before .before .before .args .count)) (c .before .before .which .given .1))
+returns-2 c =
+    let entry = c .before .before .before .before in
+    let at-which = c .before .before in
+    let args = entry .args in
+    index-low (at-which .which .given .0 .0) (args .count) (c .if2 .taken) ∙ sym (ap (λ w. indexOf w (args .count)) (at-which .which .given .1))
 
 returns-3 : tie.Need-returns-3
-returns-3 c = index-first (c .before .before .args .count) ∙ sym (ap (λ w. indexOf w (c .before .before .args .count)) (c .enum-told .given .1))
+returns-3 c =
+    let entry = c .before .before in
+    let args = entry .args in
+    index-first (args .count) ∙ sym (ap (λ w. indexOf w (args .count)) (c .enum-told .given .1))
 
 returns-4 : tie.Need-returns-4
-returns-4 c = index-last (c .before .before .before .args .count) ∙ sym (ap (λ w. indexOf w (c .before .before .before .args .count)) (c .before .enum-told2 .given .1))
+returns-4 c =
+    let entry = c .before .before .before in
+    let args = entry .args in
+    index-last (args .count) ∙ sym (ap (λ w. indexOf w (args .count)) (c .before .enum-told2 .given .1))
 
 returns-5 : tie.Need-returns-5
-returns-5 c = index-high (c .before .before .which .given .0 .0) (c .before .before .before .before .args .count) (c .if2 .left) ∙ sym (ap (λ w. indexOf w (c .before .before .before .before .args .count)) (c .before .before .which .given .1))
+returns-5 c =
+    let entry = c .before .before .before .before in
+    let at-which = c .before .before in
+    let args = entry .args in
+    index-high (at-which .which .given .0 .0) (args .count) (c .if2 .left) ∙ sym (ap (λ w. indexOf w (args .count)) (at-which .which .given .1))
 
 pub index-of-spec : {M : Type 1} → statement M
 index-of-spec =

@@ -35,7 +35,12 @@ same-length : tie.Need-same-length
 same-length c = search needs
 
 returns : tie.Need-returns
-returns c = c .before .before .write-parts .ensures ∙ (ap (λ w. deliver (accepted (writeShape (shapeFor (c .before .before .before .before .before .before .before .before .before .args .row)) ++ w)) (c .before .before .before .before .before .before .before .before .before .args .result .now)) (rest-is (c .before .before .before .before .before .before .before .before .before .args .ty .now) (c .before .before .before .before .before .before .lone-scalar .result)) ∙ ap (λ o. deliver o (c .before .before .before .before .before .before .before .before .before .args .result .now)) (sym (keep-bytes (lone (c .before .before .before .before .before .before .before .before .before .args .ty .now)) (shapeFor (c .before .before .before .before .before .before .before .before .before .args .row)) (c .before .before .before .before .before .before .lone-scalar .ensures .0))))
+returns c =
+    let entry = c .before .before .before .before .before .before .before .before .before in
+    let at-lone-scalar = c .before .before .before .before .before .before in
+    let at-write-parts = c .before .before in
+    let args = entry .args in
+    at-write-parts .write-parts .ensures ∙ (ap (λ w. deliver (accepted (writeShape (shapeFor (args .row)) ++ w)) (args .result .now)) (rest-is (args .ty .now) (at-lone-scalar .lone-scalar .result)) ∙ ap (λ o. deliver o (args .result .now)) (sym (keep-bytes (lone (args .ty .now)) (shapeFor (args .row)) (at-lone-scalar .lone-scalar .ensures .0))))
 
 pub keep-scalar-spec : {M : Type 1} → statement M
 keep-scalar-spec =

@@ -15,7 +15,9 @@ use Rattle.ty.proofs.rows.take_field.Reads as take-field-reads
 
 -- src/rows.rt:81:9
 lone-shape-requires : tie.Need-lone-shape-requires
-lone-shape-requires c κs = (c .before .before .pre)
+lone-shape-requires c κs =
+    let entry = c .before .before in
+    (entry .pre)
 
 -- src/rows.rt:82:9
 into-row-requires : tie.Need-into-row-requires
@@ -27,7 +29,9 @@ rank-requires c κs = search needs
 
 -- src/rows.rt:85:9
 keep-scalar-requires : tie.Need-keep-scalar-requires
-keep-scalar-requires c κs = (c .before .before .before .before .before .before .before .pre)
+keep-scalar-requires c κs =
+    let entry = c .before .before .before .before .before .before .before in
+    (entry .pre)
 
 -- src/rows.rt:85:9
 same-length : tie.Need-same-length
@@ -35,11 +39,21 @@ same-length c = search needs
 
 -- src/rows.rt:85:9
 returns : tie.Need-returns
-returns c = c .before .before .keep-scalar .ensures ∙ ap (λ o. deliver o (c .before .before .before .before .before .before .before .before .before .before .args .result .now)) (sym (row-ranked (c .before .before .before .before .before .before .before .before .before .before .args .ty .now) (c .before .before .before .before .before .before .before .lone-shape .ensures) (c .before .before .before .before .before .before .into-row .ensures) (c .before .before .before .before .before .before .before .before .before .before .args .which) (λ e. c .before .before .before .before .if1 .taken (c .before .before .before .before .before .rank .ensures .0 ∙ e))))
+returns c =
+    let entry = c .before .before .before .before .before .before .before .before .before .before in
+    let at-lone-shape = c .before .before .before .before .before .before .before in
+    let at-into-row = c .before .before .before .before .before .before in
+    let at-rank = c .before .before .before .before .before in
+    let at-if1 = c .before .before .before .before in
+    let at-keep-scalar = c .before .before in
+    let args = entry .args in
+    at-keep-scalar .keep-scalar .ensures ∙ ap (λ o. deliver o (args .result .now)) (sym (row-ranked (args .ty .now) (at-lone-shape .lone-shape .ensures) (at-into-row .into-row .ensures) (args .which) (λ e. at-if1 .if1 .taken (at-rank .rank .ensures .0 ∙ e))))
 
 -- src/rows.rt:87:9
 look-inside-requires : tie.Need-look-inside-requires
-look-inside-requires c κs = (c .before .before .before .before .before .before .pre)
+look-inside-requires c κs =
+    let entry = c .before .before .before .before .before .before in
+    (entry .pre)
 
 -- src/rows.rt:89:45
 enum-told : tie.Need-enum-told
@@ -47,7 +61,9 @@ enum-told c = search needs
 
 -- src/rows.rt:89:24
 keep-scalar-requires-2 : tie.Need-keep-scalar-requires-2
-keep-scalar-requires-2 c κs = (c .before .before .before .before .before .before .before .before .before .before .pre)
+keep-scalar-requires-2 c κs =
+    let entry = c .before .before .before .before .before .before .before .before .before .before in
+    (entry .pre)
 
 -- src/rows.rt:90:46
 enum-told-2 : tie.Need-enum-told-2
@@ -55,7 +71,9 @@ enum-told-2 c = search needs
 
 -- src/rows.rt:90:25
 keep-scalar-requires-3 : tie.Need-keep-scalar-requires-3
-keep-scalar-requires-3 c κs = (c .before .before .before .before .before .before .before .before .before .before .pre)
+keep-scalar-requires-3 c κs =
+    let entry = c .before .before .before .before .before .before .before .before .before .before in
+    (entry .pre)
 
 -- src/rows.rt:91:59
 enum-told-3 : tie.Need-enum-told-3
@@ -63,7 +81,9 @@ enum-told-3 c = search needs
 
 -- src/rows.rt:91:38
 keep-scalar-requires-4 : tie.Need-keep-scalar-requires-4
-keep-scalar-requires-4 c κs = (c .before .before .before .before .before .before .before .before .before .before .pre)
+keep-scalar-requires-4 c κs =
+    let entry = c .before .before .before .before .before .before .before .before .before .before in
+    (entry .pre)
 
 -- src/rows.rt:92:24
 enum-known-held : tie.Need-enum-known-held
@@ -71,7 +91,10 @@ enum-known-held c = search needs
 
 -- src/rows.rt:92:42
 take-field-requires : tie.Need-take-field-requires
-take-field-requires c κs = (c .before .before .before .before .look-inside .ensures ∙ ap accepted (c .before .before .held .given .1))
+take-field-requires c κs =
+    let at-look-inside = c .before .before .before .before in
+    let at-held = c .before .before in
+    (at-look-inside .look-inside .ensures ∙ ap accepted (at-held .held .given .1))
 
 -- src/rows.rt:77:1
 same-length-2 : tie.Need-same-length-2
@@ -79,7 +102,15 @@ same-length-2 c = search needs
 
 -- src/rows.rt:77:1
 returns-2 : tie.Need-returns-2
-returns-2 c = c .before .before .keep-scalar2 .ensures ∙ ap (λ o. deliver o (c .before .before .before .before .before .before .before .before .before .before .before .before .before .args .result .now)) (sym (row-kept (c .before .before .before .before .before .before .before .before .before .before .before .before .before .args .ty .now) (c .before .before .before .before .before .before .before .before .before .before .lone-shape .ensures) (c .before .before .before .before .before .before .before .before .before .into-row .ensures) (c .before .before .before .before .before .before .before .before .before .before .before .before .before .args .which) _ (c .before .before .before .before .before .before .look-inside .ensures ∙ ap accepted (c .before .before .before .before .enum-told .given .1)) tt))
+returns-2 c =
+    let entry = c .before .before .before .before .before .before .before .before .before .before .before .before .before in
+    let at-lone-shape = c .before .before .before .before .before .before .before .before .before .before in
+    let at-into-row = c .before .before .before .before .before .before .before .before .before in
+    let at-look-inside = c .before .before .before .before .before .before in
+    let at-enum-told = c .before .before .before .before in
+    let at-keep-scalar2 = c .before .before in
+    let args = entry .args in
+    at-keep-scalar2 .keep-scalar2 .ensures ∙ ap (λ o. deliver o (args .result .now)) (sym (row-kept (args .ty .now) (at-lone-shape .lone-shape .ensures) (at-into-row .into-row .ensures) (args .which) _ (at-look-inside .look-inside .ensures ∙ ap accepted (at-enum-told .enum-told .given .1)) tt))
 
 -- src/rows.rt:77:1
 same-length-3 : tie.Need-same-length-3
@@ -87,7 +118,15 @@ same-length-3 c = search needs
 
 -- src/rows.rt:77:1
 returns-3 : tie.Need-returns-3
-returns-3 c = c .before .before .keep-scalar3 .ensures ∙ ap (λ o. deliver o (c .before .before .before .before .before .before .before .before .before .before .before .before .before .args .result .now)) (sym (row-kept (c .before .before .before .before .before .before .before .before .before .before .before .before .before .args .ty .now) (c .before .before .before .before .before .before .before .before .before .before .lone-shape .ensures) (c .before .before .before .before .before .before .before .before .before .into-row .ensures) (c .before .before .before .before .before .before .before .before .before .before .before .before .before .args .which) _ (c .before .before .before .before .before .before .look-inside .ensures ∙ ap accepted (c .before .before .before .before .enum-told2 .given .1)) tt))
+returns-3 c =
+    let entry = c .before .before .before .before .before .before .before .before .before .before .before .before .before in
+    let at-lone-shape = c .before .before .before .before .before .before .before .before .before .before in
+    let at-into-row = c .before .before .before .before .before .before .before .before .before in
+    let at-look-inside = c .before .before .before .before .before .before in
+    let at-enum-told2 = c .before .before .before .before in
+    let at-keep-scalar3 = c .before .before in
+    let args = entry .args in
+    at-keep-scalar3 .keep-scalar3 .ensures ∙ ap (λ o. deliver o (args .result .now)) (sym (row-kept (args .ty .now) (at-lone-shape .lone-shape .ensures) (at-into-row .into-row .ensures) (args .which) _ (at-look-inside .look-inside .ensures ∙ ap accepted (at-enum-told2 .enum-told2 .given .1)) tt))
 
 -- src/rows.rt:77:1
 same-length-4 : tie.Need-same-length-4
@@ -95,7 +134,15 @@ same-length-4 c = search needs
 
 -- src/rows.rt:77:1
 returns-4 : tie.Need-returns-4
-returns-4 c = c .before .before .keep-scalar4 .ensures ∙ ap (λ o. deliver o (c .before .before .before .before .before .before .before .before .before .before .before .before .before .args .result .now)) (sym (row-kept (c .before .before .before .before .before .before .before .before .before .before .before .before .before .args .ty .now) (c .before .before .before .before .before .before .before .before .before .before .lone-shape .ensures) (c .before .before .before .before .before .before .before .before .before .into-row .ensures) (c .before .before .before .before .before .before .before .before .before .before .before .before .before .args .which) _ (c .before .before .before .before .before .before .look-inside .ensures ∙ ap accepted (c .before .before .before .before .enum-told3 .given .1)) tt))
+returns-4 c =
+    let entry = c .before .before .before .before .before .before .before .before .before .before .before .before .before in
+    let at-lone-shape = c .before .before .before .before .before .before .before .before .before .before in
+    let at-into-row = c .before .before .before .before .before .before .before .before .before in
+    let at-look-inside = c .before .before .before .before .before .before in
+    let at-enum-told3 = c .before .before .before .before in
+    let at-keep-scalar4 = c .before .before in
+    let args = entry .args in
+    at-keep-scalar4 .keep-scalar4 .ensures ∙ ap (λ o. deliver o (args .result .now)) (sym (row-kept (args .ty .now) (at-lone-shape .lone-shape .ensures) (at-into-row .into-row .ensures) (args .which) _ (at-look-inside .look-inside .ensures ∙ ap accepted (at-enum-told3 .enum-told3 .given .1)) tt))
 
 -- src/rows.rt:77:1
 same-length-5 : tie.Need-same-length-5
@@ -103,7 +150,17 @@ same-length-5 c = search needs
 
 -- src/rows.rt:77:1
 returns-5 : tie.Need-returns-5
-returns-5 c = c .before .before .take-field .ensures ∙ ap (λ o. deliver o (c .before .before .before .before .before .before .before .before .before .before .before .before .before .before .args .result .now)) (sym (row-taken (c .before .before .before .before .before .before .before .before .before .before .before .before .before .before .args .ty .now) (c .before .before .before .before .before .before .before .before .before .before .before .lone-shape .ensures) (c .before .before .before .before .before .before .before .before .before .before .into-row .ensures) (c .before .before .before .before .before .before .before .before .before .before .before .before .before .before .args .which) (c .before .before .before .before .before .before .before .look-inside .ensures ∙ ap accepted (c .before .before .before .before .before .held .given .1)) (sym (c .before .before .before .before .before .before .before .before .before .rank .ensures .0) ∙ c .before .before .before .before .before .before .before .before .if1 .left)))
+returns-5 c =
+    let entry = c .before .before .before .before .before .before .before .before .before .before .before .before .before .before in
+    let at-lone-shape = c .before .before .before .before .before .before .before .before .before .before .before in
+    let at-into-row = c .before .before .before .before .before .before .before .before .before .before in
+    let at-rank = c .before .before .before .before .before .before .before .before .before in
+    let at-if1 = c .before .before .before .before .before .before .before .before in
+    let at-look-inside = c .before .before .before .before .before .before .before in
+    let at-held = c .before .before .before .before .before in
+    let at-take-field = c .before .before in
+    let args = entry .args in
+    at-take-field .take-field .ensures ∙ ap (λ o. deliver o (args .result .now)) (sym (row-taken (args .ty .now) (at-lone-shape .lone-shape .ensures) (at-into-row .into-row .ensures) (args .which) (at-look-inside .look-inside .ensures ∙ ap accepted (at-held .held .given .1)) (sym (at-rank .rank .ensures .0) ∙ at-if1 .if1 .left)))
 
 pub row-known-spec : {M : Type 1} → statement M
 row-known-spec =

@@ -26,7 +26,12 @@ enum-known-part : tie.Need-enum-known-part
 enum-known-part c = search needs
 
 add-end : tie.Need-add-end
-add-end c = omega (arith, field-there (c .before .before .before .before .before .before .before .args .ty .now) (λ i. omega (arith, c .before .before .before .before .before .before .shared-slice-known .given i)) (c .before .before .before .before .before .before .before .pre) (c .before .before .before .before .index-of .result) (c .before .before .before .find-field .ensures ∙ ap (λ p. accepted (partOf p)) (c .before .part .given .1)))
+add-end c =
+    let entry = c .before .before .before .before .before .before .before in
+    let at-shared-slice-known = c .before .before .before .before .before .before in
+    let at-index-of = c .before .before .before .before in
+    let at-find-field = c .before .before .before in
+    omega (arith, field-there (entry .args .ty .now) (λ i. omega (arith, at-shared-slice-known .shared-slice-known .given i)) (entry .pre) (at-index-of .index-of .result) (at-find-field .find-field .ensures ∙ ap (λ p. accepted (partOf p)) (c .before .part .given .1)))
 
 slice-aggregate-write-parts : tie.Need-slice-aggregate-write-parts
 slice-aggregate-write-parts c = search needs
@@ -38,7 +43,13 @@ part-write-parts-start : tie.Need-part-write-parts-start
 part-write-parts-start c = search needs
 
 part-write-parts-end : tie.Need-part-write-parts-end
-part-write-parts-end c = field-there (c .before .before .before .before .before .before .before .before .args .ty .now) (λ i. omega (arith, c .before .before .before .before .before .before .before .shared-slice-known .given i)) (c .before .before .before .before .before .before .before .before .pre) (c .before .before .before .before .before .index-of .result) (c .before .before .before .before .find-field .ensures ∙ ap (λ p. accepted (partOf p)) (c .before .before .part .given .1))
+part-write-parts-end c =
+    let entry = c .before .before .before .before .before .before .before .before in
+    let at-shared-slice-known = c .before .before .before .before .before .before .before in
+    let at-index-of = c .before .before .before .before .before in
+    let at-find-field = c .before .before .before .before in
+    let at-part = c .before .before in
+    field-there (entry .args .ty .now) (λ i. omega (arith, at-shared-slice-known .shared-slice-known .given i)) (entry .pre) (at-index-of .index-of .result) (at-find-field .find-field .ensures ∙ ap (λ p. accepted (partOf p)) (at-part .part .given .1))
 
 write-parts-requires : tie.Need-write-parts-requires
 write-parts-requires c κs = search needs
@@ -59,13 +70,29 @@ same-length : tie.Need-same-length
 same-length c = search needs
 
 returns : tie.Need-returns
-returns c = c .before .before .write-parts .ensures ∙ (ap (λ w. deliver (accepted (writeShape (shapeFor (c .before .before .before .before .before .before .before .before .before .before .before .before .before .args .row)) ++ (boxStart 1 ++ w))) (c .before .before .before .before .before .before .before .before .before .before .before .before .before .args .result .now)) (stretch-is (c .before .before .before .before .before .before .before .before .before .before .before .before .before .args .ty .now) (c .before .before .before .before .before .before .before .part .given .0 .0) (c .before .before .before .before .before .before .before .part .given .0 .1 .0)) ∙ ap (λ o. deliver o (c .before .before .before .before .before .before .before .before .before .before .before .before .before .args .result .now)) (sym (take-found (c .before .before .before .before .before .before .before .before .before .before .before .before .before .args .ty .now) (λ i. omega (arith, c .before .before .before .before .before .before .before .before .before .before .before .before .shared-slice-known .given i)) (c .before .before .before .before .before .before .before .before .before .before .before .before .before .pre) (shapeFor (c .before .before .before .before .before .before .before .before .before .before .before .before .before .args .row)) (c .before .before .before .before .before .before .before .before .before .before .before .before .before .args .which) (c .before .before .before .before .before .before .before .before .before .before .index-of .ensures) (c .before .before .before .before .before .before .before .before .before .find-field .ensures ∙ ap (λ p. accepted (partOf p)) (c .before .before .before .before .before .before .before .part .given .1)))))
+returns c =
+    let entry = c .before .before .before .before .before .before .before .before .before .before .before .before .before in
+    let at-shared-slice-known = c .before .before .before .before .before .before .before .before .before .before .before .before in
+    let at-index-of = c .before .before .before .before .before .before .before .before .before .before in
+    let at-find-field = c .before .before .before .before .before .before .before .before .before in
+    let at-part = c .before .before .before .before .before .before .before in
+    let at-write-parts = c .before .before in
+    let args = entry .args in
+    at-write-parts .write-parts .ensures ∙ (ap (λ w. deliver (accepted (writeShape (shapeFor (args .row)) ++ (boxStart 1 ++ w))) (args .result .now)) (stretch-is (args .ty .now) (at-part .part .given .0 .0) (at-part .part .given .0 .1 .0)) ∙ ap (λ o. deliver o (args .result .now)) (sym (take-found (args .ty .now) (λ i. omega (arith, at-shared-slice-known .shared-slice-known .given i)) (entry .pre) (shapeFor (args .row)) (args .which) (at-index-of .index-of .ensures) (at-find-field .find-field .ensures ∙ ap (λ p. accepted (partOf p)) (at-part .part .given .1)))))
 
 same-length-2 : tie.Need-same-length-2
 same-length-2 c = search needs
 
 returns-2 : tie.Need-returns-2
-returns-2 c = c .before .before .write-parts2 .ensures ∙ ap (λ o. deliver o (c .before .before .before .before .before .before .before .before .before .before .before .before .args .result .now)) (sym (take-none (c .before .before .before .before .before .before .before .before .before .before .before .before .args .ty .now) (λ i. omega (arith, c .before .before .before .before .before .before .before .before .before .before .before .shared-slice-known .given i)) (c .before .before .before .before .before .before .before .before .before .before .before .before .pre) (shapeFor (c .before .before .before .before .before .before .before .before .before .before .before .before .args .row)) (c .before .before .before .before .before .before .before .before .before .before .before .before .args .which) (c .before .before .before .before .before .before .before .before .before .index-of .ensures) (c .before .before .before .before .before .before .before .before .find-field .ensures ∙ ap (λ p. accepted (partOf p)) (c .before .before .before .before .before .before .enum-told .given .1))))
+returns-2 c =
+    let entry = c .before .before .before .before .before .before .before .before .before .before .before .before in
+    let at-shared-slice-known = c .before .before .before .before .before .before .before .before .before .before .before in
+    let at-index-of = c .before .before .before .before .before .before .before .before .before in
+    let at-find-field = c .before .before .before .before .before .before .before .before in
+    let at-enum-told = c .before .before .before .before .before .before in
+    let at-write-parts2 = c .before .before in
+    let args = entry .args in
+    at-write-parts2 .write-parts2 .ensures ∙ ap (λ o. deliver o (args .result .now)) (sym (take-none (args .ty .now) (λ i. omega (arith, at-shared-slice-known .shared-slice-known .given i)) (entry .pre) (shapeFor (args .row)) (args .which) (at-index-of .index-of .ensures) (at-find-field .find-field .ensures ∙ ap (λ p. accepted (partOf p)) (at-enum-told .enum-told .given .1))))
 
 pub take-field-spec : {M : Type 1} → statement M
 take-field-spec =

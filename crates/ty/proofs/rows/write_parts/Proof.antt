@@ -23,7 +23,10 @@ add-size : tie.Need-add-size
 add-size c = search needs
 
 returns : tie.Need-returns
-returns c = sym (deliver-short _ refl (omega (arith, c .if1 .taken, parts-length (writeShape (shapeFor (c .before .before .before .before .before .args .shape))) (c .before .before .before .before .before .args .head .now) (c .before .before .before .before .before .args .tail .now) (c .before .shape-length .ensures .0) refl refl)))
+returns c =
+    let entry = c .before .before .before .before .before in
+    let args = entry .args in
+    sym (deliver-short _ refl (omega (arith, c .if1 .taken, parts-length (writeShape (shapeFor (args .shape))) (args .head .now) (args .tail .now) (c .before .shape-length .ensures .0) refl refl)))
 
 put-shape-requires : tie.Need-put-shape-requires
 put-shape-requires c κs = search needs
@@ -38,7 +41,15 @@ same-length : tie.Need-same-length
 same-length c = search needs
 
 returns-2 : tie.Need-returns-2
-returns-2 c = deliver-wrote _ refl (omega (arith, c .before .before .before .before .before .before .before .before .before .before .before .before .if1 .left, parts-length (writeShape (shapeFor (c .before .before .before .before .before .before .before .before .before .before .before .before .before .before .before .before .before .args .shape))) (c .before .before .before .before .before .before .before .before .before .before .before .before .before .before .before .before .before .args .head .now) (c .before .before .before .before .before .before .before .before .before .before .before .before .before .before .before .before .before .args .tail .now) (c .before .before .before .before .before .before .before .before .before .before .before .before .before .shape-length .ensures .0) refl refl)) (parts-length (writeShape (shapeFor (c .before .before .before .before .before .before .before .before .before .before .before .before .before .before .before .before .before .args .shape))) (c .before .before .before .before .before .before .before .before .before .before .before .before .before .before .before .before .before .args .head .now) (c .before .before .before .before .before .before .before .before .before .before .before .before .before .before .before .before .before .args .tail .now) (c .before .before .before .before .before .before .before .before .before .before .before .before .before .shape-length .ensures .0) refl refl) (lay-parts (writeShape (shapeFor (c .before .before .before .before .before .before .before .before .before .before .before .before .before .before .before .before .before .args .shape))) (c .before .before .before .before .before .before .before .before .before .before .before .before .before .before .before .before .before .args .head .now) (c .before .before .before .before .before .before .before .before .before .before .before .before .before .before .before .before .before .args .tail .now) (c .before .before .before .before .before .before .before .before .before .before .before .before .before .shape-length .ensures .0) refl refl (c .before .before .before .before .before .before .before .before .before .before .before .before .before .before .before .before .before .args .result .now) (c .before .before .before .before .before .before .before .before .before .before .before .before .if1 .left) (c .before .before .before .before .before .before .before .before .before .before .put-shape .ensures .1) (c .before .before .before .before .before .before .lay .ensures) (c .before .before .lay2 .ensures))
+returns-2 c =
+    let entry = c .before .before .before .before .before .before .before .before .before .before .before .before .before .before .before .before .before in
+    let at-shape-length = c .before .before .before .before .before .before .before .before .before .before .before .before .before in
+    let at-if1 = c .before .before .before .before .before .before .before .before .before .before .before .before in
+    let at-put-shape = c .before .before .before .before .before .before .before .before .before .before in
+    let at-lay = c .before .before .before .before .before .before in
+    let at-lay2 = c .before .before in
+    let args = entry .args in
+    deliver-wrote _ refl (omega (arith, at-if1 .if1 .left, parts-length (writeShape (shapeFor (args .shape))) (args .head .now) (args .tail .now) (at-shape-length .shape-length .ensures .0) refl refl)) (parts-length (writeShape (shapeFor (args .shape))) (args .head .now) (args .tail .now) (at-shape-length .shape-length .ensures .0) refl refl) (lay-parts (writeShape (shapeFor (args .shape))) (args .head .now) (args .tail .now) (at-shape-length .shape-length .ensures .0) refl refl (args .result .now) (at-if1 .if1 .left) (at-put-shape .put-shape .ensures .1) (at-lay .lay .ensures) (at-lay2 .lay2 .ensures))
 
 pub write-parts-spec : {M : Type 1} → statement M
 write-parts-spec =

@@ -18,11 +18,15 @@ enum-known-number c = search needs
 
 returns : tie.Need-returns
 unfolding valueAsDim
-returns c = sym (ap (mapped some) (alone-sized (c .before .before .before .as-dim .ensures) (c .before .n .given .1)))
+returns c =
+    let at-as-dim = c .before .before .before in
+    sym (ap (mapped some) (alone-sized (at-as-dim .as-dim .ensures) (c .before .n .given .1)))
 
 returns-2 : tie.Need-returns-2
 unfolding valueAsDim
-returns-2 c = sym (ap (mapped some) (alone-refused (c .before .before .before .as-dim .ensures) (c .before .number .given .1)))
+returns-2 c =
+    let at-as-dim = c .before .before .before in
+    sym (ap (mapped some) (alone-refused (at-as-dim .as-dim .ensures) (c .before .number .given .1)))
 
 pub dim-of-number-spec : {M : Type 1} → statement M
 dim-of-number-spec =

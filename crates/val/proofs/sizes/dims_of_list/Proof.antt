@@ -23,11 +23,17 @@ without-dims-requires c κs = search needs
 
 returns : tie.Need-returns
 unfolding valueAsDims
-returns c = sym (ap (mapped some) (listed-counted (c .before .before .before .before .dims-of .result .list) (c .before .before .before .before .dims-of .ensures .0) (c .before .before .answer .given .1)))
+returns c =
+    let at-dims-of = c .before .before .before .before in
+    let at-answer = c .before .before in
+    sym (ap (mapped some) (listed-counted (at-dims-of .dims-of .result .list) (at-dims-of .dims-of .ensures .0) (at-answer .answer .given .1)))
 
 returns-2 : tie.Need-returns-2
 unfolding valueAsDims
-returns-2 c = ap (λ a. maybeDims a (dimsOf (c .without-dims .result .dims))) (c .without-dims .ensures) ∙ sym (ap (mapped some) (listed-refused (c .before .before .before .before .dims-of .result .list) (c .before .before .before .before .dims-of .ensures .0) (c .before .before .answer2 .given .1)))
+returns-2 c =
+    let at-dims-of = c .before .before .before .before in
+    let at-answer2 = c .before .before in
+    ap (λ a. maybeDims a (dimsOf (c .without-dims .result .dims))) (c .without-dims .ensures) ∙ sym (ap (mapped some) (listed-refused (at-dims-of .dims-of .result .list) (at-dims-of .dims-of .ensures .0) (at-answer2 .answer2 .given .1)))
 
 pub dims-of-list-spec : {M : Type 1} → statement M
 dims-of-list-spec =

@@ -14,7 +14,10 @@ same-length : tie.Need-same-length
 same-length c = search needs
 
 returns-2 : tie.Need-returns-2
-returns-2 c = deliver-wrote _ refl (c .before .before .before .before .if1 .left) refl (c .before .before .put-kind .ensures)
+returns-2 c =
+    let at-if1 = c .before .before .before .before in
+    let at-put-kind = c .before .before in
+    deliver-wrote _ refl (at-if1 .if1 .left) refl (at-put-kind .put-kind .ensures)
 
 pub write-kind-spec : {M : Type 1} → statement M
 write-kind-spec = tie.close (tie.spec returns put-kind-requires same-length returns-2)

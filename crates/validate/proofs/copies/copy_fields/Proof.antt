@@ -20,10 +20,16 @@ abbrev μ-loop : tie.MeasureT-loop
 μ-loop s start count moves out₀ to at₀ end₀ types₀ left₀ out at end types left = left
 
 loop-holds : tie.Need-loop-holds Inv-loop μ-loop
-loop-holds c = (refl, λ f h n. going-start (c .before .before .args .s .now) f (c .before .before .args .moves) (c .before .before .args .start) (c .before .before .args .count) (c .before .before .args .out .now) (c .before .before .args .to) h n)
+loop-holds c =
+    let entry = c .before .before in
+    let args = entry .args in
+    (refl, λ f h n. going-start (args .s .now) f (args .moves) (args .start) (args .count) (args .out .now) (args .to) h n)
 
 copy-type-requires : tie.Need-copy-type-requires Inv-loop μ-loop
-copy-type-requires c κs = going-room (c .before .before .loop .inv .1 (c .before .before .before .before .before .pre .fields) (c .before .before .before .before .before .pre .there) (c .before .before .before .before .before .pre .counted)) (c .before .loop-test .taken) (omega (arith, c .before .before .before .before .before .pre .fits, c .before .before .loop .inv .0))
+copy-type-requires c κs =
+    let entry = c .before .before .before .before .before in
+    let at-loop = c .before .before in
+    going-room (at-loop .loop .inv .1 (entry .pre .fields) (entry .pre .there) (entry .pre .counted)) (c .before .loop-test .taken) (omega (arith, entry .pre .fits, at-loop .loop .inv .0))
 
 enum-known-w : tie.Need-enum-known-w Inv-loop μ-loop
 enum-known-w c = search needs
@@ -32,16 +38,32 @@ enum-told : tie.Need-enum-told Inv-loop μ-loop
 enum-told c = search needs
 
 same-length : tie.Need-same-length Inv-loop μ-loop
-same-length c = c .before .before .before .before .copy-type .kept .1 .1 .0 ∙ c .before .before .before .before .before .before .before .loop .inv .0
+same-length c =
+    let at-loop = c .before .before .before .before .before .before .before in
+    let at-copy-type = c .before .before .before .before in
+    at-copy-type .copy-type .kept .1 .1 .0 ∙ at-loop .loop .inv .0
 
 returns : tie.Need-returns Inv-loop μ-loop
-returns c = λ f h n fits. going-first (c .before .before .before .before .before .before .before .loop .inv .1 f h n) (c .before .before .before .before .before .before .loop-test .taken) λ p k r e placed. not-refused (c .before .before .before .before .copy-type .last .1 .1 .0) _ (c .before .before .before .before .copy-type .ensures p k placed .0) (c .enum-told .given .1)
+returns c =
+    let at-loop = c .before .before .before .before .before .before .before in
+    let at-loop-test = c .before .before .before .before .before .before in
+    let at-copy-type = c .before .before .before .before in
+    λ f h n fits.
+    going-first (at-loop .loop .inv .1 f h n) (at-loop-test .loop-test .taken) λ p k r e placed.
+    not-refused (at-copy-type .copy-type .last .1 .1 .0) _ (at-copy-type .copy-type .ensures p k placed .0) (c .enum-told .given .1)
 
 next-type-requires : tie.Need-next-type-requires Inv-loop μ-loop
 next-type-requires c κs = search needs
 
 add-types : tie.Need-add-types Inv-loop μ-loop
-add-types c = let g = going-next (c .before .before .before .before .before .before .before .before .before .loop .inv .1 (c .before .before .before .before .before .before .before .before .before .before .before .before .pre .fields) (c .before .before .before .before .before .before .before .before .before .before .before .before .pre .there) (c .before .before .before .before .before .before .before .before .before .before .before .before .pre .counted)) (c .before .before .before .before .before .before .copy-type .last .1 .1 .0) (c .before .before .before .before .before .before .before .before .loop-test .taken) (λ p k h. done-known (c .before .before .before .before .before .before .copy-type .last .1 .1 .0) _ (c .before .before .before .before .before .before .before .before .before .loop .end) (c .before .before .w .given .1) (c .before .before .before .before .before .before .copy-type .ensures p k h)) (λ p k h. c .next-type .ensures p k h) in omega (arith, g .number, c .before .before .before .before .before .before .before .before .before .before .before .before .pre .few)
+add-types c =
+    let entry = c .before .before .before .before .before .before .before .before .before .before .before .before in
+    let at-loop = c .before .before .before .before .before .before .before .before .before in
+    let at-loop-test = c .before .before .before .before .before .before .before .before in
+    let at-copy-type = c .before .before .before .before .before .before in
+    let at-w = c .before .before in
+    let g = going-next (at-loop .loop .inv .1 (entry .pre .fields) (entry .pre .there) (entry .pre .counted)) (at-copy-type .copy-type .last .1 .1 .0) (at-loop-test .loop-test .taken) (λ p k h. done-known (at-copy-type .copy-type .last .1 .1 .0) _ (at-loop .loop .end) (at-w .w .given .1) (at-copy-type .copy-type .ensures p k h)) (λ p k h. c .next-type .ensures p k h) in
+    omega (arith, g .number, entry .pre .few)
 
 sub-left : tie.Need-sub-left Inv-loop μ-loop
 sub-left c = search needs
@@ -50,7 +72,12 @@ loop-less : tie.Need-loop-less Inv-loop μ-loop
 loop-less c = search needs
 
 loop-again : tie.Need-loop-again Inv-loop μ-loop
-loop-again c = (c .before .before .before .before .before .before .copy-type .kept .1 .1 .0 ∙ c .before .before .before .before .before .before .before .before .before .loop .inv .0, λ f h n. going-next (c .before .before .before .before .before .before .before .before .before .loop .inv .1 f h n) (c .before .before .before .before .before .before .copy-type .last .1 .1 .0) (c .before .before .before .before .before .before .before .before .loop-test .taken) (λ p k h. done-known (c .before .before .before .before .before .before .copy-type .last .1 .1 .0) _ (c .before .before .before .before .before .before .before .before .before .loop .end) (c .before .before .w .given .1) (c .before .before .before .before .before .before .copy-type .ensures p k h)) (λ p k h. c .next-type .ensures p k h))
+loop-again c =
+    let at-loop = c .before .before .before .before .before .before .before .before .before in
+    let at-loop-test = c .before .before .before .before .before .before .before .before in
+    let at-copy-type = c .before .before .before .before .before .before in
+    let at-w = c .before .before in
+    (at-copy-type .copy-type .kept .1 .1 .0 ∙ at-loop .loop .inv .0, λ f h n. going-next (at-loop .loop .inv .1 f h n) (at-copy-type .copy-type .last .1 .1 .0) (at-loop-test .loop-test .taken) (λ p k h. done-known (at-copy-type .copy-type .last .1 .1 .0) _ (at-loop .loop .end) (at-w .w .given .1) (at-copy-type .copy-type .ensures p k h)) (λ p k h. c .next-type .ensures p k h))
 
 same-length-2 : tie.Need-same-length-2 Inv-loop μ-loop
 same-length-2 c = c .before .loop .inv .0

@@ -20,31 +20,73 @@ span-at-requires c κs = search needs
 
 -- src/copies.rt:33:9
 sub-lay : tie.Need-sub-lay
-sub-lay c = let a = scalar-long (c .before .before .before .before .pre .there) (c .before .scalar-at .ensures (c .before .before .before .before .pre .shape) (c .before .before .before .before .pre .scalar) (c .before .before .before .before .pre .there)) (c .span-at .ensures .1 (c .before .before .before .before .pre .shape) (c .before .before .before .before .pre .scalar) (c .before .before .before .before .pre .there) .1) in let b = scalar-ends (c .before .before .before .before .pre .there) (c .before .scalar-at .ensures (c .before .before .before .before .pre .shape) (c .before .before .before .before .pre .scalar) (c .before .before .before .before .pre .there)) (c .span-at .ensures .1 (c .before .before .before .before .pre .shape) (c .before .before .before .before .pre .scalar) (c .before .before .before .before .pre .there) .1) in let f = scalar-fits (c .before .before .before .before .pre .there) (c .before .scalar-at .ensures (c .before .before .before .before .pre .shape) (c .before .before .before .before .pre .scalar) (c .before .before .before .before .pre .there)) (c .span-at .ensures .1 (c .before .before .before .before .pre .shape) (c .before .before .before .before .pre .scalar) (c .before .before .before .before .pre .there) .1) (c .before .before .before .before .args .to) (c .before .before .before .before .pre .fits) in search needs
+sub-lay c =
+    let entry = c .before .before .before .before in
+    let a = scalar-long (entry .pre .there) (c .before .scalar-at .ensures (entry .pre .shape) (entry .pre .scalar) (entry .pre .there)) (c .span-at .ensures .1 (entry .pre .shape) (entry .pre .scalar) (entry .pre .there) .1) in
+    let b = scalar-ends (entry .pre .there) (c .before .scalar-at .ensures (entry .pre .shape) (entry .pre .scalar) (entry .pre .there)) (c .span-at .ensures .1 (entry .pre .shape) (entry .pre .scalar) (entry .pre .there) .1) in
+    let f = scalar-fits (entry .pre .there) (c .before .scalar-at .ensures (entry .pre .shape) (entry .pre .scalar) (entry .pre .there)) (c .span-at .ensures .1 (entry .pre .shape) (entry .pre .scalar) (entry .pre .there) .1) (entry .args .to) (entry .pre .fits) in
+    search needs
 
 -- src/copies.rt:33:9
 part-lay-start : tie.Need-part-lay-start
-part-lay-start c = let a = scalar-long (c .before .before .before .before .pre .there) (c .before .scalar-at .ensures (c .before .before .before .before .pre .shape) (c .before .before .before .before .pre .scalar) (c .before .before .before .before .pre .there)) (c .span-at .ensures .1 (c .before .before .before .before .pre .shape) (c .before .before .before .before .pre .scalar) (c .before .before .before .before .pre .there) .1) in let b = scalar-ends (c .before .before .before .before .pre .there) (c .before .scalar-at .ensures (c .before .before .before .before .pre .shape) (c .before .before .before .before .pre .scalar) (c .before .before .before .before .pre .there)) (c .span-at .ensures .1 (c .before .before .before .before .pre .shape) (c .before .before .before .before .pre .scalar) (c .before .before .before .before .pre .there) .1) in let f = scalar-fits (c .before .before .before .before .pre .there) (c .before .scalar-at .ensures (c .before .before .before .before .pre .shape) (c .before .before .before .before .pre .scalar) (c .before .before .before .before .pre .there)) (c .span-at .ensures .1 (c .before .before .before .before .pre .shape) (c .before .before .before .before .pre .scalar) (c .before .before .before .before .pre .there) .1) (c .before .before .before .before .args .to) (c .before .before .before .before .pre .fits) in search needs
+part-lay-start c =
+    let entry = c .before .before .before .before in
+    let a = scalar-long (entry .pre .there) (c .before .scalar-at .ensures (entry .pre .shape) (entry .pre .scalar) (entry .pre .there)) (c .span-at .ensures .1 (entry .pre .shape) (entry .pre .scalar) (entry .pre .there) .1) in
+    let b = scalar-ends (entry .pre .there) (c .before .scalar-at .ensures (entry .pre .shape) (entry .pre .scalar) (entry .pre .there)) (c .span-at .ensures .1 (entry .pre .shape) (entry .pre .scalar) (entry .pre .there) .1) in
+    let f = scalar-fits (entry .pre .there) (c .before .scalar-at .ensures (entry .pre .shape) (entry .pre .scalar) (entry .pre .there)) (c .span-at .ensures .1 (entry .pre .shape) (entry .pre .scalar) (entry .pre .there) .1) (entry .args .to) (entry .pre .fits) in
+    search needs
 
 -- src/copies.rt:33:9
 part-lay-end : tie.Need-part-lay-end
-part-lay-end c = let a = scalar-long (c .before .before .before .before .pre .there) (c .before .scalar-at .ensures (c .before .before .before .before .pre .shape) (c .before .before .before .before .pre .scalar) (c .before .before .before .before .pre .there)) (c .span-at .ensures .1 (c .before .before .before .before .pre .shape) (c .before .before .before .before .pre .scalar) (c .before .before .before .before .pre .there) .1) in let b = scalar-ends (c .before .before .before .before .pre .there) (c .before .scalar-at .ensures (c .before .before .before .before .pre .shape) (c .before .before .before .before .pre .scalar) (c .before .before .before .before .pre .there)) (c .span-at .ensures .1 (c .before .before .before .before .pre .shape) (c .before .before .before .before .pre .scalar) (c .before .before .before .before .pre .there) .1) in let f = scalar-fits (c .before .before .before .before .pre .there) (c .before .scalar-at .ensures (c .before .before .before .before .pre .shape) (c .before .before .before .before .pre .scalar) (c .before .before .before .before .pre .there)) (c .span-at .ensures .1 (c .before .before .before .before .pre .shape) (c .before .before .before .before .pre .scalar) (c .before .before .before .before .pre .there) .1) (c .before .before .before .before .args .to) (c .before .before .before .before .pre .fits) in search needs
+part-lay-end c =
+    let entry = c .before .before .before .before in
+    let a = scalar-long (entry .pre .there) (c .before .scalar-at .ensures (entry .pre .shape) (entry .pre .scalar) (entry .pre .there)) (c .span-at .ensures .1 (entry .pre .shape) (entry .pre .scalar) (entry .pre .there) .1) in
+    let b = scalar-ends (entry .pre .there) (c .before .scalar-at .ensures (entry .pre .shape) (entry .pre .scalar) (entry .pre .there)) (c .span-at .ensures .1 (entry .pre .shape) (entry .pre .scalar) (entry .pre .there) .1) in
+    let f = scalar-fits (entry .pre .there) (c .before .scalar-at .ensures (entry .pre .shape) (entry .pre .scalar) (entry .pre .there)) (c .span-at .ensures .1 (entry .pre .shape) (entry .pre .scalar) (entry .pre .there) .1) (entry .args .to) (entry .pre .fits) in
+    search needs
 
 -- src/copies.rt:33:5
 lay-requires : tie.Need-lay-requires
-lay-requires c κs = let a = scalar-long (c .before .before .before .before .before .before .pre .there) (c .before .before .before .scalar-at .ensures (c .before .before .before .before .before .before .pre .shape) (c .before .before .before .before .before .before .pre .scalar) (c .before .before .before .before .before .before .pre .there)) (c .before .before .span-at .ensures .1 (c .before .before .before .before .before .before .pre .shape) (c .before .before .before .before .before .before .pre .scalar) (c .before .before .before .before .before .before .pre .there) .1) in let b = scalar-ends (c .before .before .before .before .before .before .pre .there) (c .before .before .before .scalar-at .ensures (c .before .before .before .before .before .before .pre .shape) (c .before .before .before .before .before .before .pre .scalar) (c .before .before .before .before .before .before .pre .there)) (c .before .before .span-at .ensures .1 (c .before .before .before .before .before .before .pre .shape) (c .before .before .before .before .before .before .pre .scalar) (c .before .before .before .before .before .before .pre .there) .1) in let f = scalar-fits (c .before .before .before .before .before .before .pre .there) (c .before .before .before .scalar-at .ensures (c .before .before .before .before .before .before .pre .shape) (c .before .before .before .before .before .before .pre .scalar) (c .before .before .before .before .before .before .pre .there)) (c .before .before .span-at .ensures .1 (c .before .before .before .before .before .before .pre .shape) (c .before .before .before .before .before .before .pre .scalar) (c .before .before .before .before .before .before .pre .there) .1) (c .before .before .before .before .before .before .args .to) (c .before .before .before .before .before .before .pre .fits) in let q = part-long (c .before .before .before .before .before .before .args .s .now) (c .before .before .before .scalar-at .result) (c .before .before .span-at .result .end - c .before .before .before .scalar-at .result) (omega (arith, a, b)) in omega (arith, q, f)
+lay-requires c κs =
+    let entry = c .before .before .before .before .before .before in
+    let at-scalar-at = c .before .before .before in
+    let at-span-at = c .before .before in
+    let args = entry .args in
+    let a = scalar-long (entry .pre .there) (at-scalar-at .scalar-at .ensures (entry .pre .shape) (entry .pre .scalar) (entry .pre .there)) (at-span-at .span-at .ensures .1 (entry .pre .shape) (entry .pre .scalar) (entry .pre .there) .1) in
+    let b = scalar-ends (entry .pre .there) (at-scalar-at .scalar-at .ensures (entry .pre .shape) (entry .pre .scalar) (entry .pre .there)) (at-span-at .span-at .ensures .1 (entry .pre .shape) (entry .pre .scalar) (entry .pre .there) .1) in
+    let f = scalar-fits (entry .pre .there) (at-scalar-at .scalar-at .ensures (entry .pre .shape) (entry .pre .scalar) (entry .pre .there)) (at-span-at .span-at .ensures .1 (entry .pre .shape) (entry .pre .scalar) (entry .pre .there) .1) (args .to) (entry .pre .fits) in
+    let q = part-long (args .s .now) (at-scalar-at .scalar-at .result) (at-span-at .span-at .result .end - at-scalar-at .scalar-at .result) (omega (arith, a, b)) in
+    omega (arith, q, f)
 
 -- src/copies.rt:35:20
 sub-t11 : tie.Need-sub-t11
-sub-t11 c = let a = scalar-long (c .before .before .before .before .before .before .before .before .before .pre .there) (c .before .before .before .before .before .before .scalar-at .ensures (c .before .before .before .before .before .before .before .before .before .pre .shape) (c .before .before .before .before .before .before .before .before .before .pre .scalar) (c .before .before .before .before .before .before .before .before .before .pre .there)) (c .before .before .before .before .before .span-at .ensures .1 (c .before .before .before .before .before .before .before .before .before .pre .shape) (c .before .before .before .before .before .before .before .before .before .pre .scalar) (c .before .before .before .before .before .before .before .before .before .pre .there) .1) in let b = scalar-ends (c .before .before .before .before .before .before .before .before .before .pre .there) (c .before .before .before .before .before .before .scalar-at .ensures (c .before .before .before .before .before .before .before .before .before .pre .shape) (c .before .before .before .before .before .before .before .before .before .pre .scalar) (c .before .before .before .before .before .before .before .before .before .pre .there)) (c .before .before .before .before .before .span-at .ensures .1 (c .before .before .before .before .before .before .before .before .before .pre .shape) (c .before .before .before .before .before .before .before .before .before .pre .scalar) (c .before .before .before .before .before .before .before .before .before .pre .there) .1) in let f = scalar-fits (c .before .before .before .before .before .before .before .before .before .pre .there) (c .before .before .before .before .before .before .scalar-at .ensures (c .before .before .before .before .before .before .before .before .before .pre .shape) (c .before .before .before .before .before .before .before .before .before .pre .scalar) (c .before .before .before .before .before .before .before .before .before .pre .there)) (c .before .before .before .before .before .span-at .ensures .1 (c .before .before .before .before .before .before .before .before .before .pre .shape) (c .before .before .before .before .before .before .before .before .before .pre .scalar) (c .before .before .before .before .before .before .before .before .before .pre .there) .1) (c .before .before .before .before .before .before .before .before .before .args .to) (c .before .before .before .before .before .before .before .before .before .pre .fits) in search needs
+sub-t11 c =
+    let entry = c .before .before .before .before .before .before .before .before .before in
+    let at-scalar-at = c .before .before .before .before .before .before in
+    let at-span-at = c .before .before .before .before .before in
+    let a = scalar-long (entry .pre .there) (at-scalar-at .scalar-at .ensures (entry .pre .shape) (entry .pre .scalar) (entry .pre .there)) (at-span-at .span-at .ensures .1 (entry .pre .shape) (entry .pre .scalar) (entry .pre .there) .1) in
+    let b = scalar-ends (entry .pre .there) (at-scalar-at .scalar-at .ensures (entry .pre .shape) (entry .pre .scalar) (entry .pre .there)) (at-span-at .span-at .ensures .1 (entry .pre .shape) (entry .pre .scalar) (entry .pre .there) .1) in
+    let f = scalar-fits (entry .pre .there) (at-scalar-at .scalar-at .ensures (entry .pre .shape) (entry .pre .scalar) (entry .pre .there)) (at-span-at .span-at .ensures .1 (entry .pre .shape) (entry .pre .scalar) (entry .pre .there) .1) (entry .args .to) (entry .pre .fits) in
+    search needs
 
 -- src/copies.rt:35:14
 add-t16 : tie.Need-add-t16
-add-t16 c = let a = scalar-long (c .before .before .before .before .before .before .before .before .before .pre .there) (c .before .before .before .before .before .before .scalar-at .ensures (c .before .before .before .before .before .before .before .before .before .pre .shape) (c .before .before .before .before .before .before .before .before .before .pre .scalar) (c .before .before .before .before .before .before .before .before .before .pre .there)) (c .before .before .before .before .before .span-at .ensures .1 (c .before .before .before .before .before .before .before .before .before .pre .shape) (c .before .before .before .before .before .before .before .before .before .pre .scalar) (c .before .before .before .before .before .before .before .before .before .pre .there) .1) in let b = scalar-ends (c .before .before .before .before .before .before .before .before .before .pre .there) (c .before .before .before .before .before .before .scalar-at .ensures (c .before .before .before .before .before .before .before .before .before .pre .shape) (c .before .before .before .before .before .before .before .before .before .pre .scalar) (c .before .before .before .before .before .before .before .before .before .pre .there)) (c .before .before .before .before .before .span-at .ensures .1 (c .before .before .before .before .before .before .before .before .before .pre .shape) (c .before .before .before .before .before .before .before .before .before .pre .scalar) (c .before .before .before .before .before .before .before .before .before .pre .there) .1) in let f = scalar-fits (c .before .before .before .before .before .before .before .before .before .pre .there) (c .before .before .before .before .before .before .scalar-at .ensures (c .before .before .before .before .before .before .before .before .before .pre .shape) (c .before .before .before .before .before .before .before .before .before .pre .scalar) (c .before .before .before .before .before .before .before .before .before .pre .there)) (c .before .before .before .before .before .span-at .ensures .1 (c .before .before .before .before .before .before .before .before .before .pre .shape) (c .before .before .before .before .before .before .before .before .before .pre .scalar) (c .before .before .before .before .before .before .before .before .before .pre .there) .1) (c .before .before .before .before .before .before .before .before .before .args .to) (c .before .before .before .before .before .before .before .before .before .pre .fits) in search needs
+add-t16 c =
+    let entry = c .before .before .before .before .before .before .before .before .before in
+    let at-scalar-at = c .before .before .before .before .before .before in
+    let at-span-at = c .before .before .before .before .before in
+    let a = scalar-long (entry .pre .there) (at-scalar-at .scalar-at .ensures (entry .pre .shape) (entry .pre .scalar) (entry .pre .there)) (at-span-at .span-at .ensures .1 (entry .pre .shape) (entry .pre .scalar) (entry .pre .there) .1) in
+    let b = scalar-ends (entry .pre .there) (at-scalar-at .scalar-at .ensures (entry .pre .shape) (entry .pre .scalar) (entry .pre .there)) (at-span-at .span-at .ensures .1 (entry .pre .shape) (entry .pre .scalar) (entry .pre .there) .1) in
+    let f = scalar-fits (entry .pre .there) (at-scalar-at .scalar-at .ensures (entry .pre .shape) (entry .pre .scalar) (entry .pre .there)) (at-span-at .span-at .ensures .1 (entry .pre .shape) (entry .pre .scalar) (entry .pre .there) .1) (entry .args .to) (entry .pre .fits) in
+    search needs
 
 -- src/copies.rt:36:16
 sub-t17 : tie.Need-sub-t17
-sub-t17 c = let t = c .before .before .before .before .before .span-at .ensures .1 (c .before .before .before .before .before .before .before .before .before .pre .shape) (c .before .before .before .before .before .before .before .before .before .pre .scalar) (c .before .before .before .before .before .before .before .before .before .pre .there) .0 in search needs
+sub-t17 c =
+    let entry = c .before .before .before .before .before .before .before .before .before in
+    let at-span-at = c .before .before .before .before .before in
+    let t = at-span-at .span-at .ensures .1 (entry .pre .shape) (entry .pre .scalar) (entry .pre .there) .0 in
+    search needs
 
 -- src/copies.rt:25:1
 same-length : tie.Need-same-length
@@ -52,7 +94,14 @@ same-length c = search needs
 
 -- src/copies.rt:25:1
 returns : tie.Need-returns
-returns c = λ p k h. scalar-copied h (c .before .before .before .before .before .before .scalar-at .ensures p k h) (c .before .before .before .before .before .span-at .ensures .1 p k h .1) (c .before .before .before .before .before .before .before .before .before .args .out .now) (c .before .before .before .before .before .before .before .before .before .args .to) (scalar-fits (c .before .before .before .before .before .before .before .before .before .pre .there) (c .before .before .before .before .before .before .scalar-at .ensures (c .before .before .before .before .before .before .before .before .before .pre .shape) (c .before .before .before .before .before .before .before .before .before .pre .scalar) (c .before .before .before .before .before .before .before .before .before .pre .there)) (c .before .before .before .before .before .span-at .ensures .1 (c .before .before .before .before .before .before .before .before .before .pre .shape) (c .before .before .before .before .before .before .before .before .before .pre .scalar) (c .before .before .before .before .before .before .before .before .before .pre .there) .1) (c .before .before .before .before .before .before .before .before .before .args .to) (c .before .before .before .before .before .before .before .before .before .pre .fits)) (c .before .before .before .before .before .span-at .ensures .1 p k h .0) (c .before .before .lay .ensures)
+returns c =
+    let entry = c .before .before .before .before .before .before .before .before .before in
+    let at-scalar-at = c .before .before .before .before .before .before in
+    let at-span-at = c .before .before .before .before .before in
+    let at-lay = c .before .before in
+    let args = entry .args in
+    λ p k h.
+    scalar-copied h (at-scalar-at .scalar-at .ensures p k h) (at-span-at .span-at .ensures .1 p k h .1) (args .out .now) (args .to) (scalar-fits (entry .pre .there) (at-scalar-at .scalar-at .ensures (entry .pre .shape) (entry .pre .scalar) (entry .pre .there)) (at-span-at .span-at .ensures .1 (entry .pre .shape) (entry .pre .scalar) (entry .pre .there) .1) (args .to) (entry .pre .fits)) (at-span-at .span-at .ensures .1 p k h .0) (at-lay .lay .ensures)
 
 pub copy-scalar-spec : {M : Type 1} → statement M
 copy-scalar-spec =

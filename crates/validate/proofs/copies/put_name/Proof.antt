@@ -6,22 +6,32 @@ use Rattle.validate.proofs.copies.put_name.Lts as lts
 use Rattle.validate.proofs.copies.put_def.Reads as put-def-reads
 
 put-def-requires : tie.Need-put-def-requires
-put-def-requires c κs = rw (c .before .if1 .taken) at (c .before .before .before .before .before .pre)
+put-def-requires c κs =
+    let entry = c .before .before .before .before .before in
+    rw (c .before .if1 .taken) at (entry .pre)
 
 same-length : tie.Need-same-length
 same-length c = search needs
 
 returns : tie.Need-returns
-returns c = λ label st sh. c .before .before .put-def .ensures label (rw (c .before .before .before .before .if1 .taken) at st) sh
+returns c =
+    let at-if1 = c .before .before .before .before in
+    let at-put-def = c .before .before in
+    λ label st sh. at-put-def .put-def .ensures label (rw (at-if1 .if1 .taken) at st) sh
 
 put-def-requires-2 : tie.Need-put-def-requires-2
-put-def-requires-2 c κs = rw (c .before .if1 .left) at (c .before .before .before .before .before .pre)
+put-def-requires-2 c κs =
+    let entry = c .before .before .before .before .before in
+    rw (c .before .if1 .left) at (entry .pre)
 
 same-length-2 : tie.Need-same-length-2
 same-length-2 c = search needs
 
 returns-2 : tie.Need-returns-2
-returns-2 c = λ label st sh. c .before .before .put-def2 .ensures label (rw (c .before .before .before .before .if1 .left) at st) sh
+returns-2 c =
+    let at-if1 = c .before .before .before .before in
+    let at-put-def2 = c .before .before in
+    λ label st sh. at-put-def2 .put-def2 .ensures label (rw (at-if1 .if1 .left) at st) sh
 
 pub put-name-spec : {M : Type 1} → statement M
 put-name-spec =

@@ -110,7 +110,9 @@ check-fields-types-in-requires : (t : ℕ) → check-fields-lts.Need-types-in-re
   copy-fields-reads.Asked,
   copy-fields-reads.Learnt,
 ) (check-fields-at t) check-fields.Post check-fields-Inv-loop check-fields-μ-loop
-check-fields-types-in-requires t c κs = lists-countable (c .before .before .before .pre .1 .0)
+check-fields-types-in-requires t c κs =
+    let entry = c .before .before .before in
+    lists-countable (entry .pre .1 .0)
 
 check-fields-loop-holds : (t : ℕ) → check-fields-lts.Need-loop-holds (
   types-in-reads.Asked,
@@ -126,7 +128,10 @@ check-fields-loop-holds : (t : ℕ) → check-fields-lts.Need-loop-holds (
   copy-fields-reads.Asked,
   copy-fields-reads.Learnt,
 ) (check-fields-at t) check-fields.Post check-fields-Inv-loop check-fields-μ-loop
-check-fields-loop-holds t c = (refl, λ w. pacing-start w (take (c .before .before .before .before .args .to) (c .before .before .before .before .args .out .now)) (c .before .before .before .before .args .to) (c .types-in .ensures (w .type-fields) (w .type-listed) (w .type-count)))
+check-fields-loop-holds t c =
+    let entry = c .before .before .before .before in
+    let args = entry .args in
+    (refl, λ w. pacing-start w (take (args .to) (args .out .now)) (args .to) (c .types-in .ensures (w .type-fields) (w .type-listed) (w .type-count)))
 
 check-fields-sub-t28 : (t : ℕ) → check-fields-lts.Need-sub-t28 (
   types-in-reads.Asked,
@@ -142,7 +147,10 @@ check-fields-sub-t28 : (t : ℕ) → check-fields-lts.Need-sub-t28 (
   copy-fields-reads.Asked,
   copy-fields-reads.Learnt,
 ) (check-fields-at t) check-fields.Post check-fields-Inv-loop check-fields-μ-loop
-check-fields-sub-t28 t c = omega (arith, (c .before .before .loop .inv .1 (c .before .before .before .before .before .before .before .pre .1 .0)) .ahead)
+check-fields-sub-t28 t c =
+    let entry = c .before .before .before .before .before .before .before in
+    let at-loop = c .before .before in
+    omega (arith, (at-loop .loop .inv .1 (entry .pre .1 .0)) .ahead)
 
 check-fields-same-length : (t : ℕ) → check-fields-lts.Need-same-length (
   types-in-reads.Asked,
@@ -158,7 +166,9 @@ check-fields-same-length : (t : ℕ) → check-fields-lts.Need-same-length (
   copy-fields-reads.Asked,
   copy-fields-reads.Learnt,
 ) (check-fields-at t) check-fields.Post check-fields-Inv-loop check-fields-μ-loop
-check-fields-same-length t c = c .before .before .loop .inv .0
+check-fields-same-length t c =
+    let at-loop = c .before .before in
+    at-loop .loop .inv .0
 
 check-fields-returns : (t : ℕ) → check-fields-lts.Need-returns (
   types-in-reads.Asked,
@@ -174,7 +184,9 @@ check-fields-returns : (t : ℕ) → check-fields-lts.Need-returns (
   copy-fields-reads.Asked,
   copy-fields-reads.Learnt,
 ) (check-fields-at t) check-fields.Post check-fields-Inv-loop check-fields-μ-loop
-check-fields-returns t c = λ w. pacing-ended (c .before .before .loop .out) (c .before .before .loop .inv .1 w) (c .if1 .taken)
+check-fields-returns t c =
+    let at-loop = c .before .before in
+    λ w. pacing-ended (at-loop .loop .out) (at-loop .loop .inv .1 w) (c .if1 .taken)
 
 check-fields-span-at-requires : (t : ℕ) → check-fields-lts.Need-span-at-requires (
   types-in-reads.Asked,
@@ -206,7 +218,12 @@ check-fields-sub-rest : (t : ℕ) → check-fields-lts.Need-sub-rest (
   copy-fields-reads.Asked,
   copy-fields-reads.Learnt,
 ) (check-fields-at t) check-fields.Post check-fields-Inv-loop check-fields-μ-loop
-check-fields-sub-rest t c = omega (arith, first-types (c .before .before .before .before .loop .inv .1 (c .before .before .before .before .before .before .before .before .before .pre .1 .0)) (c .before .before .before .loop-test .taken) (c .before .before .if1 .left), (c .before .span-at .ensures .1 ((firsts (c .before .before .before .before .loop .inv .1 (c .before .before .before .before .before .before .before .before .before .pre .1 .0)) (c .before .before .before .loop-test .taken) (c .before .before .if1 .left)) .q) ((firsts (c .before .before .before .before .loop .inv .1 (c .before .before .before .before .before .before .before .before .before .pre .1 .0)) (c .before .before .before .loop-test .taken) (c .before .before .if1 .left)) .l) ((firsts (c .before .before .before .before .loop .inv .1 (c .before .before .before .before .before .before .before .before .before .pre .1 .0)) (c .before .before .before .loop-test .taken) (c .before .before .if1 .left)) .type-placed) .0))
+check-fields-sub-rest t c =
+    let entry = c .before .before .before .before .before .before .before .before .before in
+    let at-loop = c .before .before .before .before in
+    let at-loop-test = c .before .before .before in
+    let at-if1 = c .before .before in
+    omega (arith, first-types (at-loop .loop .inv .1 (entry .pre .1 .0)) (at-loop-test .loop-test .taken) (at-if1 .if1 .left), (c .before .span-at .ensures .1 ((firsts (at-loop .loop .inv .1 (entry .pre .1 .0)) (at-loop-test .loop-test .taken) (at-if1 .if1 .left)) .q) ((firsts (at-loop .loop .inv .1 (entry .pre .1 .0)) (at-loop-test .loop-test .taken) (at-if1 .if1 .left)) .l) ((firsts (at-loop .loop .inv .1 (entry .pre .1 .0)) (at-loop-test .loop-test .taken) (at-if1 .if1 .left)) .type-placed) .0))
 
 check-fields-add-check-type : (t : ℕ) → check-fields-lts.Need-add-check-type (
   types-in-reads.Asked,
@@ -222,7 +239,10 @@ check-fields-add-check-type : (t : ℕ) → check-fields-lts.Need-add-check-type
   copy-fields-reads.Asked,
   copy-fields-reads.Learnt,
 ) (check-fields-at t) check-fields.Post check-fields-Inv-loop check-fields-μ-loop
-check-fields-add-check-type t c = omega (arith, pacing-few (c .before .before .before .before .loop .inv .1 (c .before .before .before .before .before .before .before .before .before .pre .1 .0)))
+check-fields-add-check-type t c =
+    let entry = c .before .before .before .before .before .before .before .before .before in
+    let at-loop = c .before .before .before .before in
+    omega (arith, pacing-few (at-loop .loop .inv .1 (entry .pre .1 .0)))
 
 check-fields-check-type-requires : (t : ℕ) → check-fields-lts.Need-check-type-requires (
   types-in-reads.Asked,
@@ -238,7 +258,13 @@ check-fields-check-type-requires : (t : ℕ) → check-fields-lts.Need-check-typ
   copy-fields-reads.Asked,
   copy-fields-reads.Learnt,
 ) (check-fields-at t) check-fields.Post check-fields-Inv-loop check-fields-μ-loop
-check-fields-check-type-requires t c κs = (omega (arith, c .before .before .before .before .before .before .before .before .before .before .pre .0), ((pacing-pair (c .before .before .before .before .before .loop .inv .1 (c .before .before .before .before .before .before .before .before .before .before .pre .1 .0)) (c .before .before .before .before .loop-test .taken) (c .before .before .before .if1 .left) (first-rest (c .before .before .before .before .before .loop .inv .1 (c .before .before .before .before .before .before .before .before .before .before .pre .1 .0)) (c .before .before .before .before .loop-test .taken) (c .before .before .before .if1 .left) (c .before .before .span-at .ensures .1 ((firsts (c .before .before .before .before .before .loop .inv .1 (c .before .before .before .before .before .before .before .before .before .before .pre .1 .0)) (c .before .before .before .before .loop-test .taken) (c .before .before .before .if1 .left)) .q) ((firsts (c .before .before .before .before .before .loop .inv .1 (c .before .before .before .before .before .before .before .before .before .before .pre .1 .0)) (c .before .before .before .before .loop-test .taken) (c .before .before .before .if1 .left)) .l) ((firsts (c .before .before .before .before .before .loop .inv .1 (c .before .before .before .before .before .before .before .before .before .before .pre .1 .0)) (c .before .before .before .before .loop-test .taken) (c .before .before .before .if1 .left)) .type-placed) .0))), omega (arith, (c .before .before .before .before .before .loop .inv .1 (c .before .before .before .before .before .before .before .before .before .before .pre .1 .0)) .room, (c .before .before .before .before .before .loop .inv .1 (c .before .before .before .before .before .before .before .before .before .before .pre .1 .0)) .ahead, pacing-few (c .before .before .before .before .before .loop .inv .1 (c .before .before .before .before .before .before .before .before .before .before .pre .1 .0)), c .before .before .before .before .before .before .before .before .before .before .pre .1 .1, c .before .before .before .before .before .loop .inv .0)))
+check-fields-check-type-requires t c κs =
+    let entry = c .before .before .before .before .before .before .before .before .before .before in
+    let at-loop = c .before .before .before .before .before in
+    let at-loop-test = c .before .before .before .before in
+    let at-if1 = c .before .before .before in
+    let at-span-at = c .before .before in
+    (omega (arith, entry .pre .0), ((pacing-pair (at-loop .loop .inv .1 (entry .pre .1 .0)) (at-loop-test .loop-test .taken) (at-if1 .if1 .left) (first-rest (at-loop .loop .inv .1 (entry .pre .1 .0)) (at-loop-test .loop-test .taken) (at-if1 .if1 .left) (at-span-at .span-at .ensures .1 ((firsts (at-loop .loop .inv .1 (entry .pre .1 .0)) (at-loop-test .loop-test .taken) (at-if1 .if1 .left)) .q) ((firsts (at-loop .loop .inv .1 (entry .pre .1 .0)) (at-loop-test .loop-test .taken) (at-if1 .if1 .left)) .l) ((firsts (at-loop .loop .inv .1 (entry .pre .1 .0)) (at-loop-test .loop-test .taken) (at-if1 .if1 .left)) .type-placed) .0))), omega (arith, (at-loop .loop .inv .1 (entry .pre .1 .0)) .room, (at-loop .loop .inv .1 (entry .pre .1 .0)) .ahead, pacing-few (at-loop .loop .inv .1 (entry .pre .1 .0)), entry .pre .1 .1, at-loop .loop .inv .0)))
 
 check-fields-enum-known-w : (t : ℕ) → check-fields-lts.Need-enum-known-w (
   types-in-reads.Asked,
@@ -286,7 +312,10 @@ check-fields-same-length-2 : (t : ℕ) → check-fields-lts.Need-same-length-2 (
   copy-fields-reads.Asked,
   copy-fields-reads.Learnt,
 ) (check-fields-at t) check-fields.Post check-fields-Inv-loop check-fields-μ-loop
-check-fields-same-length-2 t c = c .before .before .before .before .check-type .kept .1 .1 .1 .1 .1 .1 .1 .0 ∙ c .before .before .before .before .before .before .before .before .before .before .loop .inv .0
+check-fields-same-length-2 t c =
+    let at-loop = c .before .before .before .before .before .before .before .before .before .before in
+    let at-check-type = c .before .before .before .before in
+    at-check-type .check-type .kept .1 .1 .1 .1 .1 .1 .1 .0 ∙ at-loop .loop .inv .0
 
 check-fields-returns-2 : (t : ℕ) → check-fields-lts.Need-returns-2 (
   types-in-reads.Asked,
@@ -302,7 +331,14 @@ check-fields-returns-2 : (t : ℕ) → check-fields-lts.Need-returns-2 (
   copy-fields-reads.Asked,
   copy-fields-reads.Learnt,
 ) (check-fields-at t) check-fields.Post check-fields-Inv-loop check-fields-μ-loop
-check-fields-returns-2 t c = λ w. pacing-stop (c .before .before .before .before .before .before .before .before .before .before .loop .inv .1 w) (c .before .before .before .before .before .before .before .before .before .loop-test .taken) (c .before .before .before .before .before .before .before .before .if1 .left) (first-rest (c .before .before .before .before .before .before .before .before .before .before .loop .inv .1 w) (c .before .before .before .before .before .before .before .before .before .loop-test .taken) (c .before .before .before .before .before .before .before .before .if1 .left) (c .before .before .before .before .before .before .before .span-at .ensures .1 ((firsts (c .before .before .before .before .before .before .before .before .before .before .loop .inv .1 w) (c .before .before .before .before .before .before .before .before .before .loop-test .taken) (c .before .before .before .before .before .before .before .before .if1 .left)) .q) ((firsts (c .before .before .before .before .before .before .before .before .before .before .loop .inv .1 w) (c .before .before .before .before .before .before .before .before .before .loop-test .taken) (c .before .before .before .before .before .before .before .before .if1 .left)) .l) ((firsts (c .before .before .before .before .before .before .before .before .before .before .loop .inv .1 w) (c .before .before .before .before .before .before .before .before .before .loop-test .taken) (c .before .before .before .before .before .before .before .before .if1 .left)) .type-placed) .0)) (c .before .before .before .before .check-type .last .1 .1 .1 .1 .1 .1 .1 .0) (c .enum-told .given .1) (c .before .before .before .before .check-type .ensures (pacing-pair (c .before .before .before .before .before .before .before .before .before .before .loop .inv .1 w) (c .before .before .before .before .before .before .before .before .before .loop-test .taken) (c .before .before .before .before .before .before .before .before .if1 .left) (first-rest (c .before .before .before .before .before .before .before .before .before .before .loop .inv .1 w) (c .before .before .before .before .before .before .before .before .before .loop-test .taken) (c .before .before .before .before .before .before .before .before .if1 .left) (c .before .before .before .before .before .before .before .span-at .ensures .1 ((firsts (c .before .before .before .before .before .before .before .before .before .before .loop .inv .1 w) (c .before .before .before .before .before .before .before .before .before .loop-test .taken) (c .before .before .before .before .before .before .before .before .if1 .left)) .q) ((firsts (c .before .before .before .before .before .before .before .before .before .before .loop .inv .1 w) (c .before .before .before .before .before .before .before .before .before .loop-test .taken) (c .before .before .before .before .before .before .before .before .if1 .left)) .l) ((firsts (c .before .before .before .before .before .before .before .before .before .before .loop .inv .1 w) (c .before .before .before .before .before .before .before .before .before .loop-test .taken) (c .before .before .before .before .before .before .before .before .if1 .left)) .type-placed) .0))) .0)
+check-fields-returns-2 t c =
+    let at-loop = c .before .before .before .before .before .before .before .before .before .before in
+    let at-loop-test = c .before .before .before .before .before .before .before .before .before in
+    let at-if1 = c .before .before .before .before .before .before .before .before in
+    let at-span-at = c .before .before .before .before .before .before .before in
+    let at-check-type = c .before .before .before .before in
+    λ w.
+    pacing-stop (at-loop .loop .inv .1 w) (at-loop-test .loop-test .taken) (at-if1 .if1 .left) (first-rest (at-loop .loop .inv .1 w) (at-loop-test .loop-test .taken) (at-if1 .if1 .left) (at-span-at .span-at .ensures .1 ((firsts (at-loop .loop .inv .1 w) (at-loop-test .loop-test .taken) (at-if1 .if1 .left)) .q) ((firsts (at-loop .loop .inv .1 w) (at-loop-test .loop-test .taken) (at-if1 .if1 .left)) .l) ((firsts (at-loop .loop .inv .1 w) (at-loop-test .loop-test .taken) (at-if1 .if1 .left)) .type-placed) .0)) (at-check-type .check-type .last .1 .1 .1 .1 .1 .1 .1 .0) (c .enum-told .given .1) (at-check-type .check-type .ensures (pacing-pair (at-loop .loop .inv .1 w) (at-loop-test .loop-test .taken) (at-if1 .if1 .left) (first-rest (at-loop .loop .inv .1 w) (at-loop-test .loop-test .taken) (at-if1 .if1 .left) (at-span-at .span-at .ensures .1 ((firsts (at-loop .loop .inv .1 w) (at-loop-test .loop-test .taken) (at-if1 .if1 .left)) .q) ((firsts (at-loop .loop .inv .1 w) (at-loop-test .loop-test .taken) (at-if1 .if1 .left)) .l) ((firsts (at-loop .loop .inv .1 w) (at-loop-test .loop-test .taken) (at-if1 .if1 .left)) .type-placed) .0))) .0)
 
 check-fields-next-type-requires : (t : ℕ) → check-fields-lts.Need-next-type-requires (
   types-in-reads.Asked,
@@ -350,7 +386,15 @@ check-fields-add-before : (t : ℕ) → check-fields-lts.Need-add-before (
   copy-fields-reads.Asked,
   copy-fields-reads.Learnt,
 ) (check-fields-at t) check-fields.Post check-fields-Inv-loop check-fields-μ-loop
-check-fields-add-before t c = omega (arith, pacing-few (pacing-next (c .before .before .before .before .before .before .before .before .before .before .before .before .before .loop .inv .1 (c .before .before .before .before .before .before .before .before .before .before .before .before .before .before .before .before .before .before .pre .1 .0)) (c .before .before .before .before .before .before .before .before .before .before .before .before .loop-test .taken) (c .before .before .before .before .before .before .before .before .before .before .before .if1 .left) (first-rest (c .before .before .before .before .before .before .before .before .before .before .before .before .before .loop .inv .1 (c .before .before .before .before .before .before .before .before .before .before .before .before .before .before .before .before .before .before .pre .1 .0)) (c .before .before .before .before .before .before .before .before .before .before .before .before .loop-test .taken) (c .before .before .before .before .before .before .before .before .before .before .before .if1 .left) (c .before .before .before .before .before .before .before .before .before .before .span-at .ensures .1 ((firsts (c .before .before .before .before .before .before .before .before .before .before .before .before .before .loop .inv .1 (c .before .before .before .before .before .before .before .before .before .before .before .before .before .before .before .before .before .before .pre .1 .0)) (c .before .before .before .before .before .before .before .before .before .before .before .before .loop-test .taken) (c .before .before .before .before .before .before .before .before .before .before .before .if1 .left)) .q) ((firsts (c .before .before .before .before .before .before .before .before .before .before .before .before .before .loop .inv .1 (c .before .before .before .before .before .before .before .before .before .before .before .before .before .before .before .before .before .before .pre .1 .0)) (c .before .before .before .before .before .before .before .before .before .before .before .before .loop-test .taken) (c .before .before .before .before .before .before .before .before .before .before .before .if1 .left)) .l) ((firsts (c .before .before .before .before .before .before .before .before .before .before .before .before .before .loop .inv .1 (c .before .before .before .before .before .before .before .before .before .before .before .before .before .before .before .before .before .before .pre .1 .0)) (c .before .before .before .before .before .before .before .before .before .before .before .before .loop-test .taken) (c .before .before .before .before .before .before .before .before .before .before .before .if1 .left)) .type-placed) .0)) (c .before .before .before .before .before .before .before .check-type .last .1 .1 .1 .1 .1 .1 .1 .0) (c .before .before .before .w .given .1) (c .before .before .before .before .before .before .before .check-type .ensures (pacing-pair (c .before .before .before .before .before .before .before .before .before .before .before .before .before .loop .inv .1 (c .before .before .before .before .before .before .before .before .before .before .before .before .before .before .before .before .before .before .pre .1 .0)) (c .before .before .before .before .before .before .before .before .before .before .before .before .loop-test .taken) (c .before .before .before .before .before .before .before .before .before .before .before .if1 .left) (first-rest (c .before .before .before .before .before .before .before .before .before .before .before .before .before .loop .inv .1 (c .before .before .before .before .before .before .before .before .before .before .before .before .before .before .before .before .before .before .pre .1 .0)) (c .before .before .before .before .before .before .before .before .before .before .before .before .loop-test .taken) (c .before .before .before .before .before .before .before .before .before .before .before .if1 .left) (c .before .before .before .before .before .before .before .before .before .before .span-at .ensures .1 ((firsts (c .before .before .before .before .before .before .before .before .before .before .before .before .before .loop .inv .1 (c .before .before .before .before .before .before .before .before .before .before .before .before .before .before .before .before .before .before .pre .1 .0)) (c .before .before .before .before .before .before .before .before .before .before .before .before .loop-test .taken) (c .before .before .before .before .before .before .before .before .before .before .before .if1 .left)) .q) ((firsts (c .before .before .before .before .before .before .before .before .before .before .before .before .before .loop .inv .1 (c .before .before .before .before .before .before .before .before .before .before .before .before .before .before .before .before .before .before .pre .1 .0)) (c .before .before .before .before .before .before .before .before .before .before .before .before .loop-test .taken) (c .before .before .before .before .before .before .before .before .before .before .before .if1 .left)) .l) ((firsts (c .before .before .before .before .before .before .before .before .before .before .before .before .before .loop .inv .1 (c .before .before .before .before .before .before .before .before .before .before .before .before .before .before .before .before .before .before .pre .1 .0)) (c .before .before .before .before .before .before .before .before .before .before .before .before .loop-test .taken) (c .before .before .before .before .before .before .before .before .before .before .before .if1 .left)) .type-placed) .0)))) (c .before .next-type .ensures ((firsts (c .before .before .before .before .before .before .before .before .before .before .before .before .before .loop .inv .1 (c .before .before .before .before .before .before .before .before .before .before .before .before .before .before .before .before .before .before .pre .1 .0)) (c .before .before .before .before .before .before .before .before .before .before .before .before .loop-test .taken) (c .before .before .before .before .before .before .before .before .before .before .before .if1 .left)) .p) ((firsts (c .before .before .before .before .before .before .before .before .before .before .before .before .before .loop .inv .1 (c .before .before .before .before .before .before .before .before .before .before .before .before .before .before .before .before .before .before .pre .1 .0)) (c .before .before .before .before .before .before .before .before .before .before .before .before .loop-test .taken) (c .before .before .before .before .before .before .before .before .before .before .before .if1 .left)) .k) ((firsts (c .before .before .before .before .before .before .before .before .before .before .before .before .before .loop .inv .1 (c .before .before .before .before .before .before .before .before .before .before .before .before .before .before .before .before .before .before .pre .1 .0)) (c .before .before .before .before .before .before .before .before .before .before .before .before .loop-test .taken) (c .before .before .before .before .before .before .before .before .before .before .before .if1 .left)) .spec-placed)) (c .next-place .ensures ∙ ap (λ e. cond (c .before .before .before .before .before .before .before .before .before .before .before .before .before .before .before .before .before .before .args .steps) e (c .before .before .before .before .before .before .before .before .before .before .before .before .before .loop .j)) (c .before .before .before .before .before .before .before .before .before .before .span-at .ensures .1 ((firsts (c .before .before .before .before .before .before .before .before .before .before .before .before .before .loop .inv .1 (c .before .before .before .before .before .before .before .before .before .before .before .before .before .before .before .before .before .before .pre .1 .0)) (c .before .before .before .before .before .before .before .before .before .before .before .before .loop-test .taken) (c .before .before .before .before .before .before .before .before .before .before .before .if1 .left)) .q) ((firsts (c .before .before .before .before .before .before .before .before .before .before .before .before .before .loop .inv .1 (c .before .before .before .before .before .before .before .before .before .before .before .before .before .before .before .before .before .before .pre .1 .0)) (c .before .before .before .before .before .before .before .before .before .before .before .before .loop-test .taken) (c .before .before .before .before .before .before .before .before .before .before .before .if1 .left)) .l) ((firsts (c .before .before .before .before .before .before .before .before .before .before .before .before .before .loop .inv .1 (c .before .before .before .before .before .before .before .before .before .before .before .before .before .before .before .before .before .before .pre .1 .0)) (c .before .before .before .before .before .before .before .before .before .before .before .before .loop-test .taken) (c .before .before .before .before .before .before .before .before .before .before .before .if1 .left)) .type-placed) .1))))
+check-fields-add-before t c =
+    let entry = c .before .before .before .before .before .before .before .before .before .before .before .before .before .before .before .before .before .before in
+    let at-loop = c .before .before .before .before .before .before .before .before .before .before .before .before .before in
+    let at-loop-test = c .before .before .before .before .before .before .before .before .before .before .before .before in
+    let at-if1 = c .before .before .before .before .before .before .before .before .before .before .before in
+    let at-span-at = c .before .before .before .before .before .before .before .before .before .before in
+    let at-check-type = c .before .before .before .before .before .before .before in
+    let at-w = c .before .before .before in
+    omega (arith, pacing-few (pacing-next (at-loop .loop .inv .1 (entry .pre .1 .0)) (at-loop-test .loop-test .taken) (at-if1 .if1 .left) (first-rest (at-loop .loop .inv .1 (entry .pre .1 .0)) (at-loop-test .loop-test .taken) (at-if1 .if1 .left) (at-span-at .span-at .ensures .1 ((firsts (at-loop .loop .inv .1 (entry .pre .1 .0)) (at-loop-test .loop-test .taken) (at-if1 .if1 .left)) .q) ((firsts (at-loop .loop .inv .1 (entry .pre .1 .0)) (at-loop-test .loop-test .taken) (at-if1 .if1 .left)) .l) ((firsts (at-loop .loop .inv .1 (entry .pre .1 .0)) (at-loop-test .loop-test .taken) (at-if1 .if1 .left)) .type-placed) .0)) (at-check-type .check-type .last .1 .1 .1 .1 .1 .1 .1 .0) (at-w .w .given .1) (at-check-type .check-type .ensures (pacing-pair (at-loop .loop .inv .1 (entry .pre .1 .0)) (at-loop-test .loop-test .taken) (at-if1 .if1 .left) (first-rest (at-loop .loop .inv .1 (entry .pre .1 .0)) (at-loop-test .loop-test .taken) (at-if1 .if1 .left) (at-span-at .span-at .ensures .1 ((firsts (at-loop .loop .inv .1 (entry .pre .1 .0)) (at-loop-test .loop-test .taken) (at-if1 .if1 .left)) .q) ((firsts (at-loop .loop .inv .1 (entry .pre .1 .0)) (at-loop-test .loop-test .taken) (at-if1 .if1 .left)) .l) ((firsts (at-loop .loop .inv .1 (entry .pre .1 .0)) (at-loop-test .loop-test .taken) (at-if1 .if1 .left)) .type-placed) .0)))) (c .before .next-type .ensures ((firsts (at-loop .loop .inv .1 (entry .pre .1 .0)) (at-loop-test .loop-test .taken) (at-if1 .if1 .left)) .p) ((firsts (at-loop .loop .inv .1 (entry .pre .1 .0)) (at-loop-test .loop-test .taken) (at-if1 .if1 .left)) .k) ((firsts (at-loop .loop .inv .1 (entry .pre .1 .0)) (at-loop-test .loop-test .taken) (at-if1 .if1 .left)) .spec-placed)) (c .next-place .ensures ∙ ap (λ e. cond (entry .args .steps) e (at-loop .loop .j)) (at-span-at .span-at .ensures .1 ((firsts (at-loop .loop .inv .1 (entry .pre .1 .0)) (at-loop-test .loop-test .taken) (at-if1 .if1 .left)) .q) ((firsts (at-loop .loop .inv .1 (entry .pre .1 .0)) (at-loop-test .loop-test .taken) (at-if1 .if1 .left)) .l) ((firsts (at-loop .loop .inv .1 (entry .pre .1 .0)) (at-loop-test .loop-test .taken) (at-if1 .if1 .left)) .type-placed) .1))))
 
 check-fields-sub-left : (t : ℕ) → check-fields-lts.Need-sub-left (
   types-in-reads.Asked,
@@ -414,7 +458,15 @@ check-fields-loop-again : (t : ℕ) → check-fields-lts.Need-loop-again (
   copy-fields-reads.Asked,
   copy-fields-reads.Learnt,
 ) (check-fields-at t) check-fields.Post check-fields-Inv-loop check-fields-μ-loop
-check-fields-loop-again t c = (c .before .before .before .before .before .before .before .check-type .kept .1 .1 .1 .1 .1 .1 .1 .0 ∙ c .before .before .before .before .before .before .before .before .before .before .before .before .before .loop .inv .0, λ w. pacing-next (c .before .before .before .before .before .before .before .before .before .before .before .before .before .loop .inv .1 w) (c .before .before .before .before .before .before .before .before .before .before .before .before .loop-test .taken) (c .before .before .before .before .before .before .before .before .before .before .before .if1 .left) (first-rest (c .before .before .before .before .before .before .before .before .before .before .before .before .before .loop .inv .1 w) (c .before .before .before .before .before .before .before .before .before .before .before .before .loop-test .taken) (c .before .before .before .before .before .before .before .before .before .before .before .if1 .left) (c .before .before .before .before .before .before .before .before .before .before .span-at .ensures .1 ((firsts (c .before .before .before .before .before .before .before .before .before .before .before .before .before .loop .inv .1 w) (c .before .before .before .before .before .before .before .before .before .before .before .before .loop-test .taken) (c .before .before .before .before .before .before .before .before .before .before .before .if1 .left)) .q) ((firsts (c .before .before .before .before .before .before .before .before .before .before .before .before .before .loop .inv .1 w) (c .before .before .before .before .before .before .before .before .before .before .before .before .loop-test .taken) (c .before .before .before .before .before .before .before .before .before .before .before .if1 .left)) .l) ((firsts (c .before .before .before .before .before .before .before .before .before .before .before .before .before .loop .inv .1 w) (c .before .before .before .before .before .before .before .before .before .before .before .before .loop-test .taken) (c .before .before .before .before .before .before .before .before .before .before .before .if1 .left)) .type-placed) .0)) (c .before .before .before .before .before .before .before .check-type .last .1 .1 .1 .1 .1 .1 .1 .0) (c .before .before .before .w .given .1) (c .before .before .before .before .before .before .before .check-type .ensures (pacing-pair (c .before .before .before .before .before .before .before .before .before .before .before .before .before .loop .inv .1 w) (c .before .before .before .before .before .before .before .before .before .before .before .before .loop-test .taken) (c .before .before .before .before .before .before .before .before .before .before .before .if1 .left) (first-rest (c .before .before .before .before .before .before .before .before .before .before .before .before .before .loop .inv .1 w) (c .before .before .before .before .before .before .before .before .before .before .before .before .loop-test .taken) (c .before .before .before .before .before .before .before .before .before .before .before .if1 .left) (c .before .before .before .before .before .before .before .before .before .before .span-at .ensures .1 ((firsts (c .before .before .before .before .before .before .before .before .before .before .before .before .before .loop .inv .1 w) (c .before .before .before .before .before .before .before .before .before .before .before .before .loop-test .taken) (c .before .before .before .before .before .before .before .before .before .before .before .if1 .left)) .q) ((firsts (c .before .before .before .before .before .before .before .before .before .before .before .before .before .loop .inv .1 w) (c .before .before .before .before .before .before .before .before .before .before .before .before .loop-test .taken) (c .before .before .before .before .before .before .before .before .before .before .before .if1 .left)) .l) ((firsts (c .before .before .before .before .before .before .before .before .before .before .before .before .before .loop .inv .1 w) (c .before .before .before .before .before .before .before .before .before .before .before .before .loop-test .taken) (c .before .before .before .before .before .before .before .before .before .before .before .if1 .left)) .type-placed) .0)))) (c .before .next-type .ensures ((firsts (c .before .before .before .before .before .before .before .before .before .before .before .before .before .loop .inv .1 w) (c .before .before .before .before .before .before .before .before .before .before .before .before .loop-test .taken) (c .before .before .before .before .before .before .before .before .before .before .before .if1 .left)) .p) ((firsts (c .before .before .before .before .before .before .before .before .before .before .before .before .before .loop .inv .1 w) (c .before .before .before .before .before .before .before .before .before .before .before .before .loop-test .taken) (c .before .before .before .before .before .before .before .before .before .before .before .if1 .left)) .k) ((firsts (c .before .before .before .before .before .before .before .before .before .before .before .before .before .loop .inv .1 w) (c .before .before .before .before .before .before .before .before .before .before .before .before .loop-test .taken) (c .before .before .before .before .before .before .before .before .before .before .before .if1 .left)) .spec-placed)) (c .next-place .ensures ∙ ap (λ e. cond (c .before .before .before .before .before .before .before .before .before .before .before .before .before .before .before .before .before .before .args .steps) e (c .before .before .before .before .before .before .before .before .before .before .before .before .before .loop .j)) (c .before .before .before .before .before .before .before .before .before .before .span-at .ensures .1 ((firsts (c .before .before .before .before .before .before .before .before .before .before .before .before .before .loop .inv .1 w) (c .before .before .before .before .before .before .before .before .before .before .before .before .loop-test .taken) (c .before .before .before .before .before .before .before .before .before .before .before .if1 .left)) .q) ((firsts (c .before .before .before .before .before .before .before .before .before .before .before .before .before .loop .inv .1 w) (c .before .before .before .before .before .before .before .before .before .before .before .before .loop-test .taken) (c .before .before .before .before .before .before .before .before .before .before .before .if1 .left)) .l) ((firsts (c .before .before .before .before .before .before .before .before .before .before .before .before .before .loop .inv .1 w) (c .before .before .before .before .before .before .before .before .before .before .before .before .loop-test .taken) (c .before .before .before .before .before .before .before .before .before .before .before .if1 .left)) .type-placed) .1)))
+check-fields-loop-again t c =
+    let entry = c .before .before .before .before .before .before .before .before .before .before .before .before .before .before .before .before .before .before in
+    let at-loop = c .before .before .before .before .before .before .before .before .before .before .before .before .before in
+    let at-loop-test = c .before .before .before .before .before .before .before .before .before .before .before .before in
+    let at-if1 = c .before .before .before .before .before .before .before .before .before .before .before in
+    let at-span-at = c .before .before .before .before .before .before .before .before .before .before in
+    let at-check-type = c .before .before .before .before .before .before .before in
+    let at-w = c .before .before .before in
+    (at-check-type .check-type .kept .1 .1 .1 .1 .1 .1 .1 .0 ∙ at-loop .loop .inv .0, λ w. pacing-next (at-loop .loop .inv .1 w) (at-loop-test .loop-test .taken) (at-if1 .if1 .left) (first-rest (at-loop .loop .inv .1 w) (at-loop-test .loop-test .taken) (at-if1 .if1 .left) (at-span-at .span-at .ensures .1 ((firsts (at-loop .loop .inv .1 w) (at-loop-test .loop-test .taken) (at-if1 .if1 .left)) .q) ((firsts (at-loop .loop .inv .1 w) (at-loop-test .loop-test .taken) (at-if1 .if1 .left)) .l) ((firsts (at-loop .loop .inv .1 w) (at-loop-test .loop-test .taken) (at-if1 .if1 .left)) .type-placed) .0)) (at-check-type .check-type .last .1 .1 .1 .1 .1 .1 .1 .0) (at-w .w .given .1) (at-check-type .check-type .ensures (pacing-pair (at-loop .loop .inv .1 w) (at-loop-test .loop-test .taken) (at-if1 .if1 .left) (first-rest (at-loop .loop .inv .1 w) (at-loop-test .loop-test .taken) (at-if1 .if1 .left) (at-span-at .span-at .ensures .1 ((firsts (at-loop .loop .inv .1 w) (at-loop-test .loop-test .taken) (at-if1 .if1 .left)) .q) ((firsts (at-loop .loop .inv .1 w) (at-loop-test .loop-test .taken) (at-if1 .if1 .left)) .l) ((firsts (at-loop .loop .inv .1 w) (at-loop-test .loop-test .taken) (at-if1 .if1 .left)) .type-placed) .0)))) (c .before .next-type .ensures ((firsts (at-loop .loop .inv .1 w) (at-loop-test .loop-test .taken) (at-if1 .if1 .left)) .p) ((firsts (at-loop .loop .inv .1 w) (at-loop-test .loop-test .taken) (at-if1 .if1 .left)) .k) ((firsts (at-loop .loop .inv .1 w) (at-loop-test .loop-test .taken) (at-if1 .if1 .left)) .spec-placed)) (c .next-place .ensures ∙ ap (λ e. cond (entry .args .steps) e (at-loop .loop .j)) (at-span-at .span-at .ensures .1 ((firsts (at-loop .loop .inv .1 w) (at-loop-test .loop-test .taken) (at-if1 .if1 .left)) .q) ((firsts (at-loop .loop .inv .1 w) (at-loop-test .loop-test .taken) (at-if1 .if1 .left)) .l) ((firsts (at-loop .loop .inv .1 w) (at-loop-test .loop-test .taken) (at-if1 .if1 .left)) .type-placed) .1)))
 
 check-fields-copy-fields-requires : (t : ℕ) → check-fields-lts.Need-copy-fields-requires (
   types-in-reads.Asked,
@@ -430,7 +482,10 @@ check-fields-copy-fields-requires : (t : ℕ) → check-fields-lts.Need-copy-fie
   copy-fields-reads.Asked,
   copy-fields-reads.Learnt,
 ) (check-fields-at t) check-fields.Post check-fields-Inv-loop check-fields-μ-loop
-check-fields-copy-fields-requires t c κs = pacing-listable (c .before .before .loop .inv .1 (c .before .before .before .before .before .before .before .pre .1 .0)) (omega (arith, c .before .before .before .before .before .before .before .pre .1 .1, c .before .before .loop .inv .0))
+check-fields-copy-fields-requires t c κs =
+    let entry = c .before .before .before .before .before .before .before in
+    let at-loop = c .before .before in
+    pacing-listable (at-loop .loop .inv .1 (entry .pre .1 .0)) (omega (arith, entry .pre .1 .1, at-loop .loop .inv .0))
 
 check-fields-enum-known-w-2 : (t : ℕ) → check-fields-lts.Need-enum-known-w-2 (
   types-in-reads.Asked,
@@ -478,7 +533,10 @@ check-fields-same-length-3 : (t : ℕ) → check-fields-lts.Need-same-length-3 (
   copy-fields-reads.Asked,
   copy-fields-reads.Learnt,
 ) (check-fields-at t) check-fields.Post check-fields-Inv-loop check-fields-μ-loop
-check-fields-same-length-3 t c = c .before .before .before .before .copy-fields .kept .1 .1 .1 .1 .0 ∙ c .before .before .before .before .before .before .before .loop .inv .0
+check-fields-same-length-3 t c =
+    let at-loop = c .before .before .before .before .before .before .before in
+    let at-copy-fields = c .before .before .before .before in
+    at-copy-fields .copy-fields .kept .1 .1 .1 .1 .0 ∙ at-loop .loop .inv .0
 
 check-fields-returns-3 : (t : ℕ) → check-fields-lts.Need-returns-3 (
   types-in-reads.Asked,
@@ -494,7 +552,12 @@ check-fields-returns-3 : (t : ℕ) → check-fields-lts.Need-returns-3 (
   copy-fields-reads.Asked,
   copy-fields-reads.Learnt,
 ) (check-fields-at t) check-fields.Post check-fields-Inv-loop check-fields-μ-loop
-check-fields-returns-3 t c = λ w. not-refused (c .before .before .before .before .copy-fields .last .1 .1 .1 .1 .0) _ ((c .before .before .before .before .copy-fields .ensures ((c .before .before .before .before .before .before .before .loop .inv .1 w) .lists .type-fields) ((c .before .before .before .before .before .before .before .loop .inv .1 w) .lists .type-listed) ((c .before .before .before .before .before .before .before .loop .inv .1 w) .lists .type-count) (pacing-fits (c .before .before .before .before .before .before .before .loop .inv .1 w) (omega (arith, c .before .before .before .before .before .before .before .before .before .before .before .before .pre .1 .1, c .before .before .before .before .before .before .before .loop .inv .0)))) .0) (c .enum-told2 .given .1)
+check-fields-returns-3 t c =
+    let entry = c .before .before .before .before .before .before .before .before .before .before .before .before in
+    let at-loop = c .before .before .before .before .before .before .before in
+    let at-copy-fields = c .before .before .before .before in
+    λ w.
+    not-refused (at-copy-fields .copy-fields .last .1 .1 .1 .1 .0) _ ((at-copy-fields .copy-fields .ensures ((at-loop .loop .inv .1 w) .lists .type-fields) ((at-loop .loop .inv .1 w) .lists .type-listed) ((at-loop .loop .inv .1 w) .lists .type-count) (pacing-fits (at-loop .loop .inv .1 w) (omega (arith, entry .pre .1 .1, at-loop .loop .inv .0)))) .0) (c .enum-told2 .given .1)
 
 check-fields-sub-t35 : (t : ℕ) → check-fields-lts.Need-sub-t35 (
   types-in-reads.Asked,
@@ -510,7 +573,10 @@ check-fields-sub-t35 : (t : ℕ) → check-fields-lts.Need-sub-t35 (
   copy-fields-reads.Asked,
   copy-fields-reads.Learnt,
 ) (check-fields-at t) check-fields.Post check-fields-Inv-loop check-fields-μ-loop
-check-fields-sub-t35 t c = omega (arith, (c .before .before .before .before .before .before .before .before .loop .inv .1 (c .before .before .before .before .before .before .before .before .before .before .before .before .before .pre .1 .0)) .ahead)
+check-fields-sub-t35 t c =
+    let entry = c .before .before .before .before .before .before .before .before .before .before .before .before .before in
+    let at-loop = c .before .before .before .before .before .before .before .before in
+    omega (arith, (at-loop .loop .inv .1 (entry .pre .1 .0)) .ahead)
 
 check-fields-add-t36 : (t : ℕ) → check-fields-lts.Need-add-t36 (
   types-in-reads.Asked,
@@ -526,7 +592,12 @@ check-fields-add-t36 : (t : ℕ) → check-fields-lts.Need-add-t36 (
   copy-fields-reads.Asked,
   copy-fields-reads.Learnt,
 ) (check-fields-at t) check-fields.Post check-fields-Inv-loop check-fields-μ-loop
-check-fields-add-t36 t c = let q = done-number (c .before .before .before .before .before .copy-fields .last .1 .1 .1 .1 .0) (take (c .before .before .before .before .before .before .before .before .loop .end) (c .before .before .before .before .before .before .before .before .loop .out)) ((c .before .before .before .before .before .before .before .before .loop .inv .1 (c .before .before .before .before .before .before .before .before .before .before .before .before .before .pre .1 .0)) .lists .type-fields) (c .before .w2 .given .1) ((c .before .before .before .before .before .copy-fields .ensures ((c .before .before .before .before .before .before .before .before .loop .inv .1 (c .before .before .before .before .before .before .before .before .before .before .before .before .before .pre .1 .0)) .lists .type-fields) ((c .before .before .before .before .before .before .before .before .loop .inv .1 (c .before .before .before .before .before .before .before .before .before .before .before .before .before .pre .1 .0)) .lists .type-listed) ((c .before .before .before .before .before .before .before .before .loop .inv .1 (c .before .before .before .before .before .before .before .before .before .before .before .before .before .pre .1 .0)) .lists .type-count) (pacing-fits (c .before .before .before .before .before .before .before .before .loop .inv .1 (c .before .before .before .before .before .before .before .before .before .before .before .before .before .pre .1 .0)) (omega (arith, c .before .before .before .before .before .before .before .before .before .before .before .before .before .pre .1 .1, c .before .before .before .before .before .before .before .before .loop .inv .0)))) .0) in omega (arith, q, (c .before .before .before .before .before .before .before .before .loop .inv .1 (c .before .before .before .before .before .before .before .before .before .before .before .before .before .pre .1 .0)) .ahead, (c .before .before .before .before .before .before .before .before .loop .inv .1 (c .before .before .before .before .before .before .before .before .before .before .before .before .before .pre .1 .0)) .number, pacing-few (c .before .before .before .before .before .before .before .before .loop .inv .1 (c .before .before .before .before .before .before .before .before .before .before .before .before .before .pre .1 .0)))
+check-fields-add-t36 t c =
+    let entry = c .before .before .before .before .before .before .before .before .before .before .before .before .before in
+    let at-loop = c .before .before .before .before .before .before .before .before in
+    let at-copy-fields = c .before .before .before .before .before in
+    let q = done-number (at-copy-fields .copy-fields .last .1 .1 .1 .1 .0) (take (at-loop .loop .end) (at-loop .loop .out)) ((at-loop .loop .inv .1 (entry .pre .1 .0)) .lists .type-fields) (c .before .w2 .given .1) ((at-copy-fields .copy-fields .ensures ((at-loop .loop .inv .1 (entry .pre .1 .0)) .lists .type-fields) ((at-loop .loop .inv .1 (entry .pre .1 .0)) .lists .type-listed) ((at-loop .loop .inv .1 (entry .pre .1 .0)) .lists .type-count) (pacing-fits (at-loop .loop .inv .1 (entry .pre .1 .0)) (omega (arith, entry .pre .1 .1, at-loop .loop .inv .0)))) .0) in
+    omega (arith, q, (at-loop .loop .inv .1 (entry .pre .1 .0)) .ahead, (at-loop .loop .inv .1 (entry .pre .1 .0)) .number, pacing-few (at-loop .loop .inv .1 (entry .pre .1 .0)))
 
 check-fields-same-length-4 : (t : ℕ) → check-fields-lts.Need-same-length-4 (
   types-in-reads.Asked,
@@ -542,7 +613,10 @@ check-fields-same-length-4 : (t : ℕ) → check-fields-lts.Need-same-length-4 (
   copy-fields-reads.Asked,
   copy-fields-reads.Learnt,
 ) (check-fields-at t) check-fields.Post check-fields-Inv-loop check-fields-μ-loop
-check-fields-same-length-4 t c = c .before .before .before .before .before .copy-fields .kept .1 .1 .1 .1 .0 ∙ c .before .before .before .before .before .before .before .before .loop .inv .0
+check-fields-same-length-4 t c =
+    let at-loop = c .before .before .before .before .before .before .before .before in
+    let at-copy-fields = c .before .before .before .before .before in
+    at-copy-fields .copy-fields .kept .1 .1 .1 .1 .0 ∙ at-loop .loop .inv .0
 
 check-fields-returns-4 : (t : ℕ) → check-fields-lts.Need-returns-4 (
   types-in-reads.Asked,
@@ -558,7 +632,13 @@ check-fields-returns-4 : (t : ℕ) → check-fields-lts.Need-returns-4 (
   copy-fields-reads.Asked,
   copy-fields-reads.Learnt,
 ) (check-fields-at t) check-fields.Post check-fields-Inv-loop check-fields-μ-loop
-check-fields-returns-4 t c = λ w. pacing-rest (c .before .before .before .before .before .before .before .before .loop .out) (c .before .before .before .before .before .before .before .before .loop .inv .1 w) (c .before .before .before .before .before .copy-fields .last .1 .1 .1 .1 .0) (omega (arith, c .before .before .before .before .before .before .before .loop-test .left)) (c .before .w2 .given .1) (c .before .before .before .before .before .copy-fields .ensures ((c .before .before .before .before .before .before .before .before .loop .inv .1 w) .lists .type-fields) ((c .before .before .before .before .before .before .before .before .loop .inv .1 w) .lists .type-listed) ((c .before .before .before .before .before .before .before .before .loop .inv .1 w) .lists .type-count) (pacing-fits (c .before .before .before .before .before .before .before .before .loop .inv .1 w) (omega (arith, c .before .before .before .before .before .before .before .before .before .before .before .before .before .pre .1 .1, c .before .before .before .before .before .before .before .before .loop .inv .0))))
+check-fields-returns-4 t c =
+    let entry = c .before .before .before .before .before .before .before .before .before .before .before .before .before in
+    let at-loop = c .before .before .before .before .before .before .before .before in
+    let at-loop-test = c .before .before .before .before .before .before .before in
+    let at-copy-fields = c .before .before .before .before .before in
+    λ w.
+    pacing-rest (at-loop .loop .out) (at-loop .loop .inv .1 w) (at-copy-fields .copy-fields .last .1 .1 .1 .1 .0) (omega (arith, at-loop-test .loop-test .left)) (c .before .w2 .given .1) (at-copy-fields .copy-fields .ensures ((at-loop .loop .inv .1 w) .lists .type-fields) ((at-loop .loop .inv .1 w) .lists .type-listed) ((at-loop .loop .inv .1 w) .lists .type-count) (pacing-fits (at-loop .loop .inv .1 w) (omega (arith, entry .pre .1 .1, at-loop .loop .inv .0))))
 
 check-scalar-at-plan-scalar-requires : (t : ℕ) → check-scalar-at-lts.Need-plan-scalar-requires (
   plan-scalar-reads.Asked,
@@ -574,7 +654,9 @@ check-scalar-at-plan-scalar-requires : (t : ℕ) → check-scalar-at-lts.Need-pl
   check-fields-below t,
   check-fields.Post,
 ) (check-scalar-at-at t) check-scalar-at.Post
-check-scalar-at-plan-scalar-requires t c κs = (c .before .before .before .pre .1 .0)
+check-scalar-at-plan-scalar-requires t c κs =
+    let entry = c .before .before .before in
+    (entry .pre .1 .0)
 
 check-scalar-at-enum-known-plan : (t : ℕ) → check-scalar-at-lts.Need-enum-known-plan (
   plan-scalar-reads.Asked,
@@ -622,7 +704,9 @@ check-scalar-at-copy-scalar-requires : (t : ℕ) → check-scalar-at-lts.Need-co
   check-fields-below t,
   check-fields.Post,
 ) (check-scalar-at-at t) check-scalar-at.Post
-check-scalar-at-copy-scalar-requires t c κs = keep-copyable (c .before .before .before .before .before .before .before .pre .1 .0) (c .before .before .before .before .before .before .before .args .to) (c .before .before .before .before .before .before .before .pre .1 .1)
+check-scalar-at-copy-scalar-requires t c κs =
+    let entry = c .before .before .before .before .before .before .before in
+    keep-copyable (entry .pre .1 .0) (entry .args .to) (entry .pre .1 .1)
 
 check-scalar-at-enum-told-2 : (t : ℕ) → check-scalar-at-lts.Need-enum-told-2 (
   plan-scalar-reads.Asked,
@@ -654,7 +738,10 @@ check-scalar-at-copy-scalar-requires-2 : (t : ℕ) → check-scalar-at-lts.Need-
   check-fields-below t,
   check-fields.Post,
 ) (check-scalar-at-at t) check-scalar-at.Post
-check-scalar-at-copy-scalar-requires-2 t c κs = take-copyable (c .before .before .before .before .before .before .before .pre .1 .0) (c .before .before .before .before .before .before .before .args .to) (plan-take (c .before .before .before .before .before .before .before .pre .1 .0) (c .before .before .before .plan-scalar .result) (c .before .before .before .plan-scalar .ensures (c .before .before .before .before .before .before .before .pre .1 .0)) (c .before .enum-told2 .given .1)) (c .before .before .before .before .before .before .before .pre .1 .1)
+check-scalar-at-copy-scalar-requires-2 t c κs =
+    let entry = c .before .before .before .before .before .before .before in
+    let at-plan-scalar = c .before .before .before in
+    take-copyable (entry .pre .1 .0) (entry .args .to) (plan-take (entry .pre .1 .0) (at-plan-scalar .plan-scalar .result) (at-plan-scalar .plan-scalar .ensures (entry .pre .1 .0)) (c .before .enum-told2 .given .1)) (entry .pre .1 .1)
 
 check-scalar-at-enum-known-plan-2 : (t : ℕ) → check-scalar-at-lts.Need-enum-known-plan-2 (
   plan-scalar-reads.Asked,
@@ -686,7 +773,9 @@ check-scalar-at-put-box-requires : (t : ℕ) → check-scalar-at-lts.Need-put-bo
   check-fields-below t,
   check-fields.Post,
 ) (check-scalar-at-at t) check-scalar-at.Post
-check-scalar-at-put-box-requires t c κs = omega (arith, c .before .before .before .before .before .before .before .before .pre .1 .1)
+check-scalar-at-put-box-requires t c κs =
+    let entry = c .before .before .before .before .before .before .before .before in
+    omega (arith, entry .pre .1 .1)
 
 check-scalar-at-add-check-type : (t : ℕ) → check-scalar-at-lts.Need-add-check-type (
   plan-scalar-reads.Asked,
@@ -702,7 +791,11 @@ check-scalar-at-add-check-type : (t : ℕ) → check-scalar-at-lts.Need-add-chec
   check-fields-below t,
   check-fields.Post,
 ) (check-scalar-at-at t) check-scalar-at.Post
-check-scalar-at-add-check-type t c = let r = some-left (c .before .before .before .before .before .before .before .before .before .before .before .args .others) (c .before .before .before .before .before .before .before .before .before .before .before .args .above) ((c .before .before .before .before .before .before .before .before .before .before .before .pre .1 .0) .type-scalar) ((c .before .before .before .before .before .before .before .before .before .before .before .pre .1 .0) .limits) in search needs
+check-scalar-at-add-check-type t c =
+    let entry = c .before .before .before .before .before .before .before .before .before .before .before in
+    let args = entry .args in
+    let r = some-left (args .others) (args .above) ((entry .pre .1 .0) .type-scalar) ((entry .pre .1 .0) .limits) in
+    search needs
 
 check-scalar-at-add-check-type-2 : (t : ℕ) → check-scalar-at-lts.Need-add-check-type-2 (
   plan-scalar-reads.Asked,
@@ -718,7 +811,11 @@ check-scalar-at-add-check-type-2 : (t : ℕ) → check-scalar-at-lts.Need-add-ch
   check-fields-below t,
   check-fields.Post,
 ) (check-scalar-at-at t) check-scalar-at.Post
-check-scalar-at-add-check-type-2 t c = let r = some-left (c .before .before .before .before .before .before .before .before .before .before .before .args .others) (c .before .before .before .before .before .before .before .before .before .before .before .args .above) ((c .before .before .before .before .before .before .before .before .before .before .before .pre .1 .0) .type-scalar) ((c .before .before .before .before .before .before .before .before .before .before .before .pre .1 .0) .limits) in search needs
+check-scalar-at-add-check-type-2 t c =
+    let entry = c .before .before .before .before .before .before .before .before .before .before .before in
+    let args = entry .args in
+    let r = some-left (args .others) (args .above) ((entry .pre .1 .0) .type-scalar) ((entry .pre .1 .0) .limits) in
+    search needs
 
 check-scalar-at-add-check-type-3 : (t : ℕ) → check-scalar-at-lts.Need-add-check-type-3 (
   plan-scalar-reads.Asked,
@@ -734,7 +831,11 @@ check-scalar-at-add-check-type-3 : (t : ℕ) → check-scalar-at-lts.Need-add-ch
   check-fields-below t,
   check-fields.Post,
 ) (check-scalar-at-at t) check-scalar-at.Post
-check-scalar-at-add-check-type-3 t c = let b : c .before .before .before .before .before .before .before .before .before .before .before .before .args .to + 6 ≤ length (c .before .before .before .before .before .before .before .before .before .before .before .before .args .out .now) = omega (arith, c .before .before .before .before .before .before .before .before .before .before .before .before .pre .1 .1) in search needs
+check-scalar-at-add-check-type-3 t c =
+    let entry = c .before .before .before .before .before .before .before .before .before .before .before .before in
+    let args = entry .args in
+    let b : args .to + 6 ≤ length (args .out .now) = omega (arith, entry .pre .1 .1) in
+    search needs
 
 check-scalar-at-check-type-requires : (t : ℕ) → check-scalar-at-lts.Need-check-type-requires (
   plan-scalar-reads.Asked,
@@ -750,7 +851,14 @@ check-scalar-at-check-type-requires : (t : ℕ) → check-scalar-at-lts.Need-che
   check-fields-below t,
   check-fields.Post,
 ) (check-scalar-at-at t) check-scalar-at.Post
-check-scalar-at-check-type-requires t c κs = let r = some-left (c .before .before .before .before .before .before .before .before .before .before .before .before .args .others) (c .before .before .before .before .before .before .before .before .before .before .before .before .args .above) ((c .before .before .before .before .before .before .before .before .before .before .before .before .pre .1 .0) .type-scalar) ((c .before .before .before .before .before .before .before .before .before .before .before .before .pre .1 .0) .limits) in (omega (arith, c .before .before .before .before .before .before .before .before .before .before .before .before .pre .0, r .1), ((plan-inside (c .before .before .before .before .before .before .before .before .before .before .before .before .pre .1 .0) (c .before .before .before .before .before .before .before .before .plan-scalar .result) (c .before .before .before .before .before .before .before .before .plan-scalar .ensures (c .before .before .before .before .before .before .before .before .before .before .before .before .pre .1 .0)) (c .before .before .before .before .before .before .plan2 .given .1)) .inner, omega (arith, c .before .before .before .before .before .before .before .before .before .before .before .before .pre .1 .1, r .0, c .before .before .before .put-box .kept .0)))
+check-scalar-at-check-type-requires t c κs =
+    let entry = c .before .before .before .before .before .before .before .before .before .before .before .before in
+    let at-plan-scalar = c .before .before .before .before .before .before .before .before in
+    let at-plan2 = c .before .before .before .before .before .before in
+    let at-put-box = c .before .before .before in
+    let args = entry .args in
+    let r = some-left (args .others) (args .above) ((entry .pre .1 .0) .type-scalar) ((entry .pre .1 .0) .limits) in
+    (omega (arith, entry .pre .0, r .1), ((plan-inside (entry .pre .1 .0) (at-plan-scalar .plan-scalar .result) (at-plan-scalar .plan-scalar .ensures (entry .pre .1 .0)) (at-plan2 .plan2 .given .1)) .inner, omega (arith, entry .pre .1 .1, r .0, at-put-box .put-box .kept .0)))
 
 check-scalar-at-enum-known-plan-3 : (t : ℕ) → check-scalar-at-lts.Need-enum-known-plan-3 (
   plan-scalar-reads.Asked,
@@ -782,7 +890,11 @@ check-scalar-at-cast-put-name : (t : ℕ) → check-scalar-at-lts.Need-cast-put-
   check-fields-below t,
   check-fields.Post,
 ) (check-scalar-at-at t) check-scalar-at.Post
-check-scalar-at-cast-put-name t c = let v = (plan-pairs (c .before .before .before .before .before .before .before .pre .1 .0) (c .before .before .before .plan-scalar .result) (c .before .before .before .plan-scalar .ensures (c .before .before .before .before .before .before .before .pre .1 .0)) (c .before .plan3 .given .1)) in omega (arith, v .few)
+check-scalar-at-cast-put-name t c =
+    let entry = c .before .before .before .before .before .before .before in
+    let at-plan-scalar = c .before .before .before in
+    let v = (plan-pairs (entry .pre .1 .0) (at-plan-scalar .plan-scalar .result) (at-plan-scalar .plan-scalar .ensures (entry .pre .1 .0)) (c .before .plan3 .given .1)) in
+    omega (arith, v .few)
 
 check-scalar-at-put-name-requires : (t : ℕ) → check-scalar-at-lts.Need-put-name-requires (
   plan-scalar-reads.Asked,
@@ -798,7 +910,12 @@ check-scalar-at-put-name-requires : (t : ℕ) → check-scalar-at-lts.Need-put-n
   check-fields-below t,
   check-fields.Post,
 ) (check-scalar-at-at t) check-scalar-at.Post
-check-scalar-at-put-name-requires t c κs = let v = (plan-pairs (c .before .before .before .before .before .before .before .before .pre .1 .0) (c .before .before .before .before .plan-scalar .result) (c .before .before .before .before .plan-scalar .ensures (c .before .before .before .before .before .before .before .before .pre .1 .0)) (c .before .before .plan3 .given .1)) in record { label = v .label; there = v .labelled; short = v .short; fits = omega (arith, c .before .before .before .before .before .before .before .before .pre .1 .1) }
+check-scalar-at-put-name-requires t c κs =
+    let entry = c .before .before .before .before .before .before .before .before in
+    let at-plan-scalar = c .before .before .before .before in
+    let at-plan3 = c .before .before in
+    let v = (plan-pairs (entry .pre .1 .0) (at-plan-scalar .plan-scalar .result) (at-plan-scalar .plan-scalar .ensures (entry .pre .1 .0)) (at-plan3 .plan3 .given .1)) in
+    record { label = v .label; there = v .labelled; short = v .short; fits = omega (arith, entry .pre .1 .1) }
 
 check-scalar-at-slice-aggregate-check-fields :
     (t : ℕ) → check-scalar-at-lts.Need-slice-aggregate-check-fields (
@@ -831,7 +948,11 @@ check-scalar-at-add-check-fields : (t : ℕ) → check-scalar-at-lts.Need-add-ch
   check-fields-below t,
   check-fields.Post,
 ) (check-scalar-at-at t) check-scalar-at.Post
-check-scalar-at-add-check-fields t c = let r = some-left (c .before .before .before .before .before .before .before .before .before .before .before .before .before .args .others) (c .before .before .before .before .before .before .before .before .before .before .before .before .before .args .above) ((c .before .before .before .before .before .before .before .before .before .before .before .before .before .pre .1 .0) .type-scalar) ((c .before .before .before .before .before .before .before .before .before .before .before .before .before .pre .1 .0) .limits) in search needs
+check-scalar-at-add-check-fields t c =
+    let entry = c .before .before .before .before .before .before .before .before .before .before .before .before .before in
+    let args = entry .args in
+    let r = some-left (args .others) (args .above) ((entry .pre .1 .0) .type-scalar) ((entry .pre .1 .0) .limits) in
+    search needs
 
 check-scalar-at-add-check-fields-2 : (t : ℕ) → check-scalar-at-lts.Need-add-check-fields-2 (
   plan-scalar-reads.Asked,
@@ -847,7 +968,11 @@ check-scalar-at-add-check-fields-2 : (t : ℕ) → check-scalar-at-lts.Need-add-
   check-fields-below t,
   check-fields.Post,
 ) (check-scalar-at-at t) check-scalar-at.Post
-check-scalar-at-add-check-fields-2 t c = let r = some-left (c .before .before .before .before .before .before .before .before .before .before .before .before .before .args .others) (c .before .before .before .before .before .before .before .before .before .before .before .before .before .args .above) ((c .before .before .before .before .before .before .before .before .before .before .before .before .before .pre .1 .0) .type-scalar) ((c .before .before .before .before .before .before .before .before .before .before .before .before .before .pre .1 .0) .limits) in search needs
+check-scalar-at-add-check-fields-2 t c =
+    let entry = c .before .before .before .before .before .before .before .before .before .before .before .before .before in
+    let args = entry .args in
+    let r = some-left (args .others) (args .above) ((entry .pre .1 .0) .type-scalar) ((entry .pre .1 .0) .limits) in
+    search needs
 
 check-scalar-at-check-fields-requires : (t : ℕ) → check-scalar-at-lts.Need-check-fields-requires (
   plan-scalar-reads.Asked,
@@ -863,7 +988,17 @@ check-scalar-at-check-fields-requires : (t : ℕ) → check-scalar-at-lts.Need-c
   check-fields-below t,
   check-fields.Post,
 ) (check-scalar-at-at t) check-scalar-at.Post
-check-scalar-at-check-fields-requires t c κs = let r = some-left (c .before .before .before .before .before .before .before .before .before .before .before .before .before .before .args .others) (c .before .before .before .before .before .before .before .before .before .before .before .before .before .before .args .above) ((c .before .before .before .before .before .before .before .before .before .before .before .before .before .before .pre .1 .0) .type-scalar) ((c .before .before .before .before .before .before .before .before .before .before .before .before .before .before .pre .1 .0) .limits) in let v = (plan-pairs (c .before .before .before .before .before .before .before .before .before .before .before .before .before .before .pre .1 .0) (c .before .before .before .before .before .before .before .before .before .before .plan-scalar .result) (c .before .before .before .before .before .before .before .before .before .before .plan-scalar .ensures (c .before .before .before .before .before .before .before .before .before .before .before .before .before .before .pre .1 .0)) (c .before .before .before .before .before .before .before .before .plan3 .given .1)) in let n = c .before .before .before .before .before .put-name .ensures (v .label) (v .labelled) (v .short) in (omega (arith, c .before .before .before .before .before .before .before .before .before .before .before .before .before .before .pre .0, r .1), (fresh-lists (c .before .before .before .before .before .before .before .before .before .before .before .before .before .before .args .ty .now) _ (v .inner) (c .before .before .if1 .taken), omega (arith, c .before .before .before .before .before .before .before .before .before .before .before .before .before .before .pre .1 .1, r .0, n .1, c .before .before .before .before .before .put-name .kept .1 .1 .1 .1 .1 .0)))
+check-scalar-at-check-fields-requires t c κs =
+    let entry = c .before .before .before .before .before .before .before .before .before .before .before .before .before .before in
+    let at-plan-scalar = c .before .before .before .before .before .before .before .before .before .before in
+    let at-plan3 = c .before .before .before .before .before .before .before .before in
+    let at-put-name = c .before .before .before .before .before in
+    let at-if1 = c .before .before in
+    let args = entry .args in
+    let r = some-left (args .others) (args .above) ((entry .pre .1 .0) .type-scalar) ((entry .pre .1 .0) .limits) in
+    let v = (plan-pairs (entry .pre .1 .0) (at-plan-scalar .plan-scalar .result) (at-plan-scalar .plan-scalar .ensures (entry .pre .1 .0)) (at-plan3 .plan3 .given .1)) in
+    let n = at-put-name .put-name .ensures (v .label) (v .labelled) (v .short) in
+    (omega (arith, entry .pre .0, r .1), (fresh-lists (args .ty .now) _ (v .inner) (at-if1 .if1 .taken), omega (arith, entry .pre .1 .1, r .0, n .1, at-put-name .put-name .kept .1 .1 .1 .1 .1 .0)))
 
 check-scalar-at-same-length : (t : ℕ) → check-scalar-at-lts.Need-same-length (
   plan-scalar-reads.Asked,
@@ -879,7 +1014,10 @@ check-scalar-at-same-length : (t : ℕ) → check-scalar-at-lts.Need-same-length
   check-fields-below t,
   check-fields.Post,
 ) (check-scalar-at-at t) check-scalar-at.Post
-check-scalar-at-same-length t c = c .before .before .check-fields .kept .1 .1 .1 .1 .1 .1 .1 .1 .1 .1 .0 ∙ c .before .before .before .before .before .before .before .before .put-name .kept .1 .1 .1 .1 .1 .0
+check-scalar-at-same-length t c =
+    let at-put-name = c .before .before .before .before .before .before .before .before in
+    let at-check-fields = c .before .before in
+    at-check-fields .check-fields .kept .1 .1 .1 .1 .1 .1 .1 .1 .1 .1 .0 ∙ at-put-name .put-name .kept .1 .1 .1 .1 .1 .0
 
 check-scalar-at-returns : (t : ℕ) → check-scalar-at-lts.Need-returns (
   plan-scalar-reads.Asked,
@@ -895,7 +1033,18 @@ check-scalar-at-returns : (t : ℕ) → check-scalar-at-lts.Need-returns (
   check-fields-below t,
   check-fields.Post,
 ) (check-scalar-at-at t) check-scalar-at.Post
-check-scalar-at-returns t c = λ w. let v = (plan-pairs w (c .before .before .before .before .before .before .before .before .before .before .before .before .before .plan-scalar .result) (c .before .before .before .before .before .before .before .before .before .before .before .before .before .plan-scalar .ensures w) (c .before .before .before .before .before .before .before .before .before .before .before .plan3 .given .1)) in let n = c .before .before .before .before .before .before .before .before .put-name .ensures (v .label) (v .labelled) (v .short) in pairs-done (take (c .before .before .before .before .before .before .before .before .before .before .before .before .before .before .before .before .before .args .to) (c .before .before .before .before .before .before .before .before .before .before .before .before .before .before .before .before .before .args .out .now)) (take (c .before .before .before .before .before .before .before .before .put-name .result) (c .before .before .before .before .before .before .before .before .put-name .last .1 .1 .1 .1 .1 .0)) (c .before .before .check-fields .last .1 .1 .1 .1 .1 .1 .1 .1 .1 .1 .0) (v .label) _ ((c .before .before .before .before .before .before .before .before .before .before .before .before .before .before .before .before .before .args .others) + 1) ((c .before .before .before .before .before .before .before .before .before .before .before .before .before .before .before .before .before .args .above) + 1) (v .inner .spec-fields) (v .inner .type-fields) (scalarOf (c .before .before .before .before .before .before .before .before .before .before .before .before .before .before .before .before .before .args .others) (c .before .before .before .before .before .before .before .before .before .before .before .before .before .before .before .before .before .args .above) w) (c .before .before .check-fields .result) (c .before .before .before .before .before .before .before .before .put-name .result) (c .before .before .before .before .before .before .before .before .before .before .before .before .before .before .before .before .before .args .to + 24) (c .before .before .check-fields .ensures (fresh-lists (c .before .before .before .before .before .before .before .before .before .before .before .before .before .before .before .before .before .args .ty .now) _ (v .inner) (c .before .before .before .before .before .if1 .taken))) (laid-behind (c .before .before .before .before .before .before .before .before .before .before .before .before .before .before .before .before .before .args .out .now) (defHead (v .label) _) (c .before .before .before .before .before .before .before .before .before .before .before .before .before .before .before .before .before .args .to) (n .0) (omega (arith, n .1, c .before .before .before .before .before .before .before .before .before .before .before .before .before .before .before .before .before .pre .1 .1)) (n .2)) (v .is) (v .inner .type-count) (n .1)
+check-scalar-at-returns t c =
+    let entry = c .before .before .before .before .before .before .before .before .before .before .before .before .before .before .before .before .before in
+    let at-plan-scalar = c .before .before .before .before .before .before .before .before .before .before .before .before .before in
+    let at-plan3 = c .before .before .before .before .before .before .before .before .before .before .before in
+    let at-put-name = c .before .before .before .before .before .before .before .before in
+    let at-if1 = c .before .before .before .before .before in
+    let at-check-fields = c .before .before in
+    let args = entry .args in
+    λ w.
+    let v = (plan-pairs w (at-plan-scalar .plan-scalar .result) (at-plan-scalar .plan-scalar .ensures w) (at-plan3 .plan3 .given .1)) in
+    let n = at-put-name .put-name .ensures (v .label) (v .labelled) (v .short) in
+    pairs-done (take (args .to) (args .out .now)) (take (at-put-name .put-name .result) (at-put-name .put-name .last .1 .1 .1 .1 .1 .0)) (at-check-fields .check-fields .last .1 .1 .1 .1 .1 .1 .1 .1 .1 .1 .0) (v .label) _ ((args .others) + 1) ((args .above) + 1) (v .inner .spec-fields) (v .inner .type-fields) (scalarOf (args .others) (args .above) w) (at-check-fields .check-fields .result) (at-put-name .put-name .result) (args .to + 24) (at-check-fields .check-fields .ensures (fresh-lists (args .ty .now) _ (v .inner) (at-if1 .if1 .taken))) (laid-behind (args .out .now) (defHead (v .label) _) (args .to) (n .0) (omega (arith, n .1, entry .pre .1 .1)) (n .2)) (v .is) (v .inner .type-count) (n .1)
 
 check-scalar-at-add-check-fields-3 : (t : ℕ) → check-scalar-at-lts.Need-add-check-fields-3 (
   plan-scalar-reads.Asked,
@@ -911,7 +1060,11 @@ check-scalar-at-add-check-fields-3 : (t : ℕ) → check-scalar-at-lts.Need-add-
   check-fields-below t,
   check-fields.Post,
 ) (check-scalar-at-at t) check-scalar-at.Post
-check-scalar-at-add-check-fields-3 t c = let r = some-left (c .before .before .before .before .before .before .before .before .before .before .before .before .args .others) (c .before .before .before .before .before .before .before .before .before .before .before .before .args .above) ((c .before .before .before .before .before .before .before .before .before .before .before .before .pre .1 .0) .type-scalar) ((c .before .before .before .before .before .before .before .before .before .before .before .before .pre .1 .0) .limits) in search needs
+check-scalar-at-add-check-fields-3 t c =
+    let entry = c .before .before .before .before .before .before .before .before .before .before .before .before in
+    let args = entry .args in
+    let r = some-left (args .others) (args .above) ((entry .pre .1 .0) .type-scalar) ((entry .pre .1 .0) .limits) in
+    search needs
 
 check-scalar-at-add-check-fields-4 : (t : ℕ) → check-scalar-at-lts.Need-add-check-fields-4 (
   plan-scalar-reads.Asked,
@@ -927,7 +1080,11 @@ check-scalar-at-add-check-fields-4 : (t : ℕ) → check-scalar-at-lts.Need-add-
   check-fields-below t,
   check-fields.Post,
 ) (check-scalar-at-at t) check-scalar-at.Post
-check-scalar-at-add-check-fields-4 t c = let r = some-left (c .before .before .before .before .before .before .before .before .before .before .before .before .args .others) (c .before .before .before .before .before .before .before .before .before .before .before .before .args .above) ((c .before .before .before .before .before .before .before .before .before .before .before .before .pre .1 .0) .type-scalar) ((c .before .before .before .before .before .before .before .before .before .before .before .before .pre .1 .0) .limits) in search needs
+check-scalar-at-add-check-fields-4 t c =
+    let entry = c .before .before .before .before .before .before .before .before .before .before .before .before in
+    let args = entry .args in
+    let r = some-left (args .others) (args .above) ((entry .pre .1 .0) .type-scalar) ((entry .pre .1 .0) .limits) in
+    search needs
 
 check-scalar-at-check-fields-requires-2 :
     (t : ℕ) → check-scalar-at-lts.Need-check-fields-requires-2 (
@@ -944,7 +1101,16 @@ check-scalar-at-check-fields-requires-2 :
       check-fields-below t,
       check-fields.Post,
     ) (check-scalar-at-at t) check-scalar-at.Post
-check-scalar-at-check-fields-requires-2 t c κs = let r = some-left (c .before .before .before .before .before .before .before .before .before .before .before .before .before .args .others) (c .before .before .before .before .before .before .before .before .before .before .before .before .before .args .above) ((c .before .before .before .before .before .before .before .before .before .before .before .before .before .pre .1 .0) .type-scalar) ((c .before .before .before .before .before .before .before .before .before .before .before .before .before .pre .1 .0) .limits) in let v = (plan-pairs (c .before .before .before .before .before .before .before .before .before .before .before .before .before .pre .1 .0) (c .before .before .before .before .before .before .before .before .before .plan-scalar .result) (c .before .before .before .before .before .before .before .before .before .plan-scalar .ensures (c .before .before .before .before .before .before .before .before .before .before .before .before .before .pre .1 .0)) (c .before .before .before .before .before .before .before .plan3 .given .1)) in let n = c .before .before .before .before .put-name .ensures (v .label) (v .labelled) (v .short) in (omega (arith, c .before .before .before .before .before .before .before .before .before .before .before .before .before .pre .0, r .1), (own-lists (c .before .before .before .before .before .before .before .before .before .before .before .before .before .args .ty .now) _ (v .inner) (c .before .if1 .left), omega (arith, c .before .before .before .before .before .before .before .before .before .before .before .before .before .pre .1 .1, r .0, n .1, c .before .before .before .before .put-name .kept .1 .1 .1 .1 .1 .0)))
+check-scalar-at-check-fields-requires-2 t c κs =
+    let entry = c .before .before .before .before .before .before .before .before .before .before .before .before .before in
+    let at-plan-scalar = c .before .before .before .before .before .before .before .before .before in
+    let at-plan3 = c .before .before .before .before .before .before .before in
+    let at-put-name = c .before .before .before .before in
+    let args = entry .args in
+    let r = some-left (args .others) (args .above) ((entry .pre .1 .0) .type-scalar) ((entry .pre .1 .0) .limits) in
+    let v = (plan-pairs (entry .pre .1 .0) (at-plan-scalar .plan-scalar .result) (at-plan-scalar .plan-scalar .ensures (entry .pre .1 .0)) (at-plan3 .plan3 .given .1)) in
+    let n = at-put-name .put-name .ensures (v .label) (v .labelled) (v .short) in
+    (omega (arith, entry .pre .0, r .1), (own-lists (args .ty .now) _ (v .inner) (c .before .if1 .left), omega (arith, entry .pre .1 .1, r .0, n .1, at-put-name .put-name .kept .1 .1 .1 .1 .1 .0)))
 
 check-scalar-at-returns-2 : (t : ℕ) → check-scalar-at-lts.Need-returns-2 (
   plan-scalar-reads.Asked,
@@ -960,7 +1126,12 @@ check-scalar-at-returns-2 : (t : ℕ) → check-scalar-at-lts.Need-returns-2 (
   check-fields-below t,
   check-fields.Post,
 ) (check-scalar-at-at t) check-scalar-at.Post
-check-scalar-at-returns-2 t c = λ w. (ap (mapped (scalarPiece (take (c .before .before .before .before .before .before .before .args .to) (c .before .before .before .before .before .before .before .args .out .now)))) (sym (plan-refuse w (c .before .before .before .plan-scalar .result) (c .before .before .before .plan-scalar .ensures w) (c .before .plan .given .1))), tt)
+check-scalar-at-returns-2 t c =
+    let entry = c .before .before .before .before .before .before .before in
+    let at-plan-scalar = c .before .before .before in
+    let args = entry .args in
+    λ w.
+    (ap (mapped (scalarPiece (take (args .to) (args .out .now)))) (sym (plan-refuse w (at-plan-scalar .plan-scalar .result) (at-plan-scalar .plan-scalar .ensures w) (c .before .plan .given .1))), tt)
 
 check-scalar-at-same-length-2 : (t : ℕ) → check-scalar-at-lts.Need-same-length-2 (
   plan-scalar-reads.Asked,
@@ -992,7 +1163,15 @@ check-scalar-at-returns-3 : (t : ℕ) → check-scalar-at-lts.Need-returns-3 (
   check-fields-below t,
   check-fields.Post,
 ) (check-scalar-at-at t) check-scalar-at.Post
-check-scalar-at-returns-3 t c = λ w. let e = c .before .before .copy-scalar .ensures (w .type-shape) (w .type-scalar) (w .type-placed) in (e .0 ∙ ap (mapped (scalarPiece (take (c .before .before .before .before .before .before .before .before .before .before .args .to) (c .before .before .before .before .before .before .before .before .before .before .args .out .now)))) (sym (plan-keep w (c .before .before .before .before .before .before .plan-scalar .result) (c .before .before .before .before .before .before .plan-scalar .ensures w) (c .before .before .before .before .enum-told .given .1))), e .1)
+check-scalar-at-returns-3 t c =
+    let entry = c .before .before .before .before .before .before .before .before .before .before in
+    let at-plan-scalar = c .before .before .before .before .before .before in
+    let at-enum-told = c .before .before .before .before in
+    let at-copy-scalar = c .before .before in
+    let args = entry .args in
+    λ w.
+    let e = at-copy-scalar .copy-scalar .ensures (w .type-shape) (w .type-scalar) (w .type-placed) in
+    (e .0 ∙ ap (mapped (scalarPiece (take (args .to) (args .out .now)))) (sym (plan-keep w (at-plan-scalar .plan-scalar .result) (at-plan-scalar .plan-scalar .ensures w) (at-enum-told .enum-told .given .1))), e .1)
 
 check-scalar-at-same-length-3 : (t : ℕ) → check-scalar-at-lts.Need-same-length-3 (
   plan-scalar-reads.Asked,
@@ -1024,7 +1203,15 @@ check-scalar-at-returns-4 : (t : ℕ) → check-scalar-at-lts.Need-returns-4 (
   check-fields-below t,
   check-fields.Post,
 ) (check-scalar-at-at t) check-scalar-at.Post
-check-scalar-at-returns-4 t c = λ w. let e = c .before .before .copy-scalar2 .ensures (w .spec-shape) (w .spec-scalar) (w .spec-placed) in (e .0 ∙ ap (mapped (scalarPiece (take (c .before .before .before .before .before .before .before .before .before .before .args .to) (c .before .before .before .before .before .before .before .before .before .before .args .out .now)))) (sym (plan-take w (c .before .before .before .before .before .before .plan-scalar .result) (c .before .before .before .before .before .before .plan-scalar .ensures w) (c .before .before .before .before .enum-told2 .given .1))), e .1)
+check-scalar-at-returns-4 t c =
+    let entry = c .before .before .before .before .before .before .before .before .before .before in
+    let at-plan-scalar = c .before .before .before .before .before .before in
+    let at-enum-told2 = c .before .before .before .before in
+    let at-copy-scalar2 = c .before .before in
+    let args = entry .args in
+    λ w.
+    let e = at-copy-scalar2 .copy-scalar2 .ensures (w .spec-shape) (w .spec-scalar) (w .spec-placed) in
+    (e .0 ∙ ap (mapped (scalarPiece (take (args .to) (args .out .now)))) (sym (plan-take w (at-plan-scalar .plan-scalar .result) (at-plan-scalar .plan-scalar .ensures w) (at-enum-told2 .enum-told2 .given .1))), e .1)
 
 check-scalar-at-same-length-4 : (t : ℕ) → check-scalar-at-lts.Need-same-length-4 (
   plan-scalar-reads.Asked,
@@ -1040,7 +1227,10 @@ check-scalar-at-same-length-4 : (t : ℕ) → check-scalar-at-lts.Need-same-leng
   check-fields-below t,
   check-fields.Post,
 ) (check-scalar-at-at t) check-scalar-at.Post
-check-scalar-at-same-length-4 t c = c .before .before .check-type .kept .1 .1 .1 .1 .1 .1 .1 .0 ∙ c .before .before .before .before .before .before .put-box .kept .0
+check-scalar-at-same-length-4 t c =
+    let at-put-box = c .before .before .before .before .before .before in
+    let at-check-type = c .before .before in
+    at-check-type .check-type .kept .1 .1 .1 .1 .1 .1 .1 .0 ∙ at-put-box .put-box .kept .0
 
 check-scalar-at-returns-5 : (t : ℕ) → check-scalar-at-lts.Need-returns-5 (
   plan-scalar-reads.Asked,
@@ -1056,7 +1246,16 @@ check-scalar-at-returns-5 : (t : ℕ) → check-scalar-at-lts.Need-returns-5 (
   check-fields-below t,
   check-fields.Post,
 ) (check-scalar-at-at t) check-scalar-at.Post
-check-scalar-at-returns-5 t c = λ w. let v = (plan-inside w (c .before .before .before .before .before .before .before .before .before .before .before .plan-scalar .result) (c .before .before .before .before .before .before .before .before .before .before .before .plan-scalar .ensures w) (c .before .before .before .before .before .before .before .before .before .plan2 .given .1)) in inside-done (take (c .before .before .before .before .before .before .before .before .before .before .before .before .before .before .before .args .to) (c .before .before .before .before .before .before .before .before .before .before .before .before .before .before .before .args .out .now)) (take (c .before .before .before .before .before .before .before .before .before .before .before .before .before .before .before .args .to + 6) (c .before .before .before .before .before .before .put-box .last .0)) (c .before .before .check-type .last .1 .1 .1 .1 .1 .1 .1 .0) (inTurn (scalarOf ((c .before .before .before .before .before .before .before .before .before .before .before .before .before .before .before .args .others) + 1) ((c .before .before .before .before .before .before .before .before .before .before .before .before .before .before .before .args .above) + 1) (v .inner)) (shapeOf (v .inner))) (scalarOf (c .before .before .before .before .before .before .before .before .before .before .before .before .before .before .before .args .others) (c .before .before .before .before .before .before .before .before .before .before .before .before .before .before .before .args .above) w) (c .before .before .check-type .result) (c .before .before .before .before .before .before .before .before .before .before .before .before .before .before .before .args .to + 6) (c .before .before .before .before .before .before .before .before .before .before .before .before .before .before .before .args .to + 24) (c .before .before .check-type .ensures (v .inner)) (laid-behind (c .before .before .before .before .before .before .before .before .before .before .before .before .before .before .before .args .out .now) (boxStart 1) (c .before .before .before .before .before .before .before .before .before .before .before .before .before .before .before .args .to) refl (omega (arith, c .before .before .before .before .before .before .before .before .before .before .before .before .before .before .before .pre .1 .1)) (c .before .before .before .before .before .before .put-box .ensures)) (v .is) (omega arith)
+check-scalar-at-returns-5 t c =
+    let entry = c .before .before .before .before .before .before .before .before .before .before .before .before .before .before .before in
+    let at-plan-scalar = c .before .before .before .before .before .before .before .before .before .before .before in
+    let at-plan2 = c .before .before .before .before .before .before .before .before .before in
+    let at-put-box = c .before .before .before .before .before .before in
+    let at-check-type = c .before .before in
+    let args = entry .args in
+    λ w.
+    let v = (plan-inside w (at-plan-scalar .plan-scalar .result) (at-plan-scalar .plan-scalar .ensures w) (at-plan2 .plan2 .given .1)) in
+    inside-done (take (args .to) (args .out .now)) (take (args .to + 6) (at-put-box .put-box .last .0)) (at-check-type .check-type .last .1 .1 .1 .1 .1 .1 .1 .0) (inTurn (scalarOf ((args .others) + 1) ((args .above) + 1) (v .inner)) (shapeOf (v .inner))) (scalarOf (args .others) (args .above) w) (at-check-type .check-type .result) (args .to + 6) (args .to + 24) (at-check-type .check-type .ensures (v .inner)) (laid-behind (args .out .now) (boxStart 1) (args .to) refl (omega (arith, entry .pre .1 .1)) (at-put-box .put-box .ensures)) (v .is) (omega arith)
 
 check-scalar-at-same-length-5 : (t : ℕ) → check-scalar-at-lts.Need-same-length-5 (
   plan-scalar-reads.Asked,
@@ -1072,7 +1271,10 @@ check-scalar-at-same-length-5 : (t : ℕ) → check-scalar-at-lts.Need-same-leng
   check-fields-below t,
   check-fields.Post,
 ) (check-scalar-at-at t) check-scalar-at.Post
-check-scalar-at-same-length-5 t c = c .before .before .check-fields2 .kept .1 .1 .1 .1 .1 .1 .1 .1 .1 .1 .0 ∙ c .before .before .before .before .before .before .before .put-name .kept .1 .1 .1 .1 .1 .0
+check-scalar-at-same-length-5 t c =
+    let at-put-name = c .before .before .before .before .before .before .before in
+    let at-check-fields2 = c .before .before in
+    at-check-fields2 .check-fields2 .kept .1 .1 .1 .1 .1 .1 .1 .1 .1 .1 .0 ∙ at-put-name .put-name .kept .1 .1 .1 .1 .1 .0
 
 check-scalar-at-returns-6 : (t : ℕ) → check-scalar-at-lts.Need-returns-6 (
   plan-scalar-reads.Asked,
@@ -1088,7 +1290,18 @@ check-scalar-at-returns-6 : (t : ℕ) → check-scalar-at-lts.Need-returns-6 (
   check-fields-below t,
   check-fields.Post,
 ) (check-scalar-at-at t) check-scalar-at.Post
-check-scalar-at-returns-6 t c = λ w. let v = (plan-pairs w (c .before .before .before .before .before .before .before .before .before .before .before .before .plan-scalar .result) (c .before .before .before .before .before .before .before .before .before .before .before .before .plan-scalar .ensures w) (c .before .before .before .before .before .before .before .before .before .before .plan3 .given .1)) in let n = c .before .before .before .before .before .before .before .put-name .ensures (v .label) (v .labelled) (v .short) in pairs-done (take (c .before .before .before .before .before .before .before .before .before .before .before .before .before .before .before .before .args .to) (c .before .before .before .before .before .before .before .before .before .before .before .before .before .before .before .before .args .out .now)) (take (c .before .before .before .before .before .before .before .put-name .result) (c .before .before .before .before .before .before .before .put-name .last .1 .1 .1 .1 .1 .0)) (c .before .before .check-fields2 .last .1 .1 .1 .1 .1 .1 .1 .1 .1 .1 .0) (v .label) _ ((c .before .before .before .before .before .before .before .before .before .before .before .before .before .before .before .before .args .others) + 1) ((c .before .before .before .before .before .before .before .before .before .before .before .before .before .before .before .before .args .above) + 1) (v .inner .spec-fields) (v .inner .type-fields) (scalarOf (c .before .before .before .before .before .before .before .before .before .before .before .before .before .before .before .before .args .others) (c .before .before .before .before .before .before .before .before .before .before .before .before .before .before .before .before .args .above) w) (c .before .before .check-fields2 .result) (c .before .before .before .before .before .before .before .put-name .result) (c .before .before .before .before .before .before .before .before .before .before .before .before .before .before .before .before .args .to + 24) (c .before .before .check-fields2 .ensures (own-lists (c .before .before .before .before .before .before .before .before .before .before .before .before .before .before .before .before .args .ty .now) _ (v .inner) (c .before .before .before .before .if1 .left))) (laid-behind (c .before .before .before .before .before .before .before .before .before .before .before .before .before .before .before .before .args .out .now) (defHead (v .label) _) (c .before .before .before .before .before .before .before .before .before .before .before .before .before .before .before .before .args .to) (n .0) (omega (arith, n .1, c .before .before .before .before .before .before .before .before .before .before .before .before .before .before .before .before .pre .1 .1)) (n .2)) (v .is) (v .inner .type-count) (n .1)
+check-scalar-at-returns-6 t c =
+    let entry = c .before .before .before .before .before .before .before .before .before .before .before .before .before .before .before .before in
+    let at-plan-scalar = c .before .before .before .before .before .before .before .before .before .before .before .before in
+    let at-plan3 = c .before .before .before .before .before .before .before .before .before .before in
+    let at-put-name = c .before .before .before .before .before .before .before in
+    let at-if1 = c .before .before .before .before in
+    let at-check-fields2 = c .before .before in
+    let args = entry .args in
+    λ w.
+    let v = (plan-pairs w (at-plan-scalar .plan-scalar .result) (at-plan-scalar .plan-scalar .ensures w) (at-plan3 .plan3 .given .1)) in
+    let n = at-put-name .put-name .ensures (v .label) (v .labelled) (v .short) in
+    pairs-done (take (args .to) (args .out .now)) (take (at-put-name .put-name .result) (at-put-name .put-name .last .1 .1 .1 .1 .1 .0)) (at-check-fields2 .check-fields2 .last .1 .1 .1 .1 .1 .1 .1 .1 .1 .1 .0) (v .label) _ ((args .others) + 1) ((args .above) + 1) (v .inner .spec-fields) (v .inner .type-fields) (scalarOf (args .others) (args .above) w) (at-check-fields2 .check-fields2 .result) (at-put-name .put-name .result) (args .to + 24) (at-check-fields2 .check-fields2 .ensures (own-lists (args .ty .now) _ (v .inner) (at-if1 .if1 .left))) (laid-behind (args .out .now) (defHead (v .label) _) (args .to) (n .0) (omega (arith, n .1, entry .pre .1 .1)) (n .2)) (v .is) (v .inner .type-count) (n .1)
 
 check-type-shape-at-requires : (t : ℕ) → check-type-lts.Need-shape-at-requires (
   shape-at-reads.Asked,
@@ -1102,7 +1315,9 @@ check-type-shape-at-requires : (t : ℕ) → check-type-lts.Need-shape-at-requir
   check-scalar-at-below t,
   check-scalar-at.Post,
 ) (check-type-at t) check-type.Post
-check-type-shape-at-requires t c κs = has-type (c .before .before .before .pre .1 .0 .spec-placed)
+check-type-shape-at-requires t c κs =
+    let entry = c .before .before .before in
+    has-type (entry .pre .1 .0 .spec-placed)
 
 check-type-shape-at-requires-2 : (t : ℕ) → check-type-lts.Need-shape-at-requires-2 (
   shape-at-reads.Asked,
@@ -1116,7 +1331,9 @@ check-type-shape-at-requires-2 : (t : ℕ) → check-type-lts.Need-shape-at-requ
   check-scalar-at-below t,
   check-scalar-at.Post,
 ) (check-type-at t) check-type.Post
-check-type-shape-at-requires-2 t c κs = has-type (c .before .before .before .before .pre .1 .0 .type-placed)
+check-type-shape-at-requires-2 t c κs =
+    let entry = c .before .before .before .before in
+    has-type (entry .pre .1 .0 .type-placed)
 
 check-type-check-shapes-requires : (t : ℕ) → check-type-lts.Need-check-shapes-requires (
   shape-at-reads.Asked,
@@ -1158,7 +1375,11 @@ check-type-put-shape-requires : (t : ℕ) → check-type-lts.Need-put-shape-requ
   check-scalar-at-below t,
   check-scalar-at.Post,
 ) (check-type-at t) check-type.Post
-check-type-put-shape-requires t c κs = let r = some-left (c .before .before .before .before .before .before .before .before .before .args .others) (c .before .before .before .before .before .before .before .before .before .args .above) ((c .before .before .before .before .before .before .before .before .before .pre .1 .0) .type-scalar) ((c .before .before .before .before .before .before .before .before .before .pre .1 .0) .limits) in omega (arith, c .before .shape-length .ensures .0, c .before .shape-length .ensures .1, c .before .before .before .before .before .before .before .before .before .pre .1 .1, r .0)
+check-type-put-shape-requires t c κs =
+    let entry = c .before .before .before .before .before .before .before .before .before in
+    let args = entry .args in
+    let r = some-left (args .others) (args .above) ((entry .pre .1 .0) .type-scalar) ((entry .pre .1 .0) .limits) in
+    omega (arith, c .before .shape-length .ensures .0, c .before .shape-length .ensures .1, entry .pre .1 .1, r .0)
 
 check-type-add-check-scalar-at : (t : ℕ) → check-type-lts.Need-add-check-scalar-at (
   shape-at-reads.Asked,
@@ -1172,7 +1393,13 @@ check-type-add-check-scalar-at : (t : ℕ) → check-type-lts.Need-add-check-sca
   check-scalar-at-below t,
   check-scalar-at.Post,
 ) (check-type-at t) check-type.Post
-check-type-add-check-scalar-at t c = let r = some-left (c .before .before .before .before .before .before .before .before .before .before .before .before .before .args .others) (c .before .before .before .before .before .before .before .before .before .before .before .before .before .args .above) ((c .before .before .before .before .before .before .before .before .before .before .before .before .before .pre .1 .0) .type-scalar) ((c .before .before .before .before .before .before .before .before .before .before .before .before .before .pre .1 .0) .limits) in let b : (c .before .before .before .before .before .before .before .before .before .before .before .before .before .args .to + c .before .before .before .before .before .shape-length .result) ≤ length (c .before .before .before .before .before .before .before .before .before .before .before .before .before .args .out .now) = omega (arith, c .before .before .before .before .before .shape-length .ensures .0, c .before .before .before .before .before .shape-length .ensures .1, c .before .before .before .before .before .before .before .before .before .before .before .before .before .pre .1 .1, r .0) in search needs
+check-type-add-check-scalar-at t c =
+    let entry = c .before .before .before .before .before .before .before .before .before .before .before .before .before in
+    let at-shape-length = c .before .before .before .before .before in
+    let args = entry .args in
+    let r = some-left (args .others) (args .above) ((entry .pre .1 .0) .type-scalar) ((entry .pre .1 .0) .limits) in
+    let b : (args .to + at-shape-length .shape-length .result) ≤ length (args .out .now) = omega (arith, at-shape-length .shape-length .ensures .0, at-shape-length .shape-length .ensures .1, entry .pre .1 .1, r .0) in
+    search needs
 
 check-type-check-scalar-at-requires : (t : ℕ) → check-type-lts.Need-check-scalar-at-requires (
   shape-at-reads.Asked,
@@ -1186,7 +1413,13 @@ check-type-check-scalar-at-requires : (t : ℕ) → check-type-lts.Need-check-sc
   check-scalar-at-below t,
   check-scalar-at.Post,
 ) (check-type-at t) check-type.Post
-check-type-check-scalar-at-requires t c κs = let r = some-left (c .before .before .before .before .before .before .before .before .before .before .before .before .before .args .others) (c .before .before .before .before .before .before .before .before .before .before .before .before .before .args .above) ((c .before .before .before .before .before .before .before .before .before .before .before .before .before .pre .1 .0) .type-scalar) ((c .before .before .before .before .before .before .before .before .before .before .before .before .before .pre .1 .0) .limits) in (omega (arith, c .before .before .before .before .before .before .before .before .before .before .before .before .before .pre .0, r .1), ((c .before .before .before .before .before .before .before .before .before .before .before .before .before .pre .1 .0), omega (arith, c .before .before .before .before .before .shape-length .ensures .0, c .before .before .before .before .before .shape-length .ensures .1, c .before .before .before .before .before .before .before .before .before .before .before .before .before .pre .1 .1, r .0, c .before .before .before .put-shape .kept .0)))
+check-type-check-scalar-at-requires t c κs =
+    let entry = c .before .before .before .before .before .before .before .before .before .before .before .before .before in
+    let at-shape-length = c .before .before .before .before .before in
+    let at-put-shape = c .before .before .before in
+    let args = entry .args in
+    let r = some-left (args .others) (args .above) ((entry .pre .1 .0) .type-scalar) ((entry .pre .1 .0) .limits) in
+    (omega (arith, entry .pre .0, r .1), ((entry .pre .1 .0), omega (arith, at-shape-length .shape-length .ensures .0, at-shape-length .shape-length .ensures .1, entry .pre .1 .1, r .0, at-put-shape .put-shape .kept .0)))
 
 check-type-enum-known-w : (t : ℕ) → check-type-lts.Need-enum-known-w (
   shape-at-reads.Asked,
@@ -1228,7 +1461,10 @@ check-type-same-length : (t : ℕ) → check-type-lts.Need-same-length (
   check-scalar-at-below t,
   check-scalar-at.Post,
 ) (check-type-at t) check-type.Post
-check-type-same-length t c = c .before .before .before .before .check-scalar-at .kept .1 .1 .1 .1 .1 .1 .0 ∙ c .before .before .before .before .before .before .before .before .put-shape .kept .0
+check-type-same-length t c =
+    let at-put-shape = c .before .before .before .before .before .before .before .before in
+    let at-check-scalar-at = c .before .before .before .before in
+    at-check-scalar-at .check-scalar-at .kept .1 .1 .1 .1 .1 .1 .0 ∙ at-put-shape .put-shape .kept .0
 
 check-type-returns : (t : ℕ) → check-type-lts.Need-returns (
   shape-at-reads.Asked,
@@ -1242,7 +1478,14 @@ check-type-returns : (t : ℕ) → check-type-lts.Need-returns (
   check-scalar-at-below t,
   check-scalar-at.Post,
 ) (check-type-at t) check-type.Post
-check-type-returns t c = λ w. type-refused (take (c .before .before .before .before .before .before .before .before .before .before .before .before .before .before .before .before .before .before .args .to) (c .before .before .before .before .before .before .before .before .before .before .before .before .before .before .before .before .before .before .args .out .now)) (take (c .before .before .before .before .before .before .before .before .before .before .before .before .before .before .before .before .before .before .args .to + c .before .before .before .before .before .before .before .before .before .before .shape-length .result) (c .before .before .before .before .before .before .before .before .put-shape .last .0)) (c .before .before .before .before .check-scalar-at .last .1 .1 .1 .1 .1 .1 .0) (scalarOf (c .before .before .before .before .before .before .before .before .before .before .before .before .before .before .before .before .before .before .args .others) (c .before .before .before .before .before .before .before .before .before .before .before .before .before .before .before .before .before .before .args .above) w) (sidedOf (sideOf (c .before .before .before .before .before .before .before .before .before .before .before .before .before .before .before .before .before .before .args .side)) w) (c .before .before .before .before .check-scalar-at .result) (c .before .before .before .before .check-scalar-at .ensures w .0) (c .before .before .before .before .before .before .before .before .before .before .before .before .before .before .before .before .before .before .args .to) (c .enum-told .given .1)
+check-type-returns t c =
+    let entry = c .before .before .before .before .before .before .before .before .before .before .before .before .before .before .before .before .before .before in
+    let at-shape-length = c .before .before .before .before .before .before .before .before .before .before in
+    let at-put-shape = c .before .before .before .before .before .before .before .before in
+    let at-check-scalar-at = c .before .before .before .before in
+    let args = entry .args in
+    λ w.
+    type-refused (take (args .to) (args .out .now)) (take (args .to + at-shape-length .shape-length .result) (at-put-shape .put-shape .last .0)) (at-check-scalar-at .check-scalar-at .last .1 .1 .1 .1 .1 .1 .0) (scalarOf (args .others) (args .above) w) (sidedOf (sideOf (args .side)) w) (at-check-scalar-at .check-scalar-at .result) (at-check-scalar-at .check-scalar-at .ensures w .0) (args .to) (c .enum-told .given .1)
 
 check-type-same-length-2 : (t : ℕ) → check-type-lts.Need-same-length-2 (
   shape-at-reads.Asked,
@@ -1256,7 +1499,10 @@ check-type-same-length-2 : (t : ℕ) → check-type-lts.Need-same-length-2 (
   check-scalar-at-below t,
   check-scalar-at.Post,
 ) (check-type-at t) check-type.Post
-check-type-same-length-2 t c = c .before .before .before .before .before .before .check-scalar-at .kept .1 .1 .1 .1 .1 .1 .0 ∙ c .before .before .before .before .before .before .before .before .before .before .put-shape .kept .0
+check-type-same-length-2 t c =
+    let at-put-shape = c .before .before .before .before .before .before .before .before .before .before in
+    let at-check-scalar-at = c .before .before .before .before .before .before in
+    at-check-scalar-at .check-scalar-at .kept .1 .1 .1 .1 .1 .1 .0 ∙ at-put-shape .put-shape .kept .0
 
 check-type-returns-2 : (t : ℕ) → check-type-lts.Need-returns-2 (
   shape-at-reads.Asked,
@@ -1270,7 +1516,18 @@ check-type-returns-2 : (t : ℕ) → check-type-lts.Need-returns-2 (
   check-scalar-at-below t,
   check-scalar-at.Post,
 ) (check-type-at t) check-type.Post
-check-type-returns-2 t c = λ w. (type-clash (take (c .before .before .before .before .before .before .before .before .before .before .before .before .before .before .before .before .before .before .before .before .args .to) (c .before .before .before .before .before .before .before .before .before .before .before .before .before .before .before .before .before .before .before .before .args .out .now)) (take (c .before .before .before .before .before .before .before .before .before .before .before .before .before .before .before .before .before .before .before .before .args .to + c .before .before .before .before .before .before .before .before .before .before .before .before .shape-length .result) (c .before .before .before .before .before .before .before .before .before .before .put-shape .last .0)) (c .before .before .before .before .before .before .check-scalar-at .last .1 .1 .1 .1 .1 .1 .0) (scalarOf (c .before .before .before .before .before .before .before .before .before .before .before .before .before .before .before .before .before .before .before .before .args .others) (c .before .before .before .before .before .before .before .before .before .before .before .before .before .before .before .before .before .before .before .before .args .above) w) (sidedOf (sideOf (c .before .before .before .before .before .before .before .before .before .before .before .before .before .before .before .before .before .before .before .before .args .side)) w) (c .before .before .before .before .before .before .check-scalar-at .result) (c .before .before .before .before .before .before .check-scalar-at .ensures w .0) (c .before .before .w .given .1) (checked-clash (c .before .before .before .before .before .before .before .before .before .before .before .before .before .before .check-shapes .result) (c .before .before .before .before .before .before .before .before .before .before .before .before .before .before .check-shapes .ensures ∙ (ap (λ x. rules.checkShape (sideOf (c .before .before .before .before .before .before .before .before .before .before .before .before .before .before .before .before .before .before .before .before .args .side)) x (shapeFor (c .before .before .before .before .before .before .before .before .before .before .before .before .before .before .before .shape-at2 .result))) (c .before .before .before .before .before .before .before .before .before .before .before .before .before .before .before .before .shape-at .ensures maxDepth (ty (w .spec-shape) (w .spec-scalar)) (type-at (w .spec-placed))) ∙ ap (rules.checkShape (sideOf (c .before .before .before .before .before .before .before .before .before .before .before .before .before .before .before .before .before .before .before .before .args .side)) (w .spec-shape)) (c .before .before .before .before .before .before .before .before .before .before .before .before .before .before .before .shape-at2 .ensures maxDepth (ty (w .type-shape) (w .type-scalar)) (type-at (w .type-placed))))) (c .if1 .taken)), tt)
+check-type-returns-2 t c =
+    let entry = c .before .before .before .before .before .before .before .before .before .before .before .before .before .before .before .before .before .before .before .before in
+    let at-shape-at = c .before .before .before .before .before .before .before .before .before .before .before .before .before .before .before .before in
+    let at-shape-at2 = c .before .before .before .before .before .before .before .before .before .before .before .before .before .before .before in
+    let at-check-shapes = c .before .before .before .before .before .before .before .before .before .before .before .before .before .before in
+    let at-shape-length = c .before .before .before .before .before .before .before .before .before .before .before .before in
+    let at-put-shape = c .before .before .before .before .before .before .before .before .before .before in
+    let at-check-scalar-at = c .before .before .before .before .before .before in
+    let at-w = c .before .before in
+    let args = entry .args in
+    λ w.
+    (type-clash (take (args .to) (args .out .now)) (take (args .to + at-shape-length .shape-length .result) (at-put-shape .put-shape .last .0)) (at-check-scalar-at .check-scalar-at .last .1 .1 .1 .1 .1 .1 .0) (scalarOf (args .others) (args .above) w) (sidedOf (sideOf (args .side)) w) (at-check-scalar-at .check-scalar-at .result) (at-check-scalar-at .check-scalar-at .ensures w .0) (at-w .w .given .1) (checked-clash (at-check-shapes .check-shapes .result) (at-check-shapes .check-shapes .ensures ∙ (ap (λ x. rules.checkShape (sideOf (args .side)) x (shapeFor (at-shape-at2 .shape-at2 .result))) (at-shape-at .shape-at .ensures maxDepth (ty (w .spec-shape) (w .spec-scalar)) (type-at (w .spec-placed))) ∙ ap (rules.checkShape (sideOf (args .side)) (w .spec-shape)) (at-shape-at2 .shape-at2 .ensures maxDepth (ty (w .type-shape) (w .type-scalar)) (type-at (w .type-placed))))) (c .if1 .taken)), tt)
 
 check-type-add-t24 : (t : ℕ) → check-type-lts.Need-add-t24 (
   shape-at-reads.Asked,
@@ -1284,7 +1541,14 @@ check-type-add-t24 : (t : ℕ) → check-type-lts.Need-add-t24 (
   check-scalar-at-below t,
   check-scalar-at.Post,
 ) (check-type-at t) check-type.Post
-check-type-add-t24 t c = let b = scalar-few (c .before .before .before .before .before .before .before .before .before .before .before .before .before .before .before .before .before .before .before .before .pre .1 .0) (c .before .before .before .before .before .before .check-scalar-at .last .1 .1 .1 .1 .1 .1 .0) (take (c .before .before .before .before .before .before .before .before .before .before .before .before .before .before .before .before .before .before .before .before .args .to + c .before .before .before .before .before .before .before .before .before .before .before .before .shape-length .result) (c .before .before .before .before .before .before .before .before .before .before .put-shape .last .0)) (c .before .before .w .given .1) (c .before .before .before .before .before .before .check-scalar-at .ensures (c .before .before .before .before .before .before .before .before .before .before .before .before .before .before .before .before .before .before .before .before .pre .1 .0) .0) in omega (arith, b)
+check-type-add-t24 t c =
+    let entry = c .before .before .before .before .before .before .before .before .before .before .before .before .before .before .before .before .before .before .before .before in
+    let at-shape-length = c .before .before .before .before .before .before .before .before .before .before .before .before in
+    let at-put-shape = c .before .before .before .before .before .before .before .before .before .before in
+    let at-check-scalar-at = c .before .before .before .before .before .before in
+    let at-w = c .before .before in
+    let b = scalar-few (entry .pre .1 .0) (at-check-scalar-at .check-scalar-at .last .1 .1 .1 .1 .1 .1 .0) (take (entry .args .to + at-shape-length .shape-length .result) (at-put-shape .put-shape .last .0)) (at-w .w .given .1) (at-check-scalar-at .check-scalar-at .ensures (entry .pre .1 .0) .0) in
+    omega (arith, b)
 
 check-type-same-length-3 : (t : ℕ) → check-type-lts.Need-same-length-3 (
   shape-at-reads.Asked,
@@ -1298,7 +1562,10 @@ check-type-same-length-3 : (t : ℕ) → check-type-lts.Need-same-length-3 (
   check-scalar-at-below t,
   check-scalar-at.Post,
 ) (check-type-at t) check-type.Post
-check-type-same-length-3 t c = c .before .before .before .before .before .before .check-scalar-at .kept .1 .1 .1 .1 .1 .1 .0 ∙ c .before .before .before .before .before .before .before .before .before .before .put-shape .kept .0
+check-type-same-length-3 t c =
+    let at-put-shape = c .before .before .before .before .before .before .before .before .before .before in
+    let at-check-scalar-at = c .before .before .before .before .before .before in
+    at-check-scalar-at .check-scalar-at .kept .1 .1 .1 .1 .1 .1 .0 ∙ at-put-shape .put-shape .kept .0
 
 check-type-returns-3 : (t : ℕ) → check-type-lts.Need-returns-3 (
   shape-at-reads.Asked,
@@ -1312,7 +1579,18 @@ check-type-returns-3 : (t : ℕ) → check-type-lts.Need-returns-3 (
   check-scalar-at-below t,
   check-scalar-at.Post,
 ) (check-type-at t) check-type.Post
-check-type-returns-3 t c = λ w. (type-done (take (c .before .before .before .before .before .before .before .before .before .before .before .before .before .before .before .before .before .before .before .before .args .to) (c .before .before .before .before .before .before .before .before .before .before .before .before .before .before .before .before .before .before .before .before .args .out .now)) (take (c .before .before .before .before .before .before .before .before .before .before .before .before .before .before .before .before .before .before .before .before .args .to + c .before .before .before .before .before .before .before .before .before .before .before .before .shape-length .result) (c .before .before .before .before .before .before .before .before .before .before .put-shape .last .0)) (c .before .before .before .before .before .before .check-scalar-at .last .1 .1 .1 .1 .1 .1 .0) (scalarOf (c .before .before .before .before .before .before .before .before .before .before .before .before .before .before .before .before .before .before .before .before .args .others) (c .before .before .before .before .before .before .before .before .before .before .before .before .before .before .before .before .before .before .before .before .args .above) w) (sidedOf (sideOf (c .before .before .before .before .before .before .before .before .before .before .before .before .before .before .before .before .before .before .before .before .args .side)) w) (c .before .before .before .before .before .before .check-scalar-at .result) (c .before .before .before .before .before .before .check-scalar-at .ensures w .0) (c .before .before .w .given .1) (shapeFor (c .before .before .before .before .before .before .before .before .before .before .before .before .before .before .check-shapes .result .shape)) (checked-fits (c .before .before .before .before .before .before .before .before .before .before .before .before .before .before .check-shapes .result) (c .before .before .before .before .before .before .before .before .before .before .before .before .before .before .check-shapes .ensures ∙ (ap (λ x. rules.checkShape (sideOf (c .before .before .before .before .before .before .before .before .before .before .before .before .before .before .before .before .before .before .before .before .args .side)) x (shapeFor (c .before .before .before .before .before .before .before .before .before .before .before .before .before .before .before .shape-at2 .result))) (c .before .before .before .before .before .before .before .before .before .before .before .before .before .before .before .before .shape-at .ensures maxDepth (ty (w .spec-shape) (w .spec-scalar)) (type-at (w .spec-placed))) ∙ ap (rules.checkShape (sideOf (c .before .before .before .before .before .before .before .before .before .before .before .before .before .before .before .before .before .before .before .before .args .side)) (w .spec-shape)) (c .before .before .before .before .before .before .before .before .before .before .before .before .before .before .before .shape-at2 .ensures maxDepth (ty (w .type-shape) (w .type-scalar)) (type-at (w .type-placed))))) (c .if1 .left)) (let r = some-left (c .before .before .before .before .before .before .before .before .before .before .before .before .before .before .before .before .before .before .before .before .args .others) (c .before .before .before .before .before .before .before .before .before .before .before .before .before .before .before .before .before .before .before .before .args .above) ((c .before .before .before .before .before .before .before .before .before .before .before .before .before .before .before .before .before .before .before .before .pre .1 .0) .type-scalar) ((c .before .before .before .before .before .before .before .before .before .before .before .before .before .before .before .before .before .before .before .before .pre .1 .0) .limits) in laid-behind (c .before .before .before .before .before .before .before .before .before .before .before .before .before .before .before .before .before .before .before .before .args .out .now) (writeShape (shapeFor (c .before .before .before .before .before .before .before .before .before .before .before .before .before .before .check-shapes .result .shape))) (c .before .before .before .before .before .before .before .before .before .before .before .before .before .before .before .before .before .before .before .before .args .to) {end = (c .before .before .before .before .before .before .before .before .before .before .before .before .before .before .before .before .before .before .before .before .args .to + c .before .before .before .before .before .before .before .before .before .before .before .before .shape-length .result)} (omega (arith, c .before .before .before .before .before .before .before .before .before .before .before .before .shape-length .ensures .0, c .before .before .before .before .before .before .before .before .before .before .before .before .shape-length .ensures .1)) (omega (arith, c .before .before .before .before .before .before .before .before .before .before .before .before .shape-length .ensures .0, c .before .before .before .before .before .before .before .before .before .before .before .before .shape-length .ensures .1, c .before .before .before .before .before .before .before .before .before .before .before .before .before .before .before .before .before .before .before .before .pre .1 .1, r .0)) (c .before .before .before .before .before .before .before .before .before .before .put-shape .ensures .1)), omega (arith, c .before .before .before .before .before .before .before .before .before .before .before .before .shape-length .ensures .0, c .before .before .before .before .before .before .before .before .before .before .before .before .shape-length .ensures .1, roomy-done ((c .before .before .before .before .before .before .before .before .before .before .before .before .before .before .before .before .before .before .before .before .args .to + c .before .before .before .before .before .before .before .before .before .before .before .before .shape-length .result) + 24) (c .before .before .w .given .1) (c .before .before .before .before .before .before .check-scalar-at .ensures w .1)))
+check-type-returns-3 t c =
+    let entry = c .before .before .before .before .before .before .before .before .before .before .before .before .before .before .before .before .before .before .before .before in
+    let at-shape-at = c .before .before .before .before .before .before .before .before .before .before .before .before .before .before .before .before in
+    let at-shape-at2 = c .before .before .before .before .before .before .before .before .before .before .before .before .before .before .before in
+    let at-check-shapes = c .before .before .before .before .before .before .before .before .before .before .before .before .before .before in
+    let at-shape-length = c .before .before .before .before .before .before .before .before .before .before .before .before in
+    let at-put-shape = c .before .before .before .before .before .before .before .before .before .before in
+    let at-check-scalar-at = c .before .before .before .before .before .before in
+    let at-w = c .before .before in
+    let args = entry .args in
+    λ w.
+    (type-done (take (args .to) (args .out .now)) (take (args .to + at-shape-length .shape-length .result) (at-put-shape .put-shape .last .0)) (at-check-scalar-at .check-scalar-at .last .1 .1 .1 .1 .1 .1 .0) (scalarOf (args .others) (args .above) w) (sidedOf (sideOf (args .side)) w) (at-check-scalar-at .check-scalar-at .result) (at-check-scalar-at .check-scalar-at .ensures w .0) (at-w .w .given .1) (shapeFor (at-check-shapes .check-shapes .result .shape)) (checked-fits (at-check-shapes .check-shapes .result) (at-check-shapes .check-shapes .ensures ∙ (ap (λ x. rules.checkShape (sideOf (args .side)) x (shapeFor (at-shape-at2 .shape-at2 .result))) (at-shape-at .shape-at .ensures maxDepth (ty (w .spec-shape) (w .spec-scalar)) (type-at (w .spec-placed))) ∙ ap (rules.checkShape (sideOf (args .side)) (w .spec-shape)) (at-shape-at2 .shape-at2 .ensures maxDepth (ty (w .type-shape) (w .type-scalar)) (type-at (w .type-placed))))) (c .if1 .left)) (let r = some-left (args .others) (args .above) ((entry .pre .1 .0) .type-scalar) ((entry .pre .1 .0) .limits) in laid-behind (args .out .now) (writeShape (shapeFor (at-check-shapes .check-shapes .result .shape))) (args .to) {end = (args .to + at-shape-length .shape-length .result)} (omega (arith, at-shape-length .shape-length .ensures .0, at-shape-length .shape-length .ensures .1)) (omega (arith, at-shape-length .shape-length .ensures .0, at-shape-length .shape-length .ensures .1, entry .pre .1 .1, r .0)) (at-put-shape .put-shape .ensures .1)), omega (arith, at-shape-length .shape-length .ensures .0, at-shape-length .shape-length .ensures .1, roomy-done ((args .to + at-shape-length .shape-length .result) + 24) (at-w .w .given .1) (at-check-scalar-at .check-scalar-at .ensures w .1)))
 
 pub +check-fields+check-scalar-at+check-type-spec : {M : Type 1} → statement M
 +check-fields+check-scalar-at+check-type-spec =

@@ -35,7 +35,12 @@ add-if1 : tie.Need-add-if1 Inv-loop μ-loop
 add-if1 c = search needs
 
 returns : tie.Need-returns Inv-loop μ-loop
-returns c = sym (equal-uneven ((dimsOf (c .before .before .before .before .args .a)) ++ (dimsOf (c .before .before .before .before .args .b))) (dimsOf (c .before .before .before .before .args .t3)) (λ e. c .if1 .taken (omega (arith, e, c .before .before .before .size-count .ensures .0, c .before .before .size-count2 .ensures .0, c .before .size-count3 .ensures .0, length-append (dimsOf (c .before .before .before .before .args .a)) (dimsOf (c .before .before .before .before .args .b))))))
+returns c =
+    let entry = c .before .before .before .before in
+    let at-size-count = c .before .before .before in
+    let at-size-count2 = c .before .before in
+    let args = entry .args in
+    sym (equal-uneven ((dimsOf (args .a)) ++ (dimsOf (args .b))) (dimsOf (args .t3)) (λ e. c .if1 .taken (omega (arith, e, at-size-count .size-count .ensures .0, at-size-count2 .size-count2 .ensures .0, c .before .size-count3 .ensures .0, length-append (dimsOf (args .a)) (dimsOf (args .b))))))
 
 loop-holds : tie.Need-loop-holds Inv-loop μ-loop
 loop-holds c = (search needs, refl)
@@ -50,7 +55,16 @@ element-copy-out-if2 : tie.Need-element-copy-out-if2 Inv-loop μ-loop
 element-copy-out-if2 c = search needs
 
 returns-2 : tie.Need-returns-2 Inv-loop μ-loop
-returns-2 c = sym (c .before .before .before .before .loop .inv .1 ∙ equal-stop ((dimsOf (c .before .before .before .before .before .before .before .before .before .args .a)) ++ (dimsOf (c .before .before .before .before .before .before .before .before .before .args .b))) (dimsOf (c .before .before .before .before .before .before .before .before .before .args .t3)) (c .before .before .before .before .loop .i) (omega (arith, c .before .before .before .before .before .if1 .left, c .before .before .before .before .before .before .before .before .size-count .ensures .0, c .before .before .before .before .before .before .before .size-count2 .ensures .0, c .before .before .before .before .before .before .size-count3 .ensures .0, length-append (dimsOf (c .before .before .before .before .before .before .before .before .before .args .a)) (dimsOf (c .before .before .before .before .before .before .before .before .before .args .b)))) (omega (arith, c .before .before .before .before .before .before .before .before .size-count .ensures .0)) (c .before .before .size-in .result) _ (c .before .before .size-in .ensures) (size-at (c .before .before .before .before .before .before .before .before .before .args .t3) (c .before .before .before .before .loop .i) (omega (arith, c .before .before .before .before .before .before .before .before .size-count .ensures .0))) (c .if2 .taken))
+returns-2 c =
+    let entry = c .before .before .before .before .before .before .before .before .before in
+    let at-size-count = c .before .before .before .before .before .before .before .before in
+    let at-size-count2 = c .before .before .before .before .before .before .before in
+    let at-size-count3 = c .before .before .before .before .before .before in
+    let at-if1 = c .before .before .before .before .before in
+    let at-loop = c .before .before .before .before in
+    let at-size-in = c .before .before in
+    let args = entry .args in
+    sym (at-loop .loop .inv .1 ∙ equal-stop ((dimsOf (args .a)) ++ (dimsOf (args .b))) (dimsOf (args .t3)) (at-loop .loop .i) (omega (arith, at-if1 .if1 .left, at-size-count .size-count .ensures .0, at-size-count2 .size-count2 .ensures .0, at-size-count3 .size-count3 .ensures .0, length-append (dimsOf (args .a)) (dimsOf (args .b)))) (omega (arith, at-size-count .size-count .ensures .0)) (at-size-in .size-in .result) _ (at-size-in .size-in .ensures) (size-at (args .t3) (at-loop .loop .i) (omega (arith, at-size-count .size-count .ensures .0))) (c .if2 .taken))
 
 add-i : tie.Need-add-i Inv-loop μ-loop
 add-i c = search needs
@@ -59,10 +73,26 @@ loop-less : tie.Need-loop-less Inv-loop μ-loop
 loop-less c = search needs
 
 loop-again : tie.Need-loop-again Inv-loop μ-loop
-loop-again c = (omega arith, c .before .before .before .before .loop .inv .1 ∙ equal-more ((dimsOf (c .before .before .before .before .before .before .before .before .before .args .a)) ++ (dimsOf (c .before .before .before .before .before .before .before .before .before .args .b))) (dimsOf (c .before .before .before .before .before .before .before .before .before .args .t3)) (c .before .before .before .before .loop .i) (omega (arith, c .before .before .before .before .before .if1 .left, c .before .before .before .before .before .before .before .before .size-count .ensures .0, c .before .before .before .before .before .before .before .size-count2 .ensures .0, c .before .before .before .before .before .before .size-count3 .ensures .0, length-append (dimsOf (c .before .before .before .before .before .before .before .before .before .args .a)) (dimsOf (c .before .before .before .before .before .before .before .before .before .args .b)))) (omega (arith, c .before .before .before .before .before .before .before .before .size-count .ensures .0)) (c .before .before .size-in .result) _ (c .before .before .size-in .ensures) (size-at (c .before .before .before .before .before .before .before .before .before .args .t3) (c .before .before .before .before .loop .i) (omega (arith, c .before .before .before .before .before .before .before .before .size-count .ensures .0))) (c .if2 .left))
+loop-again c =
+    let entry = c .before .before .before .before .before .before .before .before .before in
+    let at-size-count = c .before .before .before .before .before .before .before .before in
+    let at-size-count2 = c .before .before .before .before .before .before .before in
+    let at-size-count3 = c .before .before .before .before .before .before in
+    let at-if1 = c .before .before .before .before .before in
+    let at-loop = c .before .before .before .before in
+    let at-size-in = c .before .before in
+    let args = entry .args in
+    (omega arith, at-loop .loop .inv .1 ∙ equal-more ((dimsOf (args .a)) ++ (dimsOf (args .b))) (dimsOf (args .t3)) (at-loop .loop .i) (omega (arith, at-if1 .if1 .left, at-size-count .size-count .ensures .0, at-size-count2 .size-count2 .ensures .0, at-size-count3 .size-count3 .ensures .0, length-append (dimsOf (args .a)) (dimsOf (args .b)))) (omega (arith, at-size-count .size-count .ensures .0)) (at-size-in .size-in .result) _ (at-size-in .size-in .ensures) (size-at (args .t3) (at-loop .loop .i) (omega (arith, at-size-count .size-count .ensures .0))) (c .if2 .left))
 
 returns-3 : tie.Need-returns-3 Inv-loop μ-loop
-returns-3 c = sym (c .before .loop .inv .1 ∙ equal-end (c .before .loop .i) ((dimsOf (c .before .before .before .before .before .before .args .a)) ++ (dimsOf (c .before .before .before .before .before .before .args .b))) (dimsOf (c .before .before .before .before .before .before .args .t3)) (omega (arith, c .before .before .if1 .left, c .before .before .before .before .before .size-count .ensures .0, c .before .before .before .before .size-count2 .ensures .0, c .before .before .before .size-count3 .ensures .0, length-append (dimsOf (c .before .before .before .before .before .before .args .a)) (dimsOf (c .before .before .before .before .before .before .args .b)))) (omega (arith, c .before .before .before .before .before .size-count .ensures .0)))
+returns-3 c =
+    let entry = c .before .before .before .before .before .before in
+    let at-size-count = c .before .before .before .before .before in
+    let at-size-count2 = c .before .before .before .before in
+    let at-size-count3 = c .before .before .before in
+    let at-if1 = c .before .before in
+    let args = entry .args in
+    sym (c .before .loop .inv .1 ∙ equal-end (c .before .loop .i) ((dimsOf (args .a)) ++ (dimsOf (args .b))) (dimsOf (args .t3)) (omega (arith, at-if1 .if1 .left, at-size-count .size-count .ensures .0, at-size-count2 .size-count2 .ensures .0, at-size-count3 .size-count3 .ensures .0, length-append (dimsOf (args .a)) (dimsOf (args .b)))) (omega (arith, at-size-count .size-count .ensures .0)))
 
 pub equal-dims-spec : {M : Type 1} → statement M
 equal-dims-spec =

@@ -17,7 +17,11 @@ element-copy-out-result : tie.Need-element-copy-out-result
 element-copy-out-result c = search needs
 
 returns : tie.Need-returns
-returns c = size-in-first (c .before .before .before .args .t1) (c .before .before .before .args .t2) (c .before .before .before .args .i) (c .before .before .size-count .ensures .0) (c .before .if1 .taken)
+returns c =
+    let entry = c .before .before .before in
+    let at-size-count = c .before .before in
+    let args = entry .args in
+    size-in-first (args .t1) (args .t2) (args .i) (at-size-count .size-count .ensures .0) (c .before .if1 .taken)
 
 size-count-requires-2 : tie.Need-size-count-requires-2
 size-count-requires-2 c κs = search needs
@@ -29,10 +33,21 @@ element-copy-out-result-2 : tie.Need-element-copy-out-result-2
 element-copy-out-result-2 c = search needs
 
 returns-2 : tie.Need-returns-2
-returns-2 c = size-in-second (c .before .before .before .before .before .args .t1) (c .before .before .before .before .before .args .t2) (c .before .before .before .before .before .args .i) (c .before .before .before .before .size-count .ensures .0) (c .before .before .before .if1 .left) (omega (arith, c .before .before .size-count2 .ensures .0))
+returns-2 c =
+    let entry = c .before .before .before .before .before in
+    let at-size-count = c .before .before .before .before in
+    let at-if1 = c .before .before .before in
+    let at-size-count2 = c .before .before in
+    let args = entry .args in
+    size-in-second (args .t1) (args .t2) (args .i) (at-size-count .size-count .ensures .0) (at-if1 .if1 .left) (omega (arith, at-size-count2 .size-count2 .ensures .0))
 
 returns-3 : tie.Need-returns-3
-returns-3 c = size-in-neither (c .before .before .before .before .args .t1) (c .before .before .before .before .args .t2) (c .before .before .before .before .args .i) (c .before .before .before .size-count .ensures .0) (c .before .before .if1 .left) (omega (arith, c .before .size-count2 .ensures .0))
+returns-3 c =
+    let entry = c .before .before .before .before in
+    let at-size-count = c .before .before .before in
+    let at-if1 = c .before .before in
+    let args = entry .args in
+    size-in-neither (args .t1) (args .t2) (args .i) (at-size-count .size-count .ensures .0) (at-if1 .if1 .left) (omega (arith, c .before .size-count2 .ensures .0))
 
 pub size-in-spec : {M : Type 1} → statement M
 size-in-spec =

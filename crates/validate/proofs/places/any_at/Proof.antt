@@ -19,11 +19,15 @@ returns c = λ p k h. any-opened (c .if1 .taken) p h
 
 -- src/places.rt:82:7
 add-result : tie.Need-add-result
-add-result c = omega (arith, counts-inside (c .before .before .pre .shape) (c .before .before .pre .there))
+add-result c =
+    let entry = c .before .before in
+    omega (arith, counts-inside (entry .pre .shape) (entry .pre .there))
 
 -- src/places.rt:82:5
 shared-slice-read-result : tie.Need-shared-slice-read-result
-shared-slice-read-result c = omega (arith, counts-inside (c .before .before .before .pre .shape) (c .before .before .before .pre .there))
+shared-slice-read-result c =
+    let entry = c .before .before .before in
+    omega (arith, counts-inside (entry .pre .shape) (entry .pre .there))
 
 -- src/places.rt:75:1
 returns-2 : tie.Need-returns-2

@@ -23,10 +23,22 @@ enum-told-2 : tie.Need-enum-told-2
 enum-told-2 c = search needs
 
 returns : tie.Need-returns
-returns c = λ p k h. fits-known h (λ i. omega (arith, c .before .before .before .shared-slice-known .given i)) (c .before .before .before .before .args .others) (c .before .before .before .before .args .above) (c .before .before .before .before .pre .0) (c .before .before .before .before .pre .1) _ (c .before .before .read-type .ensures) (c .enum-told .given .1)
+returns c =
+    let entry = c .before .before .before .before in
+    let at-shared-slice-known = c .before .before .before in
+    let at-read-type = c .before .before in
+    let args = entry .args in
+    λ p k h.
+    fits-known h (λ i. omega (arith, at-shared-slice-known .shared-slice-known .given i)) (args .others) (args .above) (entry .pre .0) (entry .pre .1) _ (at-read-type .read-type .ensures) (c .enum-told .given .1)
 
 returns-2 : tie.Need-returns-2
-returns-2 c = λ p k h. fits-told h (λ i. omega (arith, c .before .before .before .shared-slice-known .given i)) (c .before .before .before .before .args .others) (c .before .before .before .before .args .above) (c .before .before .before .before .pre .0) (c .before .before .before .before .pre .1) _ (c .before .before .read-type .ensures) (c .enum-told2 .given .1)
+returns-2 c =
+    let entry = c .before .before .before .before in
+    let at-shared-slice-known = c .before .before .before in
+    let at-read-type = c .before .before in
+    let args = entry .args in
+    λ p k h.
+    fits-told h (λ i. omega (arith, at-shared-slice-known .shared-slice-known .given i)) (args .others) (args .above) (entry .pre .0) (entry .pre .1) _ (at-read-type .read-type .ensures) (c .enum-told2 .given .1)
 
 pub fits-at-spec : {M : Type 1} → statement M
 fits-at-spec =

@@ -14,7 +14,9 @@ scalar-known-requires c κs = has-shape (c .before .pre)
 
 -- src/places.rt:25:1
 returns : tie.Need-returns
-returns c = λ p k h. c .scalar-known .ensures p (c .before .before .args .at + length (writeShape p)) (shape-read h)
+returns c =
+    let entry = c .before .before in
+    λ p k h. c .scalar-known .ensures p (entry .args .at + length (writeShape p)) (shape-read h)
 
 pub scalar-at-spec : {M : Type 1} → statement M
 scalar-at-spec = tie.close (tie.spec scalar-known-requires returns)

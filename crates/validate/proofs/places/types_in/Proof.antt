@@ -30,7 +30,11 @@ span-at-requires c κs = search needs
 
 -- src/places.rt:156:9
 add-types : tie.Need-add-types Inv-loop μ-loop
-add-types c = let g = c .before .before .before .loop .inv (c .before .before .before .before .before .pre .fields) (c .before .before .before .before .before .pre .there) (c .before .before .before .before .before .pre .counted) in omega (arith, g .number, c .before .before .before .before .before .pre .few, c .before .span-at .ensures .0)
+add-types c =
+    let entry = c .before .before .before .before .before in
+    let at-loop = c .before .before .before in
+    let g = at-loop .loop .inv (entry .pre .fields) (entry .pre .there) (entry .pre .counted) in
+    omega (arith, g .number, entry .pre .few, c .before .span-at .ensures .0)
 
 -- src/places.rt:157:9
 next-place-requires : tie.Need-next-place-requires Inv-loop μ-loop
@@ -46,7 +50,13 @@ loop-less c = search needs
 
 -- src/places.rt:154:5
 loop-again : tie.Need-loop-again Inv-loop μ-loop
-loop-again c = λ f h n. count-next (c .before .before .before .before .loop .inv f h n) (c .before .before .before .loop-test .taken) (λ p k h. c .before .before .span-at .ensures .1 p k h .0) (λ p k h. c .next-place .ensures ∙ ap (λ e. cond (c .before .before .before .before .before .before .args .moves) e (c .before .before .before .before .loop .at)) (c .before .before .span-at .ensures .1 p k h .1))
+loop-again c =
+    let entry = c .before .before .before .before .before .before in
+    let at-loop = c .before .before .before .before in
+    let at-loop-test = c .before .before .before in
+    let at-span-at = c .before .before in
+    λ f h n.
+    count-next (at-loop .loop .inv f h n) (at-loop-test .loop-test .taken) (λ p k h. at-span-at .span-at .ensures .1 p k h .0) (λ p k h. c .next-place .ensures ∙ ap (λ e. cond (entry .args .moves) e (at-loop .loop .at)) (at-span-at .span-at .ensures .1 p k h .1))
 
 -- src/places.rt:147:1
 returns : tie.Need-returns Inv-loop μ-loop

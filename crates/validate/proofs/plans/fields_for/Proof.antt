@@ -8,22 +8,40 @@ use Rattle.validate.proofs.plans.fields_for.Lts as lts
 use Rattle.writer.proofs.size_count.Reads as size-count-reads
 
 returns : tie.Need-returns
-returns c = fields-open (c .before .before .args .t) (c .before .before .args .n) (c .if1 .taken)
+returns c =
+    let entry = c .before .before in
+    let args = entry .args in
+    fields-open (args .t) (args .n) (c .if1 .taken)
 
 size-count-requires : tie.Need-size-count-requires
 size-count-requires c κs = search needs
 
 returns-2 : tie.Need-returns-2
-returns-2 c = fields-many (c .before .before .before .before .before .args .t) (c .before .before .before .before .before .args .n) (c .before .size-count .ensures .0) (c .if2 .taken)
+returns-2 c =
+    let entry = c .before .before .before .before .before in
+    let args = entry .args in
+    fields-many (args .t) (args .n) (c .before .size-count .ensures .0) (c .if2 .taken)
 
 element-copy-out-size : tie.Need-element-copy-out-size
 element-copy-out-size c = search needs
 
 returns-3 : tie.Need-returns-3
-returns-3 c = fields-unknown (c .before .before .before .before .before .before .before .args .t) (c .before .before .before .before .before .before .before .args .n) (c .before .before .before .before .before .if1 .left) (c .before .before .before .size-count .ensures .0) (c .before .before .if2 .left) (c .if3 .taken)
+returns-3 c =
+    let entry = c .before .before .before .before .before .before .before in
+    let at-if1 = c .before .before .before .before .before in
+    let at-size-count = c .before .before .before in
+    let at-if2 = c .before .before in
+    let args = entry .args in
+    fields-unknown (args .t) (args .n) (at-if1 .if1 .left) (at-size-count .size-count .ensures .0) (at-if2 .if2 .left) (c .if3 .taken)
 
 returns-4 : tie.Need-returns-4
-returns-4 c = fields-one (c .before .before .before .before .before .before .before .args .t) (c .before .before .before .before .before .before .before .args .n) (c .before .before .before .before .before .if1 .left) (c .before .before .before .size-count .ensures .0) (c .before .before .if2 .left) (c .if3 .left)
+returns-4 c =
+    let entry = c .before .before .before .before .before .before .before in
+    let at-if1 = c .before .before .before .before .before in
+    let at-size-count = c .before .before .before in
+    let at-if2 = c .before .before in
+    let args = entry .args in
+    fields-one (args .t) (args .n) (at-if1 .if1 .left) (at-size-count .size-count .ensures .0) (at-if2 .if2 .left) (c .if3 .left)
 
 pub fields-for-spec : {M : Type 1} → statement M
 fields-for-spec =

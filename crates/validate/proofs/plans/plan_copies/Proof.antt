@@ -27,19 +27,43 @@ add-if2-2 c = let b = product-small (c .before .args .n) (c .before .args .types
 
 -- src/plans.rt:201:9
 returns-2 : tie.Need-returns-2
-returns-2 c = λ s t i j a w p q z x holds number placed e d. name-some (x .name) (x .known) refl λ title h. copies-over w z x title h p q (holds title h) number (copies-many (c .before .before .args .others) a title (c .before .before .args .n) p q e (omega (arith, c .if2 .taken)))
+returns-2 c =
+    let entry = c .before .before in
+    let args = entry .args in
+    λ s t i j a w p q z x holds number placed e d.
+    name-some (x .name) (x .known) refl λ title h.
+    copies-over w z x title h p q (holds title h) number (copies-many (args .others) a title (args .n) p q e (omega (arith, c .if2 .taken)))
 
 -- src/plans.rt:205:13
 returns-3 : tie.Need-returns-3
-returns-3 c = λ s t i j a w p q z x holds number placed e d. name-some (x .name) (x .known) refl λ title h. copies-over w z x title h p q (holds title h) number (copies-fit (c .before .before .before .before .args .others) a title (c .before .before .before .before .args .n) p q e (omega (arith, c .before .before .if2 .left)) (λ y. omega (arith, c .before .if3 .taken)) d ∙ not-true (c .before .before .before .before .args .shallow) (c .if4 .taken))
+returns-3 c =
+    let entry = c .before .before .before .before in
+    let at-if2 = c .before .before in
+    let args = entry .args in
+    λ s t i j a w p q z x holds number placed e d.
+    name-some (x .name) (x .known) refl λ title h.
+    copies-over w z x title h p q (holds title h) number (copies-fit (args .others) a title (args .n) p q e (omega (arith, at-if2 .if2 .left)) (λ y. omega (arith, c .before .if3 .taken)) d ∙ not-true (args .shallow) (c .if4 .taken))
 
 -- src/plans.rt:183:1
 returns-4 : tie.Need-returns-4
-returns-4 c = λ s t i j a w p q z x holds number placed e d. name-some (x .name) (x .known) refl λ title h. copies-pairs w z x title h p q (holds title h) number (c .before .before .before .before .args .fresh) (c .before .before .before .before .args .other) placed (c .before .before .before .if1 .left) (copies-fit (c .before .before .before .before .args .others) a title (c .before .before .before .before .args .n) p q e (omega (arith, c .before .before .if2 .left)) (λ y. omega (arith, c .before .if3 .taken)) d ∙ not-false (c .before .before .before .before .args .shallow) (c .if4 .left))
+returns-4 c =
+    let entry = c .before .before .before .before in
+    let at-if1 = c .before .before .before in
+    let at-if2 = c .before .before in
+    let args = entry .args in
+    λ s t i j a w p q z x holds number placed e d.
+    name-some (x .name) (x .known) refl λ title h.
+    copies-pairs w z x title h p q (holds title h) number (args .fresh) (args .other) placed (at-if1 .if1 .left) (copies-fit (args .others) a title (args .n) p q e (omega (arith, at-if2 .if2 .left)) (λ y. omega (arith, c .before .if3 .taken)) d ∙ not-false (args .shallow) (c .if4 .left))
 
 -- src/plans.rt:183:1
 returns-5 : tie.Need-returns-5
-returns-5 c = λ s t i j a w p q z x holds number placed e d. name-some (x .name) (x .known) refl λ title h. copies-pairs w z x title h p q (holds title h) number (c .before .before .before .args .fresh) (c .before .before .before .args .other) placed (c .before .before .if1 .left) (copies-none (c .before .before .before .args .others) a title (c .before .before .before .args .n) p q e (omega (arith, c .before .if2 .left)) (omega (arith, c .if3 .left)) (some-left (c .before .before .before .args .others) a (w .type-scalar) (w .limits) .1))
+returns-5 c =
+    let entry = c .before .before .before in
+    let at-if1 = c .before .before in
+    let args = entry .args in
+    λ s t i j a w p q z x holds number placed e d.
+    name-some (x .name) (x .known) refl λ title h.
+    copies-pairs w z x title h p q (holds title h) number (args .fresh) (args .other) placed (at-if1 .if1 .left) (copies-none (args .others) a title (args .n) p q e (omega (arith, c .before .if2 .left)) (omega (arith, c .if3 .left)) (some-left (args .others) a (w .type-scalar) (w .limits) .1))
 
 pub plan-copies-spec : {M : Type 1} → statement M
 plan-copies-spec =

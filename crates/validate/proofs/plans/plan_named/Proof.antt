@@ -34,7 +34,13 @@ plan-copies-requires c κs = search needs
 
 -- src/plans.rt:253:17
 returns : tie.Need-returns
-returns c = λ j w z sh x y. c .plan-copies .ensures (c .before .before .before .before .before .before .before .before .args .spec .now) (c .before .before .before .before .before .before .before .before .args .ty .now) (c .before .before .before .before .before .before .before .before .args .i) j (c .before .before .before .before .before .before .before .before .args .above) w anyShape (plain any) z x (λ title h. holds-plain w z x title h (as-plain (c .before .before .before .before .before .before .before .before .args .ty .now) (w .type-scalar) (c .before .before .before .before .before .before .before .before .args .v) y (c .before .before .before .v .given .1)) (c .before .if1 .taken)) (c .before .before .before .before .before .fields-for .ensures ∙ ap (λ s. fieldsFor s (c .before .before .before .before .before .before .before .before .args .count)) sh) any-placed any-types (shallow-any (c .before .before .before .before .before .before .before .before .args .above))
+returns c =
+    let entry = c .before .before .before .before .before .before .before .before in
+    let at-fields-for = c .before .before .before .before .before in
+    let at-v = c .before .before .before in
+    let args = entry .args in
+    λ j w z sh x y.
+    c .plan-copies .ensures (args .spec .now) (args .ty .now) (args .i) j (args .above) w anyShape (plain any) z x (λ title h. holds-plain w z x title h (as-plain (args .ty .now) (w .type-scalar) (args .v) y (at-v .v .given .1)) (c .before .if1 .taken)) (at-fields-for .fields-for .ensures ∙ ap (λ s. fieldsFor s (args .count)) sh) any-placed any-types (shallow-any (args .above))
 
 -- src/plans.rt:265:21
 superset-codes-requires : tie.Need-superset-codes-requires
@@ -82,23 +88,55 @@ enum-known-v-3 c = search needs
 
 -- src/plans.rt:296:17
 returns-2 : tie.Need-returns-2
-returns-2 c = λ j w z sh x y. name-some (x .name) (x .known) refl λ title h. named-own w z x title h (as-box-def (c .before .before .before .before .before .before .before .args .ty .now) (w .type-scalar) (c .before .before .before .before .before .before .before .args .v) y (c .before .before .v3 .given .1)) (c .if2 .taken)
+returns-2 c =
+    let entry = c .before .before .before .before .before .before .before in
+    let at-v3 = c .before .before in
+    let args = entry .args in
+    λ j w z sh x y.
+    name-some (x .name) (x .known) refl λ title h.
+    named-own w z x title h (as-box-def (args .ty .now) (w .type-scalar) (args .v) y (at-v3 .v3 .given .1)) (c .if2 .taken)
 
 -- src/plans.rt:234:1
 returns-3 : tie.Need-returns-3
-returns-3 c = λ j w z sh x y. name-some (x .name) (x .known) refl λ title h. c .keep-if .ensures (c .before .before .before .before .before .before .before .before .before .args .spec .now) (c .before .before .before .before .before .before .before .before .before .args .ty .now) (c .before .before .before .before .before .before .before .before .before .args .others) (c .before .before .before .before .before .before .before .before .before .args .above) (scalarOf (c .before .before .before .before .before .before .before .before .before .args .others) (c .before .before .before .before .before .before .before .before .before .args .above) w) (w .spec-scalar) (w .type-scalar) (tested (scalarOf (c .before .before .before .before .before .before .before .before .before .args .others) (c .before .before .before .before .before .before .before .before .before .args .above) w) (w .type-scalar) (named-plain w z x title h (as-plain (c .before .before .before .before .before .before .before .before .before .args .ty .now) (w .type-scalar) (c .before .before .before .before .before .before .before .before .before .args .v) y (c .before .before .before .before .v .given .1)) (c .before .before .if1 .left)) (c .before .superset-codes .ensures))
+returns-3 c =
+    let entry = c .before .before .before .before .before .before .before .before .before in
+    let at-v = c .before .before .before .before in
+    let at-if1 = c .before .before in
+    let args = entry .args in
+    λ j w z sh x y.
+    name-some (x .name) (x .known) refl λ title h.
+    c .keep-if .ensures (args .spec .now) (args .ty .now) (args .others) (args .above) (scalarOf (args .others) (args .above) w) (w .spec-scalar) (w .type-scalar) (tested (scalarOf (args .others) (args .above) w) (w .type-scalar) (named-plain w z x title h (as-plain (args .ty .now) (w .type-scalar) (args .v) y (at-v .v .given .1)) (at-if1 .if1 .left)) (c .before .superset-codes .ensures))
 
 -- src/plans.rt:234:1
 returns-4 : tie.Need-returns-4
-returns-4 c = λ j w z sh x y. c .plan-copies2 .ensures (c .before .before .before .before .before .before .args .spec .now) (c .before .before .before .before .before .before .args .ty .now) (c .before .before .before .before .before .before .args .i) j (c .before .before .before .before .before .before .args .above) w anyShape (plain any) z x (λ title h. holds-any w z x title h (as-box-any (c .before .before .before .before .before .before .args .ty .now) (w .type-scalar) (c .before .before .before .before .before .before .args .v) y (c .before .enum-told .given .1))) (c .before .before .before .fields-for .ensures ∙ ap (λ s. fieldsFor s (c .before .before .before .before .before .before .args .count)) sh) any-placed any-types (shallow-any (c .before .before .before .before .before .before .args .above))
+returns-4 c =
+    let entry = c .before .before .before .before .before .before in
+    let at-fields-for = c .before .before .before in
+    let args = entry .args in
+    λ j w z sh x y.
+    c .plan-copies2 .ensures (args .spec .now) (args .ty .now) (args .i) j (args .above) w anyShape (plain any) z x (λ title h. holds-any w z x title h (as-box-any (args .ty .now) (w .type-scalar) (args .v) y (c .before .enum-told .given .1))) (at-fields-for .fields-for .ensures ∙ ap (λ s. fieldsFor s (args .count)) sh) any-placed any-types (shallow-any (args .above))
 
 -- src/plans.rt:234:1
 returns-5 : tie.Need-returns-5
-returns-5 c = λ j w z sh x y. let v = (as-box-all (c .before .before .before .before .before .before .before .before .before .args .ty .now) (w .type-scalar) (c .before .before .before .before .before .before .before .before .before .args .v) y (c .before .before .before .before .v2 .given .1)) in c .plan-copies3 .ensures (c .before .before .before .before .before .before .before .before .before .args .spec .now) (c .before .before .before .before .before .before .before .before .before .args .ty .now) (c .before .before .before .before .before .before .before .before .before .args .i) j (c .before .before .before .before .before .before .before .before .before .args .above) w (v .shape) (v .scalar) z x (λ title h. holds-all w z x title h v) (c .before .before .before .before .before .before .fields-for .ensures ∙ ap (λ s. fieldsFor s (c .before .before .before .before .before .before .before .before .before .args .count)) sh) (v .placed) (c .before .before .span-at .ensures .1 (v .shape) (v .scalar) (v .placed) .0) (c .before .fits-at .ensures (v .shape) (v .scalar) (v .placed) ∙ shallow-content (c .before .before .before .before .before .before .before .before .before .args .above) (v .scalar) (v .placed .few))
+returns-5 c =
+    let entry = c .before .before .before .before .before .before .before .before .before in
+    let at-fields-for = c .before .before .before .before .before .before in
+    let at-v2 = c .before .before .before .before in
+    let at-span-at = c .before .before in
+    let args = entry .args in
+    λ j w z sh x y.
+    let v = (as-box-all (args .ty .now) (w .type-scalar) (args .v) y (at-v2 .v2 .given .1)) in
+    c .plan-copies3 .ensures (args .spec .now) (args .ty .now) (args .i) j (args .above) w (v .shape) (v .scalar) z x (λ title h. holds-all w z x title h v) (at-fields-for .fields-for .ensures ∙ ap (λ s. fieldsFor s (args .count)) sh) (v .placed) (at-span-at .span-at .ensures .1 (v .shape) (v .scalar) (v .placed) .0) (c .before .fits-at .ensures (v .shape) (v .scalar) (v .placed) ∙ shallow-content (args .above) (v .scalar) (v .placed .few))
 
 -- src/plans.rt:234:1
 returns-6 : tie.Need-returns-6
-returns-6 c = λ j w z sh x y. name-some (x .name) (x .known) refl λ title h. named-given w z x title h (as-box-def (c .before .before .before .before .before .before .before .args .ty .now) (w .type-scalar) (c .before .before .before .before .before .before .before .args .v) y (c .before .before .v3 .given .1)) (c .if2 .left)
+returns-6 c =
+    let entry = c .before .before .before .before .before .before .before in
+    let at-v3 = c .before .before in
+    let args = entry .args in
+    λ j w z sh x y.
+    name-some (x .name) (x .known) refl λ title h.
+    named-given w z x title h (as-box-def (args .ty .now) (w .type-scalar) (args .v) y (at-v3 .v3 .given .1)) (c .if2 .left)
 
 pub plan-named-spec : {M : Type 1} → statement M
 plan-named-spec =

@@ -39,11 +39,22 @@ wholly-any-requires c κs = search needs
 
 -- src/plans.rt:309:9
 take-if-requires : tie.Need-take-if-requires
-take-if-requires c κs = let r = some-left (c .before .before .before .before .before .before .before .args .others) (c .before .before .before .before .before .before .before .args .above) (c .before .before .before .before .before .before .before .pre .type-scalar) (c .before .before .before .before .before .before .before .pre .limits) in (omega (arith, r .0), omega (arith, r .1))
+take-if-requires c κs =
+    let entry = c .before .before .before .before .before .before .before in
+    let args = entry .args in
+    let r = some-left (args .others) (args .above) (entry .pre .type-scalar) (entry .pre .limits) in
+    (omega (arith, r .0), omega (arith, r .1))
 
 -- src/plans.rt:309:9
 returns : tie.Need-returns
-returns c = λ w. c .take-if .ensures (c .before .before .before .before .before .before .before .before .args .ty .now) (scalarOf (c .before .before .before .before .before .before .before .before .args .others) (c .before .before .before .before .before .before .before .before .args .above) w) (w .spec-shape) (w .spec-scalar) (w .type-scalar) (w .spec-placed) (plan-any w (sym (c .before .before .wholly-any .ensures (c .before .before .before .before .before .before .before .before .args .ty .now) (w .type-shape) (w .type-scalar) (c .before .before .before .any-at .ensures (w .type-shape) (w .type-scalar) (w .type-placed)) (c .before .before .before .before .look2 .ensures (w .type-shape) (w .type-scalar) (w .type-placed))) ∙ c .before .if1 .taken))
+returns c =
+    let entry = c .before .before .before .before .before .before .before .before in
+    let at-look2 = c .before .before .before .before in
+    let at-any-at = c .before .before .before in
+    let at-wholly-any = c .before .before in
+    let args = entry .args in
+    λ w.
+    c .take-if .ensures (args .ty .now) (scalarOf (args .others) (args .above) w) (w .spec-shape) (w .spec-scalar) (w .type-scalar) (w .spec-placed) (plan-any w (sym (at-wholly-any .wholly-any .ensures (args .ty .now) (w .type-shape) (w .type-scalar) (at-any-at .any-at .ensures (w .type-shape) (w .type-scalar) (w .type-placed)) (at-look2 .look2 .ensures (w .type-shape) (w .type-scalar) (w .type-placed))) ∙ c .before .if1 .taken))
 
 -- src/plans.rt:312:23
 enum-known-a : tie.Need-enum-known-a
@@ -83,7 +94,11 @@ enum-known-a-2 c = search needs
 
 -- src/plans.rt:314:37
 plan-all-requires : tie.Need-plan-all-requires
-plan-all-requires c κs = let r = some-left (c .before .before .before .before .before .before .before .before .before .before .args .others) (c .before .before .before .before .before .before .before .before .before .before .args .above) (c .before .before .before .before .before .before .before .before .before .before .pre .type-scalar) (c .before .before .before .before .before .before .before .before .before .before .pre .limits) in (omega (arith, r .0), omega (arith, r .1))
+plan-all-requires c κs =
+    let entry = c .before .before .before .before .before .before .before .before .before .before in
+    let args = entry .args in
+    let r = some-left (args .others) (args .above) (entry .pre .type-scalar) (entry .pre .limits) in
+    (omega (arith, r .0), omega (arith, r .1))
 
 -- src/plans.rt:316:13
 enum-known-a-3 : tie.Need-enum-known-a-3
@@ -91,35 +106,98 @@ enum-known-a-3 c = search needs
 
 -- src/plans.rt:322:21
 shape-at-requires : tie.Need-shape-at-requires
-shape-at-requires c κs = has-type (c .before .before .before .before .before .before .before .before .before .before .before .pre .type-placed)
+shape-at-requires c κs =
+    let entry = c .before .before .before .before .before .before .before .before .before .before .before in
+    has-type (entry .pre .type-placed)
 
 -- src/plans.rt:323:17
 plan-named-requires : tie.Need-plan-named-requires
-plan-named-requires c κs = let r = some-left (c .before .before .before .before .before .before .before .before .before .before .before .before .args .others) (c .before .before .before .before .before .before .before .before .before .before .before .before .args .above) (c .before .before .before .before .before .before .before .before .before .before .before .before .pre .type-scalar) (c .before .before .before .before .before .before .before .before .before .before .before .before .pre .limits) in (omega (arith, r .0), omega (arith, r .1))
+plan-named-requires c κs =
+    let entry = c .before .before .before .before .before .before .before .before .before .before .before .before in
+    let args = entry .args in
+    let r = some-left (args .others) (args .above) (entry .pre .type-scalar) (entry .pre .limits) in
+    (omega (arith, r .0), omega (arith, r .1))
 
 -- src/plans.rt:323:17
 returns-2 : tie.Need-returns-2
-returns-2 c = λ w. c .plan-named .ensures (c .before .before .before .before .before .before .before .before .before .before .before .before .before .args .j) w (sym (c .before .before .before .before .before .before .before .wholly-any .ensures (c .before .before .before .before .before .before .before .before .before .before .before .before .before .args .ty .now) (w .type-shape) (w .type-scalar) (c .before .before .before .before .before .before .before .before .any-at .ensures (w .type-shape) (w .type-scalar) (w .type-placed)) (c .before .before .before .before .before .before .before .before .before .look2 .ensures (w .type-shape) (w .type-scalar) (w .type-placed))) ∙ c .before .before .before .before .before .before .if1 .left) (c .before .shape-at .ensures maxDepth (ty (w .type-shape) (w .type-scalar)) (type-at (w .type-placed))) (def-flag (as-box-def (c .before .before .before .before .before .before .before .before .before .before .before .before .before .args .spec .now) (w .spec-scalar) (c .before .before .before .before .before .before .before .before .before .before .look .result) (c .before .before .before .before .before .before .before .before .before .before .look .ensures (w .spec-shape) (w .spec-scalar) (w .spec-placed)) (c .before .before .before .before .a3 .given .1)) (c .before .before .if2 .taken)) (c .before .before .before .before .before .before .before .before .before .look2 .ensures (w .type-shape) (w .type-scalar) (w .type-placed))
+returns-2 c =
+    let entry = c .before .before .before .before .before .before .before .before .before .before .before .before .before in
+    let at-look = c .before .before .before .before .before .before .before .before .before .before in
+    let at-look2 = c .before .before .before .before .before .before .before .before .before in
+    let at-any-at = c .before .before .before .before .before .before .before .before in
+    let at-wholly-any = c .before .before .before .before .before .before .before in
+    let at-if1 = c .before .before .before .before .before .before in
+    let at-a3 = c .before .before .before .before in
+    let at-if2 = c .before .before in
+    let args = entry .args in
+    λ w.
+    c .plan-named .ensures (args .j) w (sym (at-wholly-any .wholly-any .ensures (args .ty .now) (w .type-shape) (w .type-scalar) (at-any-at .any-at .ensures (w .type-shape) (w .type-scalar) (w .type-placed)) (at-look2 .look2 .ensures (w .type-shape) (w .type-scalar) (w .type-placed))) ∙ at-if1 .if1 .left) (c .before .shape-at .ensures maxDepth (ty (w .type-shape) (w .type-scalar)) (type-at (w .type-placed))) (def-flag (as-box-def (args .spec .now) (w .spec-scalar) (at-look .look .result) (at-look .look .ensures (w .spec-shape) (w .spec-scalar) (w .spec-placed)) (at-a3 .a3 .given .1)) (at-if2 .if2 .taken)) (at-look2 .look2 .ensures (w .type-shape) (w .type-scalar) (w .type-placed))
 
 -- src/plans.rt:325:13
 plan-unnamed-requires : tie.Need-plan-unnamed-requires
-plan-unnamed-requires c κs = let r = some-left (c .before .before .before .before .before .before .before .before .before .before .before .args .others) (c .before .before .before .before .before .before .before .before .before .before .before .args .above) (c .before .before .before .before .before .before .before .before .before .before .before .pre .type-scalar) (c .before .before .before .before .before .before .before .before .before .before .before .pre .limits) in (omega (arith, r .0), omega (arith, r .1))
+plan-unnamed-requires c κs =
+    let entry = c .before .before .before .before .before .before .before .before .before .before .before in
+    let args = entry .args in
+    let r = some-left (args .others) (args .above) (entry .pre .type-scalar) (entry .pre .limits) in
+    (omega (arith, r .0), omega (arith, r .1))
 
 -- src/plans.rt:302:1
 returns-3 : tie.Need-returns-3
-returns-3 c = λ w. c .keep-if .ensures (c .before .before .before .before .before .before .before .before .before .before .before .before .before .args .spec .now) (c .before .before .before .before .before .before .before .before .before .before .before .before .before .args .ty .now) (c .before .before .before .before .before .before .before .before .before .before .before .before .before .args .others) (c .before .before .before .before .before .before .before .before .before .before .before .before .before .args .above) (scalarOf (c .before .before .before .before .before .before .before .before .before .before .before .before .before .args .others) (c .before .before .before .before .before .before .before .before .before .before .before .before .before .args .above) w) (w .spec-scalar) (w .type-scalar) (tested (scalarOf (c .before .before .before .before .before .before .before .before .before .before .before .before .before .args .others) (c .before .before .before .before .before .before .before .before .before .before .before .before .before .args .above) w) (w .type-scalar) (plan-plain w (sym (c .before .before .before .before .before .before .before .wholly-any .ensures (c .before .before .before .before .before .before .before .before .before .before .before .before .before .args .ty .now) (w .type-shape) (w .type-scalar) (c .before .before .before .before .before .before .before .before .any-at .ensures (w .type-shape) (w .type-scalar) (w .type-placed)) (c .before .before .before .before .before .before .before .before .before .look2 .ensures (w .type-shape) (w .type-scalar) (w .type-placed))) ∙ c .before .before .before .before .before .before .if1 .left) (as-plain (c .before .before .before .before .before .before .before .before .before .before .before .before .before .args .spec .now) (w .spec-scalar) (c .before .before .before .before .before .before .before .before .before .before .look .result) (c .before .before .before .before .before .before .before .before .before .before .look .ensures (w .spec-shape) (w .spec-scalar) (w .spec-placed)) (c .before .before .before .before .a .given .1)) (c .before .before .code-of .ensures (c .before .before .before .before .before .before .before .before .before .before .before .before .before .args .ty .now) (w .type-scalar) (c .before .before .before .before .before .before .before .before .before .look2 .ensures (w .type-shape) (w .type-scalar) (w .type-placed)))) (c .before .superset-codes .ensures))
+returns-3 c =
+    let entry = c .before .before .before .before .before .before .before .before .before .before .before .before .before in
+    let at-look = c .before .before .before .before .before .before .before .before .before .before in
+    let at-look2 = c .before .before .before .before .before .before .before .before .before in
+    let at-any-at = c .before .before .before .before .before .before .before .before in
+    let at-wholly-any = c .before .before .before .before .before .before .before in
+    let at-if1 = c .before .before .before .before .before .before in
+    let at-a = c .before .before .before .before in
+    let at-code-of = c .before .before in
+    let args = entry .args in
+    λ w.
+    c .keep-if .ensures (args .spec .now) (args .ty .now) (args .others) (args .above) (scalarOf (args .others) (args .above) w) (w .spec-scalar) (w .type-scalar) (tested (scalarOf (args .others) (args .above) w) (w .type-scalar) (plan-plain w (sym (at-wholly-any .wholly-any .ensures (args .ty .now) (w .type-shape) (w .type-scalar) (at-any-at .any-at .ensures (w .type-shape) (w .type-scalar) (w .type-placed)) (at-look2 .look2 .ensures (w .type-shape) (w .type-scalar) (w .type-placed))) ∙ at-if1 .if1 .left) (as-plain (args .spec .now) (w .spec-scalar) (at-look .look .result) (at-look .look .ensures (w .spec-shape) (w .spec-scalar) (w .spec-placed)) (at-a .a .given .1)) (at-code-of .code-of .ensures (args .ty .now) (w .type-scalar) (at-look2 .look2 .ensures (w .type-shape) (w .type-scalar) (w .type-placed)))) (c .before .superset-codes .ensures))
 
 -- src/plans.rt:302:1
 returns-4 : tie.Need-returns-4
-returns-4 c = λ w. c .keep-if2 .ensures (c .before .before .before .before .before .before .before .before .before .before .before .before .args .spec .now) (c .before .before .before .before .before .before .before .before .before .before .before .before .args .ty .now) (c .before .before .before .before .before .before .before .before .before .before .before .before .args .others) (c .before .before .before .before .before .before .before .before .before .before .before .before .args .above) (scalarOf (c .before .before .before .before .before .before .before .before .before .before .before .before .args .others) (c .before .before .before .before .before .before .before .before .before .before .before .before .args .above) w) (w .spec-scalar) (w .type-scalar) (tested (scalarOf (c .before .before .before .before .before .before .before .before .before .before .before .before .args .others) (c .before .before .before .before .before .before .before .before .before .before .before .before .args .above) w) (w .type-scalar) (plan-box-any w (sym (c .before .before .before .before .before .before .wholly-any .ensures (c .before .before .before .before .before .before .before .before .before .before .before .before .args .ty .now) (w .type-shape) (w .type-scalar) (c .before .before .before .before .before .before .before .any-at .ensures (w .type-shape) (w .type-scalar) (w .type-placed)) (c .before .before .before .before .before .before .before .before .look2 .ensures (w .type-shape) (w .type-scalar) (w .type-placed))) ∙ c .before .before .before .before .before .if1 .left) (as-box-any (c .before .before .before .before .before .before .before .before .before .before .before .before .args .spec .now) (w .spec-scalar) (c .before .before .before .before .before .before .before .before .before .look .result) (c .before .before .before .before .before .before .before .before .before .look .ensures (w .spec-shape) (w .spec-scalar) (w .spec-placed)) (c .before .before .before .enum-told .given .1)) (c .before .before .code-of2 .ensures (c .before .before .before .before .before .before .before .before .before .before .before .before .args .ty .now) (w .type-scalar) (c .before .before .before .before .before .before .before .before .look2 .ensures (w .type-shape) (w .type-scalar) (w .type-placed)))) (c .before .superset-codes2 .ensures))
+returns-4 c =
+    let entry = c .before .before .before .before .before .before .before .before .before .before .before .before in
+    let at-look = c .before .before .before .before .before .before .before .before .before in
+    let at-look2 = c .before .before .before .before .before .before .before .before in
+    let at-any-at = c .before .before .before .before .before .before .before in
+    let at-wholly-any = c .before .before .before .before .before .before in
+    let at-if1 = c .before .before .before .before .before in
+    let at-enum-told = c .before .before .before in
+    let at-code-of2 = c .before .before in
+    let args = entry .args in
+    λ w.
+    c .keep-if2 .ensures (args .spec .now) (args .ty .now) (args .others) (args .above) (scalarOf (args .others) (args .above) w) (w .spec-scalar) (w .type-scalar) (tested (scalarOf (args .others) (args .above) w) (w .type-scalar) (plan-box-any w (sym (at-wholly-any .wholly-any .ensures (args .ty .now) (w .type-shape) (w .type-scalar) (at-any-at .any-at .ensures (w .type-shape) (w .type-scalar) (w .type-placed)) (at-look2 .look2 .ensures (w .type-shape) (w .type-scalar) (w .type-placed))) ∙ at-if1 .if1 .left) (as-box-any (args .spec .now) (w .spec-scalar) (at-look .look .result) (at-look .look .ensures (w .spec-shape) (w .spec-scalar) (w .spec-placed)) (at-enum-told .enum-told .given .1)) (at-code-of2 .code-of2 .ensures (args .ty .now) (w .type-scalar) (at-look2 .look2 .ensures (w .type-shape) (w .type-scalar) (w .type-placed)))) (c .before .superset-codes2 .ensures))
 
 -- src/plans.rt:302:1
 returns-5 : tie.Need-returns-5
-returns-5 c = λ w. c .plan-all .ensures (c .before .before .before .before .before .before .before .before .before .before .before .args .j) w (sym (c .before .before .before .before .before .wholly-any .ensures (c .before .before .before .before .before .before .before .before .before .before .before .args .ty .now) (w .type-shape) (w .type-scalar) (c .before .before .before .before .before .before .any-at .ensures (w .type-shape) (w .type-scalar) (w .type-placed)) (c .before .before .before .before .before .before .before .look2 .ensures (w .type-shape) (w .type-scalar) (w .type-placed))) ∙ c .before .before .before .before .if1 .left) (as-box-all (c .before .before .before .before .before .before .before .before .before .before .before .args .spec .now) (w .spec-scalar) (c .before .before .before .before .before .before .before .before .look .result) (c .before .before .before .before .before .before .before .before .look .ensures (w .spec-shape) (w .spec-scalar) (w .spec-placed)) (c .before .before .a2 .given .1)) (c .before .before .before .before .before .before .before .look2 .ensures (w .type-shape) (w .type-scalar) (w .type-placed))
+returns-5 c =
+    let entry = c .before .before .before .before .before .before .before .before .before .before .before in
+    let at-look = c .before .before .before .before .before .before .before .before in
+    let at-look2 = c .before .before .before .before .before .before .before in
+    let at-any-at = c .before .before .before .before .before .before in
+    let at-wholly-any = c .before .before .before .before .before in
+    let at-if1 = c .before .before .before .before in
+    let at-a2 = c .before .before in
+    let args = entry .args in
+    λ w.
+    c .plan-all .ensures (args .j) w (sym (at-wholly-any .wholly-any .ensures (args .ty .now) (w .type-shape) (w .type-scalar) (at-any-at .any-at .ensures (w .type-shape) (w .type-scalar) (w .type-placed)) (at-look2 .look2 .ensures (w .type-shape) (w .type-scalar) (w .type-placed))) ∙ at-if1 .if1 .left) (as-box-all (args .spec .now) (w .spec-scalar) (at-look .look .result) (at-look .look .ensures (w .spec-shape) (w .spec-scalar) (w .spec-placed)) (at-a2 .a2 .given .1)) (at-look2 .look2 .ensures (w .type-shape) (w .type-scalar) (w .type-placed))
 
 -- src/plans.rt:302:1
 returns-6 : tie.Need-returns-6
-returns-6 c = λ w. c .plan-unnamed .ensures (c .before .before .before .before .before .before .before .before .before .before .before .before .args .j) w (sym (c .before .before .before .before .before .before .wholly-any .ensures (c .before .before .before .before .before .before .before .before .before .before .before .before .args .ty .now) (w .type-shape) (w .type-scalar) (c .before .before .before .before .before .before .before .any-at .ensures (w .type-shape) (w .type-scalar) (w .type-placed)) (c .before .before .before .before .before .before .before .before .look2 .ensures (w .type-shape) (w .type-scalar) (w .type-placed))) ∙ c .before .before .before .before .before .if1 .left) (def-flag (as-box-def (c .before .before .before .before .before .before .before .before .before .before .before .before .args .spec .now) (w .spec-scalar) (c .before .before .before .before .before .before .before .before .before .look .result) (c .before .before .before .before .before .before .before .before .before .look .ensures (w .spec-shape) (w .spec-scalar) (w .spec-placed)) (c .before .before .before .a3 .given .1)) (c .before .if2 .left)) (c .before .before .before .before .before .before .before .before .look2 .ensures (w .type-shape) (w .type-scalar) (w .type-placed))
+returns-6 c =
+    let entry = c .before .before .before .before .before .before .before .before .before .before .before .before in
+    let at-look = c .before .before .before .before .before .before .before .before .before in
+    let at-look2 = c .before .before .before .before .before .before .before .before in
+    let at-any-at = c .before .before .before .before .before .before .before in
+    let at-wholly-any = c .before .before .before .before .before .before in
+    let at-if1 = c .before .before .before .before .before in
+    let at-a3 = c .before .before .before in
+    let args = entry .args in
+    λ w.
+    c .plan-unnamed .ensures (args .j) w (sym (at-wholly-any .wholly-any .ensures (args .ty .now) (w .type-shape) (w .type-scalar) (at-any-at .any-at .ensures (w .type-shape) (w .type-scalar) (w .type-placed)) (at-look2 .look2 .ensures (w .type-shape) (w .type-scalar) (w .type-placed))) ∙ at-if1 .if1 .left) (def-flag (as-box-def (args .spec .now) (w .spec-scalar) (at-look .look .result) (at-look .look .ensures (w .spec-shape) (w .spec-scalar) (w .spec-placed)) (at-a3 .a3 .given .1)) (c .before .if2 .left)) (at-look2 .look2 .ensures (w .type-shape) (w .type-scalar) (w .type-placed))
 
 pub plan-scalar-spec : {M : Type 1} → statement M
 plan-scalar-spec =

@@ -17,7 +17,10 @@ clashes-requires : tie.Need-clashes-requires
 clashes-requires c κs = search needs
 
 returns : tie.Need-returns
-returns c = sym (checkShape-mismatch (sideOf (c .before .before .args .side)) (shapeFor (c .before .before .args .spec)) (shapeFor (c .before .before .args .t)) (sym (c .before .clashes .ensures) ∙ c .if1 .taken))
+returns c =
+    let entry = c .before .before in
+    let args = entry .args in
+    sym (checkShape-mismatch (sideOf (args .side)) (shapeFor (args .spec)) (shapeFor (args .t)) (sym (c .before .clashes .ensures) ∙ c .if1 .taken))
 
 sided-shape-requires : tie.Need-sided-shape-requires
 sided-shape-requires c κs = search needs
@@ -26,7 +29,12 @@ merge-from-requires : tie.Need-merge-from-requires
 merge-from-requires c κs = search needs
 
 returns-2 : tie.Need-returns-2
-returns-2 c = ap accepted (c .merge-from .ensures ∙ ap (mergeFrom (shapeFor (c .before .before .before .before .args .t))) (c .before .sided-shape .ensures)) ∙ sym (checkShape-match (sideOf (c .before .before .before .before .args .side)) (shapeFor (c .before .before .before .before .args .spec)) (shapeFor (c .before .before .before .before .args .t)) (sym (c .before .before .before .clashes .ensures) ∙ c .before .before .if1 .left))
+returns-2 c =
+    let entry = c .before .before .before .before in
+    let at-clashes = c .before .before .before in
+    let at-if1 = c .before .before in
+    let args = entry .args in
+    ap accepted (c .merge-from .ensures ∙ ap (mergeFrom (shapeFor (args .t))) (c .before .sided-shape .ensures)) ∙ sym (checkShape-match (sideOf (args .side)) (shapeFor (args .spec)) (shapeFor (args .t)) (sym (at-clashes .clashes .ensures) ∙ at-if1 .if1 .left))
 
 pub check-shapes-spec : {M : Type 1} → statement M
 check-shapes-spec =

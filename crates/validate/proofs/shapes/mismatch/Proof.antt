@@ -30,13 +30,22 @@ mismatch-right-requires : tie.Need-mismatch-right-requires
 mismatch-right-requires c κs = search needs
 
 returns : tie.Need-returns
-returns c = c .mismatch-unsided .ensures ∙ ap (λ s. rules.mismatch (sideOf s) (dimsOf (c .before .before .before .args .o)) (shapeFor (c .before .before .before .args .t))) (sym (c .before .enum-told .given .1))
+returns c =
+    let entry = c .before .before .before in
+    let args = entry .args in
+    c .mismatch-unsided .ensures ∙ ap (λ s. rules.mismatch (sideOf s) (dimsOf (args .o)) (shapeFor (args .t))) (sym (c .before .enum-told .given .1))
 
 returns-2 : tie.Need-returns-2
-returns-2 c = c .mismatch-left .ensures ∙ ap (λ s. rules.mismatch (sideOf s) (dimsOf (c .before .before .before .args .o)) (shapeFor (c .before .before .before .args .t))) (sym (c .before .enum-told2 .given .1))
+returns-2 c =
+    let entry = c .before .before .before in
+    let args = entry .args in
+    c .mismatch-left .ensures ∙ ap (λ s. rules.mismatch (sideOf s) (dimsOf (args .o)) (shapeFor (args .t))) (sym (c .before .enum-told2 .given .1))
 
 returns-3 : tie.Need-returns-3
-returns-3 c = c .mismatch-right .ensures ∙ ap (λ s. rules.mismatch (sideOf s) (dimsOf (c .before .before .before .args .o)) (shapeFor (c .before .before .before .args .t))) (sym (c .before .enum-told3 .given .1))
+returns-3 c =
+    let entry = c .before .before .before in
+    let args = entry .args in
+    c .mismatch-right .ensures ∙ ap (λ s. rules.mismatch (sideOf s) (dimsOf (args .o)) (shapeFor (args .t))) (sym (c .before .enum-told3 .given .1))
 
 pub mismatch-spec : {M : Type 1} → statement M
 mismatch-spec =

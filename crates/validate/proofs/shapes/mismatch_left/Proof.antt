@@ -16,19 +16,33 @@ size-count-requires-2 : tie.Need-size-count-requires-2
 size-count-requires-2 c κs = search needs
 
 returns : tie.Need-returns
-returns c = left-fewer (dimsOf (c .before .before .before .before .before .args .o)) (c .before .before .before .before .before .args .t) (c .before .before .before .if1 .taken) (omega (arith, c .before .before .size-count .ensures .0, c .before .size-count2 .ensures .0))
+returns c =
+    let entry = c .before .before .before .before .before in
+    let at-if1 = c .before .before .before in
+    let at-size-count = c .before .before in
+    let args = entry .args in
+    left-fewer (dimsOf (args .o)) (args .t) (at-if1 .if1 .taken) (omega (arith, at-size-count .size-count .ensures .0, c .before .size-count2 .ensures .0))
 
 agree-requires : tie.Need-agree-requires
 agree-requires c κs = search needs
 
 returns-2 : tie.Need-returns-2
-returns-2 c = left-closed (dimsOf (c .before .before .before .before .before .before .args .o)) (c .before .before .before .before .before .before .args .t) (c .before .before .before .before .if1 .taken) (omega (arith, c .before .before .before .size-count .ensures .0, c .before .before .size-count2 .ensures .0)) (c .agree .ensures)
+returns-2 c =
+    let entry = c .before .before .before .before .before .before in
+    let at-if1 = c .before .before .before .before in
+    let at-size-count = c .before .before .before in
+    let at-size-count2 = c .before .before in
+    let args = entry .args in
+    left-closed (dimsOf (args .o)) (args .t) (at-if1 .if1 .taken) (omega (arith, at-size-count .size-count .ensures .0, at-size-count2 .size-count2 .ensures .0)) (c .agree .ensures)
 
 agree-requires-2 : tie.Need-agree-requires-2
 agree-requires-2 c κs = search needs
 
 returns-3 : tie.Need-returns-3
-returns-3 c = left-open (dimsOf (c .before .before .before .args .o)) (c .before .before .before .args .t) (c .before .if1 .left) (c .agree2 .ensures)
+returns-3 c =
+    let entry = c .before .before .before in
+    let args = entry .args in
+    left-open (dimsOf (args .o)) (args .t) (c .before .if1 .left) (c .agree2 .ensures)
 
 pub mismatch-left-spec : {M : Type 1} → statement M
 mismatch-left-spec =

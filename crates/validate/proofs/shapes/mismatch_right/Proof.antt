@@ -16,13 +16,24 @@ size-count-requires-2 : tie.Need-size-count-requires-2
 size-count-requires-2 c κs = search needs
 
 returns : tie.Need-returns
-returns c = right-fewer (dimsOf (c .before .before .before .before .before .args .o)) (c .before .before .before .before .before .args .t) (c .before .before .before .if1 .taken) (omega (arith, c .before .before .size-count .ensures .0, c .before .size-count2 .ensures .0))
+returns c =
+    let entry = c .before .before .before .before .before in
+    let at-if1 = c .before .before .before in
+    let at-size-count = c .before .before in
+    let args = entry .args in
+    right-fewer (dimsOf (args .o)) (args .t) (at-if1 .if1 .taken) (omega (arith, at-size-count .size-count .ensures .0, c .before .size-count2 .ensures .0))
 
 agree-ends-requires : tie.Need-agree-ends-requires
 agree-ends-requires c κs = search needs
 
 returns-2 : tie.Need-returns-2
-returns-2 c = right-closed (dimsOf (c .before .before .before .before .before .before .args .o)) (c .before .before .before .before .before .before .args .t) (c .before .before .before .before .if1 .taken) (omega (arith, c .before .before .before .size-count .ensures .0, c .before .before .size-count2 .ensures .0)) (c .agree-ends .ensures)
+returns-2 c =
+    let entry = c .before .before .before .before .before .before in
+    let at-if1 = c .before .before .before .before in
+    let at-size-count = c .before .before .before in
+    let at-size-count2 = c .before .before in
+    let args = entry .args in
+    right-closed (dimsOf (args .o)) (args .t) (at-if1 .if1 .taken) (omega (arith, at-size-count .size-count .ensures .0, at-size-count2 .size-count2 .ensures .0)) (c .agree-ends .ensures)
 
 size-count-requires-3 : tie.Need-size-count-requires-3
 size-count-requires-3 c κs = search needs
@@ -37,13 +48,26 @@ size-count-requires-5 : tie.Need-size-count-requires-5
 size-count-requires-5 c κs = search needs
 
 returns-3 : tie.Need-returns-3
-returns-3 c = right-short (dimsOf (c .before .before .before .before .before .before .before .args .o)) (c .before .before .before .before .before .before .before .args .t) (c .before .before .before .before .before .if1 .left) (omega (arith, c .before .before .before .size-count3 .ensures .0, c .before .before .size-count4 .ensures .0, c .before .size-count5 .ensures .0))
+returns-3 c =
+    let entry = c .before .before .before .before .before .before .before in
+    let at-if1 = c .before .before .before .before .before in
+    let at-size-count3 = c .before .before .before in
+    let at-size-count4 = c .before .before in
+    let args = entry .args in
+    right-short (dimsOf (args .o)) (args .t) (at-if1 .if1 .left) (omega (arith, at-size-count3 .size-count3 .ensures .0, at-size-count4 .size-count4 .ensures .0, c .before .size-count5 .ensures .0))
 
 agree-ends-requires-2 : tie.Need-agree-ends-requires-2
 agree-ends-requires-2 c κs = search needs
 
 returns-4 : tie.Need-returns-4
-returns-4 c = right-open (dimsOf (c .before .before .before .before .before .before .before .before .args .o)) (c .before .before .before .before .before .before .before .before .args .t) (c .before .before .before .before .before .before .if1 .left) (omega (arith, c .before .before .before .before .size-count3 .ensures .0, c .before .before .before .size-count4 .ensures .0, c .before .before .size-count5 .ensures .0)) (c .agree-ends2 .ensures)
+returns-4 c =
+    let entry = c .before .before .before .before .before .before .before .before in
+    let at-if1 = c .before .before .before .before .before .before in
+    let at-size-count3 = c .before .before .before .before in
+    let at-size-count4 = c .before .before .before in
+    let at-size-count5 = c .before .before in
+    let args = entry .args in
+    right-open (dimsOf (args .o)) (args .t) (at-if1 .if1 .left) (omega (arith, at-size-count3 .size-count3 .ensures .0, at-size-count4 .size-count4 .ensures .0, at-size-count5 .size-count5 .ensures .0)) (c .agree-ends2 .ensures)
 
 pub mismatch-right-spec : {M : Type 1} → statement M
 mismatch-right-spec =

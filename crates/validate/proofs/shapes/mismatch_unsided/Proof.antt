@@ -17,19 +17,34 @@ size-count-requires-2 : tie.Need-size-count-requires-2
 size-count-requires-2 c κs = search needs
 
 returns : tie.Need-returns
-returns c = unsided-uneven (dimsOf (c .before .before .before .before .before .args .o)) (c .before .before .before .before .before .args .t) (c .before .before .before .if1 .taken) (λ e. c .if2 .taken (c .before .before .size-count .ensures .0 ∙ (e ∙ sym (c .before .size-count2 .ensures .0))))
+returns c =
+    let entry = c .before .before .before .before .before in
+    let at-if1 = c .before .before .before in
+    let at-size-count = c .before .before in
+    let args = entry .args in
+    unsided-uneven (dimsOf (args .o)) (args .t) (at-if1 .if1 .taken) (λ e. c .if2 .taken (at-size-count .size-count .ensures .0 ∙ (e ∙ sym (c .before .size-count2 .ensures .0))))
 
 agree-requires : tie.Need-agree-requires
 agree-requires c κs = search needs
 
 returns-2 : tie.Need-returns-2
-returns-2 c = unsided-even (dimsOf (c .before .before .before .before .before .before .args .o)) (c .before .before .before .before .before .before .args .t) (c .before .before .before .before .if1 .taken) (sym (c .before .before .before .size-count .ensures .0) ∙ (c .before .if2 .left ∙ c .before .before .size-count2 .ensures .0)) (c .agree .ensures)
+returns-2 c =
+    let entry = c .before .before .before .before .before .before in
+    let at-if1 = c .before .before .before .before in
+    let at-size-count = c .before .before .before in
+    let at-size-count2 = c .before .before in
+    let args = entry .args in
+    unsided-even (dimsOf (args .o)) (args .t) (at-if1 .if1 .taken) (sym (at-size-count .size-count .ensures .0) ∙ (c .before .if2 .left ∙ at-size-count2 .size-count2 .ensures .0)) (c .agree .ensures)
 
 equal-dims-requires : tie.Need-equal-dims-requires
 equal-dims-requires c κs = search needs
 
 returns-3 : tie.Need-returns-3
-returns-3 c = unsided-open (dimsOf (c .before .before .before .before .args .o)) (c .before .before .before .before .args .t) (c .before .before .if1 .left) (c .equal-dims .ensures)
+returns-3 c =
+    let entry = c .before .before .before .before in
+    let at-if1 = c .before .before in
+    let args = entry .args in
+    unsided-open (dimsOf (args .o)) (args .t) (at-if1 .if1 .left) (c .equal-dims .ensures)
 
 pub mismatch-unsided-spec : {M : Type 1} → statement M
 mismatch-unsided-spec =

@@ -26,13 +26,22 @@ no-dims-requires-2 : tie.Need-no-dims-requires-2
 no-dims-requires-2 c κs = search needs
 
 returns : tie.Need-returns
-returns c = sided-not (shapeFor (c .before .before .before .args .spec)) ∙ ap (λ s. sidedShape (sideOf s) (shapeFor (c .before .before .before .args .spec))) (sym (c .enum-told .given .1))
+returns c =
+    let entry = c .before .before .before in
+    let args = entry .args in
+    sided-not (shapeFor (args .spec)) ∙ ap (λ s. sidedShape (sideOf s) (shapeFor (args .spec))) (sym (c .enum-told .given .1))
 
 returns-2 : tie.Need-returns-2
-returns-2 c = sided-left (c .before .before .before .before .args .spec) (c .no-dims .result) (c .no-dims .ensures) ∙ ap (λ s. sidedShape (sideOf s) (shapeFor (c .before .before .before .before .args .spec))) (sym (c .before .enum-told2 .given .1))
+returns-2 c =
+    let entry = c .before .before .before .before in
+    let args = entry .args in
+    sided-left (args .spec) (c .no-dims .result) (c .no-dims .ensures) ∙ ap (λ s. sidedShape (sideOf s) (shapeFor (args .spec))) (sym (c .before .enum-told2 .given .1))
 
 returns-3 : tie.Need-returns-3
-returns-3 c = sided-right (c .before .before .before .before .args .spec) (c .no-dims2 .result) (c .no-dims2 .ensures) ∙ ap (λ s. sidedShape (sideOf s) (shapeFor (c .before .before .before .before .args .spec))) (sym (c .before .enum-told3 .given .1))
+returns-3 c =
+    let entry = c .before .before .before .before in
+    let args = entry .args in
+    sided-right (args .spec) (c .no-dims2 .result) (c .no-dims2 .ensures) ∙ ap (λ s. sidedShape (sideOf s) (shapeFor (args .spec))) (sym (c .before .enum-told3 .given .1))
 
 pub sided-shape-spec : {M : Type 1} → statement M
 sided-shape-spec =

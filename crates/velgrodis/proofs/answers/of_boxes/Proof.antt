@@ -24,13 +24,19 @@ refuse-requires : tie.Need-refuse-requires
 refuse-requires c κs = search needs
 
 returns : tie.Need-returns
-returns c = λ buffer. ap (λ r. handed r buffer) (c .give .ensures) ∙ sym (ap (λ v. listed (given (boxesOf v) buffer)) (c .before .before .b .given .1))
+returns c =
+    let at-b = c .before .before in
+    λ buffer.
+    ap (λ r. handed r buffer) (c .give .ensures) ∙ sym (ap (λ v. listed (given (boxesOf v) buffer)) (at-b .b .given .1))
 
 returns-2 : tie.Need-returns-2
 returns-2 c = λ buffer. ap (λ r. handed r buffer) (c .nothing .ensures) ∙ sym (ap (λ v. listed (given (boxesOf v) buffer)) (c .before .enum-told .given .1))
 
 returns-3 : tie.Need-returns-3
-returns-3 c = λ buffer. ap (λ r. handed r buffer) (c .refuse .ensures) ∙ sym (ap (λ v. listed (given (boxesOf v) buffer)) (c .before .before .b2 .given .1))
+returns-3 c =
+    let at-b2 = c .before .before in
+    λ buffer.
+    ap (λ r. handed r buffer) (c .refuse .ensures) ∙ sym (ap (λ v. listed (given (boxesOf v) buffer)) (at-b2 .b2 .given .1))
 
 pub of-boxes-spec : {M : Type 1} → statement M
 of-boxes-spec =

@@ -18,10 +18,16 @@ refuse-requires : tie.Need-refuse-requires
 refuse-requires c κs = search needs
 
 returns : tie.Need-returns
-returns c = λ result scratch. ap (λ r. returned r result scratch) (c .give .ensures) ∙ sym (ap (λ v. checked (calledOf v result scratch)) (c .before .before .s .given .1))
+returns c =
+    let at-s = c .before .before in
+    λ result scratch.
+    ap (λ r. returned r result scratch) (c .give .ensures) ∙ sym (ap (λ v. checked (calledOf v result scratch)) (at-s .s .given .1))
 
 returns-2 : tie.Need-returns-2
-returns-2 c = λ result scratch. ap (λ r. returned r result scratch) (c .refuse .ensures) ∙ sym (ap (λ v. checked (calledOf v result scratch)) (c .before .before .s2 .given .1))
+returns-2 c =
+    let at-s2 = c .before .before in
+    λ result scratch.
+    ap (λ r. returned r result scratch) (c .refuse .ensures) ∙ sym (ap (λ v. checked (calledOf v result scratch)) (at-s2 .s2 .given .1))
 
 pub of-called-spec : {M : Type 1} → statement M
 of-called-spec =

@@ -39,7 +39,9 @@ returns-3 : tie.Need-returns-3
 returns-3 c = c .give3 .ensures ∙ sym (ap (λ v. compared (comparisonOf v)) (c .before .enum-told3 .given .1))
 
 returns-4 : tie.Need-returns-4
-returns-4 c = c .refuse .ensures ∙ sym (ap (λ v. compared (comparisonOf v)) (c .before .before .c .given .1))
+returns-4 c =
+    let at-c = c .before .before in
+    c .refuse .ensures ∙ sym (ap (λ v. compared (comparisonOf v)) (at-c .c .given .1))
 
 pub of-comparison-spec : {M : Type 1} → statement M
 of-comparison-spec =

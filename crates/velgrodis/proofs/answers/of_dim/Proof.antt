@@ -25,13 +25,17 @@ refuse-requires : tie.Need-refuse-requires
 refuse-requires c κs = search needs
 
 returns : tie.Need-returns
-returns c = c .give .ensures ∙ ap (λ k. value k 0) (sym (dim-number _)) ∙ sym (ap (λ v. sizedOrNone (maybeDim v)) (c .before .before .d .given .1))
+returns c =
+    let at-d = c .before .before in
+    c .give .ensures ∙ ap (λ k. value k 0) (sym (dim-number _)) ∙ sym (ap (λ v. sizedOrNone (maybeDim v)) (at-d .d .given .1))
 
 returns-2 : tie.Need-returns-2
 returns-2 c = c .nothing .ensures ∙ sym (ap (λ v. sizedOrNone (maybeDim v)) (c .before .enum-told .given .1))
 
 returns-3 : tie.Need-returns-3
-returns-3 c = c .refuse .ensures ∙ sym (ap (λ v. sizedOrNone (maybeDim v)) (c .before .before .d2 .given .1))
+returns-3 c =
+    let at-d2 = c .before .before in
+    c .refuse .ensures ∙ sym (ap (λ v. sizedOrNone (maybeDim v)) (at-d2 .d2 .given .1))
 
 pub of-dim-spec : {M : Type 1} → statement M
 of-dim-spec =

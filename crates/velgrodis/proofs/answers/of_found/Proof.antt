@@ -24,13 +24,17 @@ refuse-requires : tie.Need-refuse-requires
 refuse-requires c κs = search needs
 
 returns : tie.Need-returns
-returns c = c .give .ensures ∙ sym (ap (λ v. found (foundOf v)) (c .before .before .f .given .1))
+returns c =
+    let at-f = c .before .before in
+    c .give .ensures ∙ sym (ap (λ v. found (foundOf v)) (at-f .f .given .1))
 
 returns-2 : tie.Need-returns-2
 returns-2 c = c .nothing .ensures ∙ sym (ap (λ v. found (foundOf v)) (c .before .enum-told .given .1))
 
 returns-3 : tie.Need-returns-3
-returns-3 c = c .refuse .ensures ∙ sym (ap (λ v. found (foundOf v)) (c .before .before .f2 .given .1))
+returns-3 c =
+    let at-f2 = c .before .before in
+    c .refuse .ensures ∙ sym (ap (λ v. found (foundOf v)) (at-f2 .f2 .given .1))
 
 pub of-found-spec : {M : Type 1} → statement M
 of-found-spec =

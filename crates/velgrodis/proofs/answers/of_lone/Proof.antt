@@ -21,7 +21,9 @@ returns : tie.Need-returns
 returns c = c .give .ensures ∙ sym (ap (λ v. counted (loneOf v)) (c .before .enum-told .given .1))
 
 returns-2 : tie.Need-returns-2
-returns-2 c = c .refuse .ensures ∙ sym (ap (λ v. counted (loneOf v)) (c .before .before .l .given .1))
+returns-2 c =
+    let at-l = c .before .before in
+    c .refuse .ensures ∙ sym (ap (λ v. counted (loneOf v)) (at-l .l .given .1))
 
 pub of-lone-spec : {M : Type 1} → statement M
 of-lone-spec =

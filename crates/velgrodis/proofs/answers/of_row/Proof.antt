@@ -24,13 +24,27 @@ refuse-requires : tie.Need-refuse-requires
 refuse-requires c κs = search needs
 
 returns : tie.Need-returns
-returns c = λ buffer. ap (λ r. rowHanded r (c .before .before .row .given .0 .0) buffer) (c .give .ensures) ∙ sym (ap (λ v. rowed (c .before .before .before .before .args .number .now) (rowDelivered v buffer)) (c .before .before .row .given .1))
+returns c =
+    let entry = c .before .before .before .before in
+    let at-row = c .before .before in
+    λ buffer.
+    ap (λ r. rowHanded r (at-row .row .given .0 .0) buffer) (c .give .ensures) ∙ sym (ap (λ v. rowed (entry .args .number .now) (rowDelivered v buffer)) (at-row .row .given .1))
 
 returns-2 : tie.Need-returns-2
-returns-2 c = λ buffer. ap (λ r. rowHanded r (c .before .before .before .before .args .number .now) buffer) (c .give2 .ensures) ∙ sym (ap (λ v. rowed (c .before .before .before .before .args .number .now) (rowDelivered v buffer)) (c .before .before .row2 .given .1))
+returns-2 c =
+    let entry = c .before .before .before .before in
+    let at-row2 = c .before .before in
+    let args = entry .args in
+    λ buffer.
+    ap (λ r. rowHanded r (args .number .now) buffer) (c .give2 .ensures) ∙ sym (ap (λ v. rowed (args .number .now) (rowDelivered v buffer)) (at-row2 .row2 .given .1))
 
 returns-3 : tie.Need-returns-3
-returns-3 c = λ buffer. ap (λ r. rowHanded r (c .before .before .before .before .args .number .now) buffer) (c .refuse .ensures) ∙ sym (ap (λ v. rowed (c .before .before .before .before .args .number .now) (rowDelivered v buffer)) (c .before .before .row3 .given .1))
+returns-3 c =
+    let entry = c .before .before .before .before in
+    let at-row3 = c .before .before in
+    let args = entry .args in
+    λ buffer.
+    ap (λ r. rowHanded r (args .number .now) buffer) (c .refuse .ensures) ∙ sym (ap (λ v. rowed (args .number .now) (rowDelivered v buffer)) (at-row3 .row3 .given .1))
 
 pub of-row-spec : {M : Type 1} → statement M
 of-row-spec =

@@ -30,7 +30,9 @@ returns-2 : tie.Need-returns-2
 returns-2 c = c .give2 .ensures ∙ sym (ap (λ v. tested (testedOf v)) (c .before .enum-told2 .given .1))
 
 returns-3 : tie.Need-returns-3
-returns-3 c = c .refuse .ensures ∙ sym (ap (λ v. tested (testedOf v)) (c .before .before .t .given .1))
+returns-3 c =
+    let at-t = c .before .before in
+    c .refuse .ensures ∙ sym (ap (λ v. tested (testedOf v)) (at-t .t .given .1))
 
 pub of-tested-spec : {M : Type 1} → statement M
 of-tested-spec =

@@ -18,10 +18,16 @@ refuse-requires : tie.Need-refuse-requires
 refuse-requires c κs = search needs
 
 returns : tie.Need-returns
-returns c = λ buffer. ap (λ r. handed r buffer) (c .give .ensures) ∙ sym (ap (λ v. written (delivered v buffer)) (c .before .before .w .given .1))
+returns c =
+    let at-w = c .before .before in
+    λ buffer.
+    ap (λ r. handed r buffer) (c .give .ensures) ∙ sym (ap (λ v. written (delivered v buffer)) (at-w .w .given .1))
 
 returns-2 : tie.Need-returns-2
-returns-2 c = λ buffer. ap (λ r. handed r buffer) (c .refuse .ensures) ∙ sym (ap (λ v. written (delivered v buffer)) (c .before .before .w2 .given .1))
+returns-2 c =
+    let at-w2 = c .before .before in
+    λ buffer.
+    ap (λ r. handed r buffer) (c .refuse .ensures) ∙ sym (ap (λ v. written (delivered v buffer)) (at-w2 .w2 .given .1))
 
 pub of-written-spec : {M : Type 1} → statement M
 of-written-spec =

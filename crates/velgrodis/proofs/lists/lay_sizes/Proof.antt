@@ -22,10 +22,17 @@ refuse-requires : tie.Need-refuse-requires Inv-loop μ-loop
 refuse-requires c κs = search needs
 
 returns : tie.Need-returns Inv-loop μ-loop
-returns c = sizes-short (c .before .before .before .before .args .t1) (c .before .before .before .before .args .sizes .now) (c .before .before .size-count .ensures .0) (c .refuse .ensures) (c .before .if1 .taken)
+returns c =
+    let entry = c .before .before .before .before in
+    let at-size-count = c .before .before in
+    let args = entry .args in
+    sizes-short (args .t1) (args .sizes .now) (at-size-count .size-count .ensures .0) (c .refuse .ensures) (c .before .if1 .taken)
 
 loop-holds : tie.Need-loop-holds Inv-loop μ-loop
-loop-holds c = (search needs, search needs, paste-zero (c .before .before .before .args .sizes .now) 0 (c .before .before .before .args .t1 .sizes))
+loop-holds c =
+    let entry = c .before .before .before in
+    let args = entry .args in
+    (search needs, search needs, paste-zero (args .sizes .now) 0 (args .t1 .sizes))
 
 mul-sizes : tie.Need-mul-sizes Inv-loop μ-loop
 mul-sizes c = search needs
@@ -46,16 +53,29 @@ loop-less : tie.Need-loop-less Inv-loop μ-loop
 loop-less c = search needs
 
 loop-again : tie.Need-loop-again Inv-loop μ-loop
-loop-again c = let w : length (c .before .before .before .before .before .before .args .t1 .sizes) ≡ 8 = search needs in (omega arith, search needs, ap (λ (d : List ℕ). set d (c .before .before .loop .i) (getD (c .before .before .before .before .before .before .args .t1 .sizes) (c .before .before .loop .i) 0)) (c .before .before .loop .inv .2) ∙ lays-one (c .before .before .before .before .before .before .args .sizes .now) (c .before .before .before .before .before .before .args .t1 .sizes) (c .before .before .loop .i) (omega arith) (omega arith))
+loop-again c =
+    let entry = c .before .before .before .before .before .before in
+    let at-loop = c .before .before in
+    let args = entry .args in
+    let w : length (args .t1 .sizes) ≡ 8 = search needs in
+    (omega arith, search needs, ap (λ (d : List ℕ). set d (at-loop .loop .i) (getD (args .t1 .sizes) (at-loop .loop .i) 0)) (at-loop .loop .inv .2) ∙ lays-one (args .sizes .now) (args .t1 .sizes) (at-loop .loop .i) (omega arith) (omega arith))
 
 give-requires : tie.Need-give-requires Inv-loop μ-loop
 give-requires c κs = search needs
 
 same-length : tie.Need-same-length Inv-loop μ-loop
-same-length c = c .before .before .loop .inv .1
+same-length c =
+    let at-loop = c .before .before in
+    at-loop .loop .inv .1
 
 returns-2 : tie.Need-returns-2 Inv-loop μ-loop
-returns-2 c = let e : c .before .before .loop .i ≡ c .before .before .before .before .size-count .result = omega arith in sizes-laid (c .before .before .before .before .before .before .args .t1) (c .before .before .before .before .before .before .args .sizes .now) (c .before .before .before .before .size-count .ensures .0) (c .give .ensures) (omega arith) (c .before .before .loop .inv .2 ∙ ap (λ k. paste (c .before .before .before .before .before .before .args .sizes .now) 0 (c .before .before .before .before .before .before .args .t1 .sizes) k) e)
+returns-2 c =
+    let entry = c .before .before .before .before .before .before in
+    let at-size-count = c .before .before .before .before in
+    let at-loop = c .before .before in
+    let args = entry .args in
+    let e : at-loop .loop .i ≡ at-size-count .size-count .result = omega arith in
+    sizes-laid (args .t1) (args .sizes .now) (at-size-count .size-count .ensures .0) (c .give .ensures) (omega arith) (at-loop .loop .inv .2 ∙ ap (λ k. paste (args .sizes .now) 0 (args .t1 .sizes) k) e)
 
 pub lay-sizes-spec : {M : Type 1} → statement M
 lay-sizes-spec =

@@ -26,13 +26,25 @@ same-length : tie.Need-same-length
 same-length c = search needs
 
 returns : tie.Need-returns
-returns c = beside-sizes (c .before .before .before .before .before .before .before .before .args .sizes .now) (dimsOf (c .before .before .before .before .before .before .before .before .args .d .dims)) (c .before .before .before .before .enum-told .given .1) (c .before .before .lay-sizes .ensures)
+returns c =
+    let entry = c .before .before .before .before .before .before .before .before in
+    let at-enum-told = c .before .before .before .before in
+    let at-lay-sizes = c .before .before in
+    let args = entry .args in
+    beside-sizes (args .sizes .now) (dimsOf (args .d .dims)) (at-enum-told .enum-told .given .1) (at-lay-sizes .lay-sizes .ensures)
 
 returns-2 : tie.Need-returns-2
-returns-2 c = beside-nothing (c .before .before .before .before .before .args .sizes .now) (dimsOf (c .before .before .before .before .before .args .d .dims)) (c .before .enum-told2 .given .1) (c .nothing .ensures)
+returns-2 c =
+    let entry = c .before .before .before .before .before in
+    let args = entry .args in
+    beside-nothing (args .sizes .now) (dimsOf (args .d .dims)) (c .before .enum-told2 .given .1) (c .nothing .ensures)
 
 returns-3 : tie.Need-returns-3
-returns-3 c = beside-refused (c .before .before .before .before .before .before .args .sizes .now) (dimsOf (c .before .before .before .before .before .before .args .d .dims)) (c .before .before .answer .given .1) (c .refuse .ensures)
+returns-3 c =
+    let entry = c .before .before .before .before .before .before in
+    let at-answer = c .before .before in
+    let args = entry .args in
+    beside-refused (args .sizes .now) (dimsOf (args .d .dims)) (at-answer .answer .given .1) (c .refuse .ensures)
 
 pub of-dims-spec : {M : Type 1} → statement M
 of-dims-spec =

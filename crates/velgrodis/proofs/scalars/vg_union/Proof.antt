@@ -14,7 +14,9 @@ same-length : tie.Need-same-length
 same-length c = search needs
 
 returns : tie.Need-returns
-returns c = c .of-written .ensures _ ∙ ap written (c .before .before .before .union .ensures)
+returns c =
+    let at-union = c .before .before .before in
+    c .of-written .ensures _ ∙ ap written (at-union .union .ensures)
 
 pub vg-union-spec : {M : Type 1} → statement M
 vg-union-spec = tie.close (tie.spec union-requires of-written-requires same-length returns)

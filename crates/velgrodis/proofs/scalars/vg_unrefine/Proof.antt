@@ -14,7 +14,9 @@ same-length : tie.Need-same-length
 same-length c = search needs
 
 returns : tie.Need-returns
-returns c = c .of-written .ensures _ ∙ ap written (c .before .before .before .unrefine .ensures)
+returns c =
+    let at-unrefine = c .before .before .before in
+    c .of-written .ensures _ ∙ ap written (at-unrefine .unrefine .ensures)
 
 pub vg-unrefine-spec : {M : Type 1} → statement M
 vg-unrefine-spec = tie.close (tie.spec unrefine-requires of-written-requires same-length returns)

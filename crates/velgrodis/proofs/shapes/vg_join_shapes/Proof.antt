@@ -14,7 +14,9 @@ same-length : tie.Need-same-length
 same-length c = search needs
 
 returns : tie.Need-returns
-returns c = c .of-written .ensures _ ∙ ap written (c .before .before .before .join-shapes .ensures)
+returns c =
+    let at-join-shapes = c .before .before .before in
+    c .of-written .ensures _ ∙ ap written (at-join-shapes .join-shapes .ensures)
 
 pub vg-join-shapes-spec : {M : Type 1} → statement M
 vg-join-shapes-spec =

@@ -14,7 +14,9 @@ same-length : tie.Need-same-length
 same-length c = search needs
 
 returns : tie.Need-returns
-returns c = c .of-written .ensures _ ∙ ap written (c .before .before .before .merge .ensures)
+returns c =
+    let at-merge = c .before .before .before in
+    c .of-written .ensures _ ∙ ap written (at-merge .merge .ensures)
 
 pub vg-merge-spec : {M : Type 1} → statement M
 vg-merge-spec = tie.close (tie.spec merge-requires of-written-requires same-length returns)

@@ -18,7 +18,10 @@ refuse-requires : tie.Need-refuse-requires
 refuse-requires c κs = search needs
 
 returns : tie.Need-returns
-returns c = unsaid-written (c .refuse .ensures) (c .before .before .before .before .before .args .result .now) (flag-unsaid (c .before .before .before .before .before .args .flag) (c .before .before .before .before .before .args .a .now) (c .before .before .before .before .before .args .b .now) (c .before .if1 .taken))
+returns c =
+    let entry = c .before .before .before .before .before in
+    let args = entry .args in
+    unsaid-written (c .refuse .ensures) (args .result .now) (flag-unsaid (args .flag) (args .a .now) (args .b .now) (c .before .if1 .taken))
 
 pervade-requires : tie.Need-pervade-requires
 pervade-requires c κs = search needs
@@ -30,7 +33,12 @@ same-length : tie.Need-same-length
 same-length c = search needs
 
 returns-2 : tie.Need-returns-2
-returns-2 c = let s = c .before .before .before .before .before .before .before .before .before .args in c .of-written .ensures _ ∙ ap written (c .before .before .before .pervade .ensures ∙ sym (ap (λ t. deliver (cond t (pervadeCall (fillsTop (s .flag)) (fillsBelow (s .flag)) (s .a .now) (s .b .now)) unsaid) (s .result .now)) (le-leb (s .flag) maxFlag (c .before .before .before .before .before .if1 .left))))
+returns-2 c =
+    let entry = c .before .before .before .before .before .before .before .before .before in
+    let at-if1 = c .before .before .before .before .before in
+    let at-pervade = c .before .before .before in
+    let s = entry .args in
+    c .of-written .ensures _ ∙ ap written (at-pervade .pervade .ensures ∙ sym (ap (λ t. deliver (cond t (pervadeCall (fillsTop (s .flag)) (fillsBelow (s .flag)) (s .a .now) (s .b .now)) unsaid) (s .result .now)) (le-leb (s .flag) maxFlag (at-if1 .if1 .left))))
 
 pub vg-pervade-spec : {M : Type 1} → statement M
 vg-pervade-spec =

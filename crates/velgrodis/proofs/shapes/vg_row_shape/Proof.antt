@@ -14,7 +14,9 @@ same-length : tie.Need-same-length
 same-length c = search needs
 
 returns : tie.Need-returns
-returns c = c .of-written .ensures _ ∙ ap written (c .before .before .before .row-shape .ensures)
+returns c =
+    let at-row-shape = c .before .before .before in
+    c .of-written .ensures _ ∙ ap written (at-row-shape .row-shape .ensures)
 
 pub vg-row-shape-spec : {M : Type 1} → statement M
 vg-row-shape-spec = tie.close (tie.spec row-shape-requires of-written-requires same-length returns)

@@ -17,7 +17,9 @@ same-length-2 : tie.Need-same-length-2
 same-length-2 c = search needs
 
 returns : tie.Need-returns
-returns c = c .of-called .ensures _ _ ∙ ap checked (c .before .before .before .before .before .check-sheet .ensures)
+returns c =
+    let at-check-sheet = c .before .before .before .before .before in
+    c .of-called .ensures _ _ ∙ ap checked (at-check-sheet .check-sheet .ensures)
 
 pub vg-check-sheet-spec : {M : Type 1} → statement M
 vg-check-sheet-spec =

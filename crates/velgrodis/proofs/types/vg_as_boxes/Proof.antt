@@ -14,7 +14,9 @@ same-length : tie.Need-same-length
 same-length c = search needs
 
 returns : tie.Need-returns
-returns c = c .of-boxes .ensures _ ∙ ap listed (c .before .before .before .as-boxes .ensures)
+returns c =
+    let at-as-boxes = c .before .before .before in
+    c .of-boxes .ensures _ ∙ ap listed (at-as-boxes .as-boxes .ensures)
 
 pub vg-as-boxes-spec : {M : Type 1} → statement M
 vg-as-boxes-spec = tie.close (tie.spec as-boxes-requires of-boxes-requires same-length returns)

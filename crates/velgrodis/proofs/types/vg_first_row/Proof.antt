@@ -14,7 +14,9 @@ same-length : tie.Need-same-length
 same-length c = search needs
 
 returns : tie.Need-returns
-returns c = c .of-written .ensures _ ∙ ap written (c .before .before .before .into-first-row .ensures)
+returns c =
+    let at-into-first-row = c .before .before .before in
+    c .of-written .ensures _ ∙ ap written (at-into-first-row .into-first-row .ensures)
 
 pub vg-first-row-spec : {M : Type 1} → statement M
 vg-first-row-spec =

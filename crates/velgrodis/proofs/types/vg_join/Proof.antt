@@ -14,7 +14,9 @@ same-length : tie.Need-same-length
 same-length c = search needs
 
 returns : tie.Need-returns
-returns c = c .of-written .ensures _ ∙ ap written (c .before .before .before .join .ensures)
+returns c =
+    let at-join = c .before .before .before in
+    c .of-written .ensures _ ∙ ap written (at-join .join .ensures)
 
 pub vg-join-spec : {M : Type 1} → statement M
 vg-join-spec = tie.close (tie.spec join-requires of-written-requires same-length returns)

@@ -14,7 +14,9 @@ same-length : tie.Need-same-length
 same-length c = search needs
 
 returns : tie.Need-returns
-returns c = c .of-written .ensures _ ∙ ap written (c .before .before .before .into-last-row .ensures)
+returns c =
+    let at-into-last-row = c .before .before .before in
+    c .of-written .ensures _ ∙ ap written (at-into-last-row .into-last-row .ensures)
 
 pub vg-last-row-spec : {M : Type 1} → statement M
 vg-last-row-spec =

@@ -14,7 +14,9 @@ same-length : tie.Need-same-length
 same-length c = search needs
 
 returns : tie.Need-returns
-returns c = c .of-written .ensures _ ∙ ap written (c .before .before .before .into-nth-row .ensures)
+returns c =
+    let at-into-nth-row = c .before .before .before in
+    c .of-written .ensures _ ∙ ap written (at-into-nth-row .into-nth-row .ensures)
 
 pub vg-nth-row-spec : {M : Type 1} → statement M
 vg-nth-row-spec =

@@ -14,7 +14,9 @@ same-length : tie.Need-same-length
 same-length c = search needs
 
 returns : tie.Need-returns
-returns c = c .of-written .ensures _ ∙ ap written (c .before .before .before .into-row .ensures)
+returns c =
+    let at-into-row = c .before .before .before in
+    c .of-written .ensures _ ∙ ap written (at-into-row .into-row .ensures)
 
 pub vg-row-spec : {M : Type 1} → statement M
 vg-row-spec = tie.close (tie.spec into-row-requires of-written-requires same-length returns)

@@ -14,7 +14,9 @@ same-length : tie.Need-same-length
 same-length c = search needs
 
 returns : tie.Need-returns
-returns c = c .of-written .ensures _ ∙ ap written (c .before .before .before .scalar-record .ensures)
+returns c =
+    let at-scalar-record = c .before .before .before in
+    c .of-written .ensures _ ∙ ap written (at-scalar-record .scalar-record .ensures)
 
 pub vg-scalar-record-spec : {M : Type 1} → statement M
 vg-scalar-record-spec =

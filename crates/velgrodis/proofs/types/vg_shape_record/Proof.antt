@@ -14,7 +14,9 @@ same-length : tie.Need-same-length
 same-length c = search needs
 
 returns : tie.Need-returns
-returns c = c .of-written .ensures _ ∙ ap written (c .before .before .before .shape-record .ensures)
+returns c =
+    let at-shape-record = c .before .before .before in
+    c .of-written .ensures _ ∙ ap written (at-shape-record .shape-record .ensures)
 
 pub vg-shape-record-spec : {M : Type 1} → statement M
 vg-shape-record-spec =

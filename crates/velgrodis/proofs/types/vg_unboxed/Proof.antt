@@ -14,7 +14,9 @@ same-length : tie.Need-same-length
 same-length c = search needs
 
 returns : tie.Need-returns
-returns c = c .of-written .ensures _ ∙ ap written (c .before .before .before .unboxed .ensures)
+returns c =
+    let at-unboxed = c .before .before .before in
+    c .of-written .ensures _ ∙ ap written (at-unboxed .unboxed .ensures)
 
 pub vg-unboxed-spec : {M : Type 1} → statement M
 vg-unboxed-spec = tie.close (tie.spec unboxed-requires of-written-requires same-length returns)

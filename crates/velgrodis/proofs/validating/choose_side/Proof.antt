@@ -12,7 +12,10 @@ returns-3 : tie.Need-returns-3
 returns-3 c = rw (c .if3 .taken)
 
 returns-4 : tie.Need-returns-4
-returns-4 c = past-three _ _ _ _ (c .before .before .before .args .n) (c .before .before .if1 .left) (c .before .if2 .left) (c .if3 .left)
+returns-4 c =
+    let entry = c .before .before .before in
+    let at-if1 = c .before .before in
+    past-three _ _ _ _ (entry .args .n) (at-if1 .if1 .left) (c .before .if2 .left) (c .if3 .left)
 
 pub choose-side-spec : {M : Type 1} → statement M
 choose-side-spec = tie.close (tie.spec returns returns-2 returns-3 returns-4)

@@ -14,7 +14,9 @@ same-length : tie.Need-same-length
 same-length c = search needs
 
 returns : tie.Need-returns
-returns c = c .of-written .ensures _ ∙ ap written (c .before .before .before .check-scalar .ensures)
+returns c =
+    let at-check-scalar = c .before .before .before in
+    c .of-written .ensures _ ∙ ap written (at-check-scalar .check-scalar .ensures)
 
 pub vg-check-scalar-spec : {M : Type 1} → statement M
 vg-check-scalar-spec =

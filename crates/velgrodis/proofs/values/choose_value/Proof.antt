@@ -12,7 +12,10 @@ returns-3 : tie.Need-returns-3
 returns-3 c = λ list bytes. rw (c .if3 .taken)
 
 returns-4 : tie.Need-returns-4
-returns-4 c = λ list bytes. past-three _ _ _ _ (c .before .before .before .args .kind) (c .before .before .if1 .left) (c .before .if2 .left) (c .if3 .left)
+returns-4 c =
+    let entry = c .before .before .before in
+    let at-if1 = c .before .before in
+    λ list bytes. past-three _ _ _ _ (entry .args .kind) (at-if1 .if1 .left) (c .before .if2 .left) (c .if3 .left)
 
 pub choose-value-spec : {M : Type 1} → statement M
 choose-value-spec = tie.close (tie.spec returns returns-2 returns-3 returns-4)

@@ -21,7 +21,11 @@ refuse-requires : tie.Need-refuse-requires
 refuse-requires c κs = search needs
 
 returns : tie.Need-returns
-returns c = let s = c .before .before .before .before .before .before .before .args in unsaid-sizes (c .refuse .ensures) (s .sizes .now) (ap (λ o. bound valueAsDims o) (value-unsaid (s .kind) (s .x) (c .before .before .before .choose-value .ensures) (s .list .now) (s .ty .now) (c .before .enum-told .given .1)))
+returns c =
+    let entry = c .before .before .before .before .before .before .before in
+    let at-choose-value = c .before .before .before in
+    let s = entry .args in
+    unsaid-sizes (c .refuse .ensures) (s .sizes .now) (ap (λ o. bound valueAsDims o) (value-unsaid (s .kind) (s .x) (at-choose-value .choose-value .ensures) (s .list .now) (s .ty .now) (c .before .enum-told .given .1)))
 
 as-dims-requires : tie.Need-as-dims-requires
 as-dims-requires c κs = search needs
@@ -33,7 +37,14 @@ same-length : tie.Need-same-length
 same-length c = search needs
 
 returns-2 : tie.Need-returns-2
-returns-2 c = let s = c .before .before .before .before .before .before .before .before .before .before .before .before .args in c .before .before .of-dims .ensures ∙ ap (λ o. listed (deliverSizes o (s .sizes .now))) (c .before .before .before .before .as-dims .ensures ∙ ap (λ o. bound valueAsDims o) (value-said (s .kind) (s .x) (c .before .before .before .before .before .before .before .before .choose-value .ensures) (s .list .now) (s .ty .now) (c .before .before .before .before .before .before .v .given .1)))
+returns-2 c =
+    let entry = c .before .before .before .before .before .before .before .before .before .before .before .before in
+    let at-choose-value = c .before .before .before .before .before .before .before .before in
+    let at-v = c .before .before .before .before .before .before in
+    let at-as-dims = c .before .before .before .before in
+    let at-of-dims = c .before .before in
+    let s = entry .args in
+    at-of-dims .of-dims .ensures ∙ ap (λ o. listed (deliverSizes o (s .sizes .now))) (at-as-dims .as-dims .ensures ∙ ap (λ o. bound valueAsDims o) (value-said (s .kind) (s .x) (at-choose-value .choose-value .ensures) (s .list .now) (s .ty .now) (at-v .v .given .1)))
 
 pub vg-as-dims-spec : {M : Type 1} → statement M
 vg-as-dims-spec =

@@ -14,7 +14,9 @@ same-length : tie.Need-same-length
 same-length c = search needs
 
 returns : tie.Need-returns
-returns c = c .of-written .ensures _ ∙ ap written (c .before .before .before .nums-scalar .ensures)
+returns c =
+    let at-nums-scalar = c .before .before .before in
+    c .of-written .ensures _ ∙ ap written (at-nums-scalar .nums-scalar .ensures)
 
 pub vg-nums-scalar-spec : {M : Type 1} → statement M
 vg-nums-scalar-spec =

@@ -20,7 +20,11 @@ refuse-requires : tie.Need-refuse-requires
 refuse-requires c κs = search needs
 
 returns : tie.Need-returns
-returns c = let s = c .before .before .before .before .before .before .args in c .refuse .ensures ∙ ap counted (sym (ap (λ o. mapped valueRank o) (value-unsaid (s .kind) (s .x) (c .before .before .before .choose-value .ensures) (s .list .now) (s .ty .now) (c .before .enum-told .given .1))))
+returns c =
+    let entry = c .before .before .before .before .before .before in
+    let at-choose-value = c .before .before .before in
+    let s = entry .args in
+    c .refuse .ensures ∙ ap counted (sym (ap (λ o. mapped valueRank o) (value-unsaid (s .kind) (s .x) (at-choose-value .choose-value .ensures) (s .list .now) (s .ty .now) (c .before .enum-told .given .1))))
 
 rank-requires : tie.Need-rank-requires
 rank-requires c κs = search needs
@@ -29,7 +33,12 @@ of-count-requires : tie.Need-of-count-requires
 of-count-requires c κs = search needs
 
 returns-2 : tie.Need-returns-2
-returns-2 c = let s = c .before .before .before .before .before .before .before .before .args in c .of-count .ensures ∙ ap counted (c .before .rank .ensures ∙ ap (λ o. mapped valueRank o) (value-said (s .kind) (s .x) (c .before .before .before .before .before .choose-value .ensures) (s .list .now) (s .ty .now) (c .before .before .before .v .given .1)))
+returns-2 c =
+    let entry = c .before .before .before .before .before .before .before .before in
+    let at-choose-value = c .before .before .before .before .before in
+    let at-v = c .before .before .before in
+    let s = entry .args in
+    c .of-count .ensures ∙ ap counted (c .before .rank .ensures ∙ ap (λ o. mapped valueRank o) (value-said (s .kind) (s .x) (at-choose-value .choose-value .ensures) (s .list .now) (s .ty .now) (at-v .v .given .1)))
 
 pub vg-val-rank-spec : {M : Type 1} → statement M
 vg-val-rank-spec =

@@ -20,7 +20,11 @@ refuse-requires : tie.Need-refuse-requires
 refuse-requires c κs = search needs
 
 returns : tie.Need-returns
-returns c = let s = c .before .before .before .before .before .before .args in c .refuse .ensures ∙ ap sized (sym (ap (λ o. bound valueRowCount o) (value-unsaid (s .kind) (s .x) (c .before .before .before .choose-value .ensures) (s .list .now) (s .ty .now) (c .before .enum-told .given .1))))
+returns c =
+    let entry = c .before .before .before .before .before .before in
+    let at-choose-value = c .before .before .before in
+    let s = entry .args in
+    c .refuse .ensures ∙ ap sized (sym (ap (λ o. bound valueRowCount o) (value-unsaid (s .kind) (s .x) (at-choose-value .choose-value .ensures) (s .list .now) (s .ty .now) (c .before .enum-told .given .1))))
 
 row-count-requires : tie.Need-row-count-requires
 row-count-requires c κs = search needs
@@ -29,7 +33,12 @@ of-size-requires : tie.Need-of-size-requires
 of-size-requires c κs = search needs
 
 returns-2 : tie.Need-returns-2
-returns-2 c = let s = c .before .before .before .before .before .before .before .before .args in c .of-size .ensures ∙ ap sized (c .before .row-count .ensures ∙ ap (λ o. bound valueRowCount o) (value-said (s .kind) (s .x) (c .before .before .before .before .before .choose-value .ensures) (s .list .now) (s .ty .now) (c .before .before .before .v .given .1)))
+returns-2 c =
+    let entry = c .before .before .before .before .before .before .before .before in
+    let at-choose-value = c .before .before .before .before .before in
+    let at-v = c .before .before .before in
+    let s = entry .args in
+    c .of-size .ensures ∙ ap sized (c .before .row-count .ensures ∙ ap (λ o. bound valueRowCount o) (value-said (s .kind) (s .x) (at-choose-value .choose-value .ensures) (s .list .now) (s .ty .now) (at-v .v .given .1)))
 
 pub vg-val-row-count-spec : {M : Type 1} → statement M
 vg-val-row-count-spec =

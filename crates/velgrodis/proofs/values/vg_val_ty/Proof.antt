@@ -21,7 +21,11 @@ refuse-requires : tie.Need-refuse-requires
 refuse-requires c κs = search needs
 
 returns : tie.Need-returns
-returns c = let s = c .before .before .before .before .before .before .before .args in unsaid-written (c .refuse .ensures) (s .result .now) (ap (λ o. mapped writeTy (bound valueTy o)) (value-unsaid (s .kind) (s .x) (c .before .before .before .choose-value .ensures) (s .list .now) (s .ty .now) (c .before .enum-told .given .1)))
+returns c =
+    let entry = c .before .before .before .before .before .before .before in
+    let at-choose-value = c .before .before .before in
+    let s = entry .args in
+    unsaid-written (c .refuse .ensures) (s .result .now) (ap (λ o. mapped writeTy (bound valueTy o)) (value-unsaid (s .kind) (s .x) (at-choose-value .choose-value .ensures) (s .list .now) (s .ty .now) (c .before .enum-told .given .1)))
 
 ty-requires : tie.Need-ty-requires
 ty-requires c κs = search needs
@@ -33,7 +37,13 @@ same-length : tie.Need-same-length
 same-length c = search needs
 
 returns-2 : tie.Need-returns-2
-returns-2 c = let s = c .before .before .before .before .before .before .before .before .before .before .before .before .args in c .of-written .ensures _ ∙ ap written (c .before .before .before .ty .ensures ∙ ap (λ o. deliver (mapped writeTy (bound valueTy o)) (s .result .now)) (value-said (s .kind) (s .x) (c .before .before .before .before .before .before .before .before .choose-value .ensures) (s .list .now) (s .ty .now) (c .before .before .before .before .before .before .v .given .1)))
+returns-2 c =
+    let entry = c .before .before .before .before .before .before .before .before .before .before .before .before in
+    let at-choose-value = c .before .before .before .before .before .before .before .before in
+    let at-v = c .before .before .before .before .before .before in
+    let at-ty = c .before .before .before in
+    let s = entry .args in
+    c .of-written .ensures _ ∙ ap written (at-ty .ty .ensures ∙ ap (λ o. deliver (mapped writeTy (bound valueTy o)) (s .result .now)) (value-said (s .kind) (s .x) (at-choose-value .choose-value .ensures) (s .list .now) (s .ty .now) (at-v .v .given .1)))
 
 pub vg-val-ty-spec : {M : Type 1} → statement M
 vg-val-ty-spec =

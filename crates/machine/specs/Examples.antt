@@ -1,6 +1,7 @@
 -- Worked examples of the sheet in one list: document 01's own, and those where its words are easily read otherwise. What comes
 -- first of several refusals, which place is named, which side is the first, and what stands at the bottom.
 use Prim.Native.Nat.{ℕ, zero, suc, _*_, _≤_}
+use native.Mathlib.Omega.{arith}
 use mathlib.Core.Bool.{Bool, true, false}
 use mathlib.Core.List.{List, [], _∷_, _++_, map}
 use mathlib.Core.Option.{Option, none, some}
@@ -30,6 +31,7 @@ use Rattle.machine.specs.Run.{pervadeTypes, step}
 use Rattle.machine.specs.Sheet.{opcodeFrom, argumentFrom, stepFrom, workFrom, sheetFrom, skimFrom, sheetRun, skim}
 use Rattle.machine.specs.Call.{tally, called, writeTypes, zeroed, handOver, sheetCall}
 use Rattle.machine.specs.Real.{RealShape, fits, realPervade, Kept, theTop, theOneBelow, realStep, realRun}
+use Rattle.machine.specs.Conditions.{Alike, PutOrPervade}
 
 pub data Example : Type 0 where
   -- a sheet's bytes, and the bytes of the types left
@@ -199,3 +201,41 @@ realExamples =
 pub realExamples-hold : All RealHolds realExamples
 unfolding realExamples fits realPervade realStep realRun
 realExamples-hold = (refl, (refl, (refl, (refl, (refl, (refl, (refl, (refl, (refl, (refl, (refl, tt)))))))))))
+
+-- ---- the conditions of demand 3
+
+pub data ConditionExample : Type 0 where
+  -- two shapes that a join may take
+  theAlike : Shape → Shape → ConditionExample
+  theUnlike : Shape → Shape → ConditionExample
+  -- a step that the second half speaks of
+  thePutOrPervade : Step → ConditionExample
+  theOther : Step → ConditionExample
+
+abbrev pub ConditionShown : ConditionExample → Type 0
+ConditionShown (theAlike s t) = Alike s t
+ConditionShown (theUnlike s t) = Alike s t → ⊥
+ConditionShown (thePutOrPervade x) = PutOrPervade x
+ConditionShown (theOther x) = PutOrPervade x → ⊥
+
+unfoldable pub conditionExamples : List ConditionExample
+conditionExamples =
+    -- Closed shapes of equal count, or two open ones.
+    theAlike (shape (static 2 ∷ []) none) (shape (unknown ∷ []) none)
+    ∷ theUnlike (shape (static 2 ∷ []) none) (shape [] none)
+    ∷ theAlike (shape (static 2 ∷ []) (some [])) (shape [] (some []))
+    ∷ theUnlike (shape (static 2 ∷ []) none) (shape (static 2 ∷ []) (some []))
+    ∷ theUnlike (shape (static 2 ∷ []) (some [])) (shape (static 2 ∷ []) none)
+    -- Puts, and pervadings with flag byte 0.
+    ∷ thePutOrPervade (put (nums []))
+    ∷ thePutOrPervade (pervading false false)
+    ∷ theOther (pervading true false)
+    ∷ theOther (pervading false true)
+    ∷ theOther row
+    ∷ theOther join
+    ∷ theOther (validating (nums []))
+    ∷ []
+
+pub conditionExamples-shown : All ConditionShown conditionExamples
+unfolding conditionExamples
+conditionExamples-shown = (refl, (λ h. omega arith, (tt, (λ h. h, (λ h. h, (tt, (refl, (λ h. omega arith, (λ h. omega arith, (λ h. h, (λ h. h, (λ h. h, tt))))))))))))

@@ -15,8 +15,16 @@ use Rattle.rules.specs.Pervade.{pervade}
 use Rattle.rules.specs.Scalars.{union}
 use Rattle.rules.specs.Types.{joinTypes}
 use Rattle.machine.specs.SheetLimits.{maxStack}
-use Rattle.machine.specs.Steps.{put, pervading, join}
+use Rattle.machine.specs.Steps.{put, pervading, join, flagByte}
 use Rattle.machine.specs.Run.{Answer, gives, refuses, following, orRefuses, aside, Stack, onto, pervadeTypes, step}
+
+-- ---- flags
+
+-- a flag byte 0 fills neither side
+pub unfilled : (f g : Bool) → flagByte f g ≡ 0 → (f ≡ false) × (g ≡ false)
+unfilled false false h = (refl, refl)
+unfilled true g h = absurd (omega arith)
+unfilled false true h = absurd (omega arith)
 
 -- ---- the top is the first
 

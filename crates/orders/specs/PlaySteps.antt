@@ -2,7 +2,7 @@
 -- same play with two different rules.
 use Prim.Native.Nat.{ℕ, suc, _-_}
 use native.Mathlib.Omega.{arith}
-use mathlib.Core.Bool.{Bool, true, false}
+use mathlib.Core.Bool.{false}
 use mathlib.Core.List.{List, [], _∷_, map}
 use mathlib.Core.Option.{Option, none, some}
 use mathlib.Core.Path.{_≡_, refl, ap}
@@ -12,19 +12,13 @@ use Rattle.model.specs.Types.{Shape, ty, shapeOf}
 use Rattle.model.specs.Within.{All}
 use Rattle.rules.specs.Pervade.{pervade}
 use Rattle.rules.specs.Scalars.{union}
-use Rattle.machine.specs.Steps.{Step, put, row, pervading, join, validating, flagByte}
+use Rattle.machine.specs.Steps.{Step, put, row, pervading, join, validating}
 use Rattle.machine.specs.Run.{Answer, gives, refuses, following, orRefuses, Stack, onto, steps}
 use Rattle.machine.specs.WellFormed.{heightAfter, Heights}
 use Rattle.machine.specs.Real.{RealShape, realPervade, Feeds, realStep, ontoReal, goesOn, realRun}
 use Rattle.machine.specs.Conditions.{PutOrPervade, puts}
-use Rattle.machine.specs.Play.{Move, lay, mix, laid, Enough, heightLeft, mixed, play}
-use Rattle.machine.specs.RunLaws.{step-put, pervadeTypes-is, step-pervading}
-
--- a flag byte 0 fills neither side
-pub unfilled : (f g : Bool) → flagByte f g ≡ 0 → (f ≡ false) × (g ≡ false)
-unfilled false false h = (refl, refl)
-unfilled true g h = absurd (omega arith)
-unfilled false true h = absurd (omega arith)
+use Rattle.orders.specs.Play.{Move, lay, mix, laid, Enough, heightLeft, mixed, play}
+use Rattle.machine.specs.RunLaws.{unfilled, step-put, pervadeTypes-is, step-pervading}
 
 -- ---- shapes
 

@@ -8,6 +8,7 @@ pub mod Real
 pub mod Conditions
 pub mod Examples
 pub mod RunLaws
+pub mod Opcodes
 pub mod SheetSteps
 pub mod StepsTook
 pub mod StepsReads

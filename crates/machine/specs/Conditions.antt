@@ -1,15 +1,15 @@
 -- The words of demand 3 as predicates of a list of steps. Those of a row or a join look at the type that it takes, which is the
 -- one that the rules give there from the steps before.
 use Prim.Native.Nat.{ℕ, _+_}
-use mathlib.Core.Bool.{Bool, true, false, cond}
+use mathlib.Core.Bool.{Bool, true, false, _||_, cond}
 use mathlib.Core.List.{List, [], _∷_}
-use mathlib.Core.Option.{none, some}
+use mathlib.Core.Option.{Option, none, some}
 use mathlib.Core.Path.{_≡_}
 use lib.ListN.{length}
 use Rattle.model.specs.Types.{Shape, shape, plain, boxAny, boxAll, boxDef, Ty, ty, shapeOf}
 use Rattle.rules.specs.Sizes.{Order, less, same, more}
 use Rattle.rules.specs.Order.{compare}
-use Rattle.machine.specs.Steps.{Step, put, row, pervading, join, validating, flagByte}
+use Rattle.machine.specs.Steps.{Step, aPut, aRow, aPervading, aJoin, isA, putBy, flagByte, Argument, noArgument, aType, flags, argumentOf}
 use Rattle.machine.specs.Run.{gives, Stack, step}
 
 -- ---- the first half
@@ -21,20 +21,31 @@ namesClosing (shape o (some [])) = false
 namesClosing (shape o (some (d ∷ c))) = true
 
 -- "names no closing sizes": of the own type of a put or validation, types inside boxes aside.
+abbrev pub ArgumentNamesNoClosing : Argument → Type 0
+ArgumentNamesNoClosing noArgument = Unit {0}
+ArgumentNamesNoClosing (aType t) = namesClosing (shapeOf t) ≡ false
+ArgumentNamesNoClosing (flags f g) = Unit {0}
+
 abbrev pub NamesNoClosing : Step → Type 0
-NamesNoClosing (put t) = namesClosing (shapeOf t) ≡ false
-NamesNoClosing row = Unit {0}
-NamesNoClosing (pervading f g) = Unit {0}
-NamesNoClosing join = Unit {0}
-NamesNoClosing (validating spec) = namesClosing (shapeOf spec) ≡ false
+NamesNoClosing x = ArgumentNamesNoClosing (argumentOf x)
 
 -- "fills nothing", or unfilled: flag byte 0.
+abbrev pub Unfilled : Argument → Type 0
+Unfilled noArgument = Unit {0}
+Unfilled (aType t) = Unit {0}
+Unfilled (flags f g) = flagByte f g ≡ 0
+
 abbrev pub FillsNothing : Step → Type 0
-FillsNothing (put t) = Unit {0}
-FillsNothing row = Unit {0}
-FillsNothing (pervading f g) = flagByte f g ≡ 0
-FillsNothing join = Unit {0}
-FillsNothing (validating spec) = Unit {0}
+FillsNothing x = Unfilled (argumentOf x)
+
+-- what is asked only where a test says yes; and what is asked there, while nothing passes where it says no
+abbrev pub Where : Bool → Type 0 → Type 0
+Where true P = P
+Where false P = Unit {0}
+
+abbrev pub Only : Bool → Type 0 → Type 0
+Only true P = P
+Only false P = ⊥
 
 -- An open Def: a Def box of open shape.
 abbrev pub isOpenDef : Ty → Bool
@@ -44,14 +55,13 @@ isOpenDef (ty s (boxAll t k)) = false
 isOpenDef (ty (shape o none) (boxDef n f)) = false
 isOpenDef (ty (shape o (some c)) (boxDef n f)) = true
 
--- "takes no row of an open Def".
+-- "takes no row of an open Def": of the type on top.
+abbrev pub TopNoOpenDef : Stack → Type 0
+TopNoOpenDef [] = Unit {0}
+TopNoOpenDef (t ∷ st) = isOpenDef t ≡ false
+
 abbrev pub RowsNoOpenDef : Step → Stack → Type 0
-RowsNoOpenDef (put t) st = Unit {0}
-RowsNoOpenDef row [] = Unit {0}
-RowsNoOpenDef row (t ∷ st) = isOpenDef t ≡ false
-RowsNoOpenDef (pervading f g) st = Unit {0}
-RowsNoOpenDef join st = Unit {0}
-RowsNoOpenDef (validating spec) st = Unit {0}
+RowsNoOpenDef x st = Where (isA aRow x) (TopNoOpenDef st)
 
 -- "closed shapes of equal count or two open ones".
 abbrev pub Alike : Shape → Shape → Type 0
@@ -60,15 +70,14 @@ Alike (shape o none) (shape p (some d)) = ⊥
 Alike (shape o (some c)) (shape p none) = ⊥
 Alike (shape o (some c)) (shape p (some d)) = Unit {0}
 
--- "joins only" these.
+-- "joins only" these: of the two types on top.
+abbrev pub TopsAlike : Stack → Type 0
+TopsAlike [] = Unit {0}
+TopsAlike (t ∷ []) = Unit {0}
+TopsAlike (t ∷ u ∷ st) = Alike (shapeOf t) (shapeOf u)
+
 abbrev pub JoinsAlike : Step → Stack → Type 0
-JoinsAlike (put t) st = Unit {0}
-JoinsAlike row st = Unit {0}
-JoinsAlike (pervading f g) st = Unit {0}
-JoinsAlike join [] = Unit {0}
-JoinsAlike join (t ∷ []) = Unit {0}
-JoinsAlike join (t ∷ u ∷ st) = Alike (shapeOf t) (shapeOf u)
-JoinsAlike (validating spec) st = Unit {0}
+JoinsAlike x st = Where (isA aJoin x) (TopsAlike st)
 
 -- Of each step with the stack that it takes, as the rules leave it.
 abbrev pub Along : (Step → Stack → Type 0) → List Step → Stack → Type 0
@@ -79,19 +88,15 @@ Along P (x ∷ xs) st = P x st × ((st₁ : Stack) → step x st ≡ gives st₁
 
 -- "puts and unfilled pervadings".
 abbrev pub PutOrPervade : Step → Type 0
-PutOrPervade (put t) = Unit {0}
-PutOrPervade row = ⊥
-PutOrPervade (pervading f g) = flagByte f g ≡ 0
-PutOrPervade join = ⊥
-PutOrPervade (validating spec) = ⊥
+PutOrPervade x = Only (isA aPut x || isA aPervading x) (FillsNothing x)
+
+abbrev pub withPut : Option Ty → List Ty → List Ty
+withPut none l = l
+withPut (some t) l = t ∷ l
 
 abbrev pub puts : List Step → List Ty
 puts [] = []
-puts (put t ∷ xs) = t ∷ puts xs
-puts (row ∷ xs) = puts xs
-puts (pervading f g ∷ xs) = puts xs
-puts (join ∷ xs) = puts xs
-puts (validating spec ∷ xs) = puts xs
+puts (x ∷ xs) = withPut (putBy x) (puts xs)
 
 -- how often a value stands in a list, by a test for sameness
 abbrev pub count : {A : Type 0} → (A → A → Bool) → A → List A → ℕ

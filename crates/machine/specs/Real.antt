@@ -8,7 +8,7 @@ use mathlib.Core.Path.{_≡_}
 use lib.ListN.{length, take, drop}
 use lib.Dec.{eqb, leb}
 use Rattle.model.specs.Types.{Dim, static, unknown, Shape, shape, Ty, shapeOf}
-use Rattle.machine.specs.Steps.{Step, put, row, pervading, join, validating}
+use Rattle.machine.specs.Steps.{Step, put, row, pervading, join, validating, aJoin, isA, putBy}
 
 -- ---- real shapes
 
@@ -70,13 +70,14 @@ abbrev pub keeps : Kept → RealShape → RealShape → RealShape
 keeps theTop r q = r
 keeps theOneBelow r q = q
 
--- What a step is fed, and all steps.
+-- What a step is fed: a put a real shape, a join the side that it keeps, the others nothing. And all steps.
+abbrev pub FeedOf : Option Ty → Bool → Type 0
+FeedOf (some t) b = RealShape
+FeedOf none true = Kept
+FeedOf none false = Unit {0}
+
 abbrev pub Feed : Step → Type 0
-Feed (put t) = RealShape
-Feed row = Unit {0}
-Feed (pervading f g) = Unit {0}
-Feed join = Kept
-Feed (validating spec) = Unit {0}
+Feed x = FeedOf (putBy x) (isA aJoin x)
 
 abbrev pub Feeds : List Step → Type 0
 Feeds [] = Unit {0}
@@ -116,12 +117,13 @@ realRun (x ∷ xs) f rs = goesOn (realStep x (f .0) rs) λ rs₁. realRun xs (f 
 
 -- ---- fit and get through
 
+-- what a put is fed fits the type that it puts
+abbrev pub FitsFeed : (o : Option Ty) (b : Bool) → FeedOf o b → Type 0
+FitsFeed (some t) b r = Holds t r
+FitsFeed none b f = Unit {0}
+
 abbrev pub FitsPut : (x : Step) → Feed x → Type 0
-FitsPut (put t) r = Holds t r
-FitsPut row u = Unit {0}
-FitsPut (pervading f g) u = Unit {0}
-FitsPut join side = Unit {0}
-FitsPut (validating spec) u = Unit {0}
+FitsPut x f = FitsFeed (putBy x) (isA aJoin x) f
 
 abbrev pub FitsPuts : (xs : List Step) → Feeds xs → Type 0
 FitsPuts [] u = Unit {0}

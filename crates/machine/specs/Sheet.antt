@@ -2,24 +2,24 @@
 -- the stack, the step's bytes, its rule. A refusal names the step's mark, but inside a type the place that its reader names.
 -- The same reading with the rules left out says what a well-formed sheet is.
 use Prim.Native.Nat.{ℕ, zero, suc}
-use mathlib.Core.Bool.{Bool, _&&_, cond}
+use mathlib.Core.Bool.{Bool, cond}
 use mathlib.Core.List.{List, [], _∷_, reverse}
 use mathlib.Core.Option.{Option, none, some}
 use lib.ListN.{length}
-use lib.Dec.{eqb, leb, ltb}
+use lib.Dec.{leb, ltb}
 use Rattle.model.specs.Refusals.{unmarked, underflow, overflow}
 use Rattle.model.specs.Types.{Ty}
 use Rattle.format.specs.Reader.{Read, got, stopped, Reader, _>>=_, _>>_, give, stop, need, here, byte, judged}
 use Rattle.format.specs.Records.{Mark, mark, isCount, orStop, readType}
 use Rattle.format.specs.Outcome.{Outcome, accepted, refused, mapped}
 use Rattle.machine.specs.SheetLimits.{maxStack}
-use Rattle.machine.specs.Steps.{Step, put, row, pervading, join, validating, Opcode, aPut, aRow, aPervading, aJoin, aValidating, opcodeOf, markOf, opcodes, takes, leaves, maxFlag, fillsTop, fillsBelow}
+use Rattle.machine.specs.Steps.{Step, put, row, pervading, join, validating, Opcode, aPut, aRow, aPervading, aJoin, aValidating, opcodeOf, markOf, opcodes, sameMark, takes, leaves, maxFlag, fillsTop, fillsBelow}
 use Rattle.machine.specs.Run.{Answer, gives, refuses, Stack, State, fresh, afterStep, stepsLeft, work}
 
 -- ---- one step
 
 abbrev pub isMark : Mark → ℕ → ℕ → Bool
-isMark (mark a b) x y = eqb x a && eqb y b
+isMark m x y = sameMark m (mark x y)
 
 -- the first of a list that has these two mark bytes
 abbrev pub opcodeIn : List Opcode → ℕ → ℕ → Option Opcode

@@ -3,7 +3,7 @@
 use Prim.Native.Nat.{ℕ, zero, suc, _-_, _≤_, _<_}
 use native.Mathlib.Omega.{arith}
 use mathlib.Core.List.{List}
-use mathlib.Core.Path.{_≡_, _∙_}
+use mathlib.Core.Path.{_≡_, refl, _∙_}
 use lib.ListN.{length}
 use borrow.Author.Tests.{lt-ltb, le-ltb, le-leb, lt-leb}
 use Rattle.model.specs.Refusals.{underflow, overflow}
@@ -16,6 +16,13 @@ use Rattle.machine.specs.Sheet.{placed, opcodeFrom, argumentFrom, stepFr
 use Rattle.machine.specs.RunLaws.{following-gives}
 
 -- ---- a rule's answer
+
+-- What a rule gives is given at the place reached, and what it refuses is refused at the step's place.
+pub placed-gives : {A : Type 0} (a : A) (p at : ℕ) → placed (gives a) p at ≡ got a at
+placed-gives a p at = refl
+
+pub placed-refuses : {A : Type 0} (k p at : ℕ) → placed {A = A} (refuses k) p at ≡ stopped k p
+placed-refuses k p at = refl
 
 pub placed-got : {A C : Type 0} (a : Answer A) (p at : ℕ) {b : A} {n : ℕ} → placed a p at ≡ got b n → (a ≡ gives b → at ≡ n → C) → C
 placed-got (gives x) p at e k = k (cc) (cc)

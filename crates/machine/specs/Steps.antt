@@ -1,7 +1,8 @@
 -- The steps of a sheet and their bytes (document 01, "The sheet, added"): two mark bytes, then a type, a flag byte or nothing.
 use Prim.Native.Nat.{ℕ, suc, _+_, _-_, _/_, _%_, _≤_}
-use mathlib.Core.Bool.{Bool, true, cond}
+use mathlib.Core.Bool.{Bool, true, _&&_, cond}
 use mathlib.Core.List.{List, [], _∷_, _++_}
+use mathlib.Core.Option.{Option, none, some}
 use mathlib.Core.Path.{_≡_}
 use lib.ListN.{length}
 use lib.Dec.{eqb}
@@ -42,6 +43,23 @@ markOf aValidating = mark 0x56 0x41
 abbrev pub opcodes : List Opcode
 opcodes = aPut ∷ aRow ∷ aPervading ∷ aJoin ∷ aValidating ∷ []
 
+-- ---- which step it is
+
+abbrev pub sameMark : Mark → Mark → Bool
+sameMark (mark a b) (mark x y) = eqb x a && eqb y b
+
+-- A step is of this opcode, which its mark tells.
+abbrev pub isA : Opcode → Step → Bool
+isA c x = sameMark (markOf c) (markOf (opcodeOf x))
+
+-- The type that a step puts: only a put has one.
+abbrev pub putBy : Step → Option Ty
+putBy (put t) = some t
+putBy row = none
+putBy (pervading f g) = none
+putBy join = none
+putBy (validating spec) = none
+
 -- ---- heights
 
 -- How many types a step takes off the stack, and how many it lays down.
@@ -79,15 +97,25 @@ abbrev pub fillsBelow : ℕ → Bool
 fillsBelow n = eqb (n / 2 % 2) 1
 
 -- what follows the mark
-abbrev pub writeArgument : Step → List ℕ
-writeArgument (put t) = writeTy t
-writeArgument row = []
-writeArgument (pervading f g) = flagByte f g ∷ []
-writeArgument join = []
-writeArgument (validating spec) = writeTy spec
+pub data Argument : Type 0 where
+  noArgument : Argument
+  aType : Ty → Argument
+  flags : Bool → Bool → Argument
+
+abbrev pub argumentOf : Step → Argument
+argumentOf (put t) = aType t
+argumentOf row = noArgument
+argumentOf (pervading f g) = flags f g
+argumentOf join = noArgument
+argumentOf (validating spec) = aType spec
+
+abbrev pub writeArgument : Argument → List ℕ
+writeArgument noArgument = []
+writeArgument (aType t) = writeTy t
+writeArgument (flags f g) = flagByte f g ∷ []
 
 abbrev pub writeStep : Step → List ℕ
-writeStep x = markBytes (markOf (opcodeOf x)) ++ writeArgument x
+writeStep x = markBytes (markOf (opcodeOf x)) ++ writeArgument (argumentOf x)
 
 unfoldable pub writeSteps : List Step → List ℕ
 writeSteps [] = []
@@ -96,12 +124,13 @@ writeSteps (x ∷ xs) = writeStep x ++ writeSteps xs
 -- ---- which bytes are those of steps
 
 -- A type that follows the mark keeps every limit.
+abbrev pub ArgumentWithin : Argument → Type 0
+ArgumentWithin noArgument = Unit {0}
+ArgumentWithin (aType t) = Within t
+ArgumentWithin (flags f g) = Unit {0}
+
 abbrev pub StepWithin : Step → Type 0
-StepWithin (put t) = Within t
-StepWithin row = Unit {0}
-StepWithin (pervading f g) = Unit {0}
-StepWithin join = Unit {0}
-StepWithin (validating spec) = Within spec
+StepWithin x = ArgumentWithin (argumentOf x)
 
 -- These are the bytes of a list of steps within the limits.
 pub record SheetOf (s : List ℕ) (xs : List Step) : Type 0 where

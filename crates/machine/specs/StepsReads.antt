@@ -15,7 +15,7 @@ use Rattle.format.specs.ReaderLaws.{drop-past, reads-give, reads-bind, reads-by
 use Rattle.format.specs.Records.{markBytes, isCount}
 use Rattle.format.specs.WriteRead.{write-read}
 use Rattle.machine.specs.SheetLimits.{maxStack}
-use Rattle.machine.specs.Steps.{Step, put, row, pervading, join, validating, Opcode, aPut, aRow, aPervading, aJoin, aValidating, opcodeOf, markOf, takes, leaves, flagByte, maxFlag, fillsTop, fillsBelow, writeArgument, writeStep, writeSteps, StepWithin}
+use Rattle.machine.specs.Steps.{Step, put, row, pervading, join, validating, Opcode, aPut, aRow, aPervading, aJoin, aValidating, opcodeOf, markOf, takes, leaves, flagByte, maxFlag, fillsTop, fillsBelow, argumentOf, writeArgument, writeStep, writeSteps, StepWithin}
 use Rattle.machine.specs.Run.{gives, refuses, Stack, State, afterStep, step, work, steps}
 use Rattle.machine.specs.Sheet.{placed, opcodeFrom, argumentFrom, stepFrom, workFrom, sheetMore, skimMore}
 use Rattle.machine.specs.WellFormed.{Heights}
@@ -47,7 +47,7 @@ module _ (s : List ℕ) where
   reads-opcode aJoin p = reads-byte p _ (reads-byte p _ reads-give)
   reads-opcode aValidating p = reads-byte p _ (reads-byte p _ reads-give)
 
-  reads-argument : (x : Step) (p : ℕ) → StepWithin x → Reads s (argumentFrom s (opcodeOf x) p) (writeArgument x) x
+  reads-argument : (x : Step) (p : ℕ) → StepWithin x → Reads s (argumentFrom s (opcodeOf x) p) (writeArgument (argumentOf x)) x
   unfolding argumentFrom
   reads-argument (put t) p h = reads-last _ (write-read s t h) refl
   reads-argument row p h = reads-give
@@ -102,7 +102,7 @@ step-room x st st₁ h e = go (leb (takes (opcodeOf x)) (length st)) (leb (leave
 module _ (s : List ℕ) where
   -- a step has bytes
   longer : (x : Step) (at : ℕ) (rest : List ℕ) → drop at s ≡ writeStep x ++ rest → at < length s
-  longer x at rest e = omega (arith, length-drop at s, ap length e, length-append (writeStep x) rest, length-append (markBytes (markOf (opcodeOf x))) (writeArgument x), mark-two (opcodeOf x))
+  longer x at rest e = omega (arith, length-drop at s, ap length e, length-append (writeStep x) rest, length-append (markBytes (markOf (opcodeOf x))) (writeArgument (argumentOf x)), mark-two (opcodeOf x))
 
   worked : (st : State Stack) (x : Step) (p at : ℕ) (rest : List ℕ) → length (st .stack) ≤ maxStack → StepWithin x → drop at s ≡ writeStep x ++ rest
       → workFrom s st p at ≡ placed (work x st) p (at + length (writeStep x))
@@ -117,7 +117,7 @@ module _ (s : List ℕ) where
       h₀ = length (st .stack)
 
       e₁ : opcodeFrom s p at ≡ got (opcodeOf x) (at + length (markBytes (markOf (opcodeOf x))))
-      e₁ = reads-opcode s (opcodeOf x) p .run at (writeArgument x ++ rest) (e ∙ append-assoc (markBytes (markOf (opcodeOf x))) (writeArgument x) rest)
+      e₁ = reads-opcode s (opcodeOf x) p .run at (writeArgument (argumentOf x) ++ rest) (e ∙ append-assoc (markBytes (markOf (opcodeOf x))) (writeArgument (argumentOf x)) rest)
 
       go : (t u : Bool) → leb c h₀ ≡ t → leb (leaves (opcodeOf x) h₀) maxStack ≡ u → workFrom s st p at ≡ placed (work x st) p (at + length (writeStep x))
       go false u a b = rw (e₁, a, lacks x (st .stack) (leb-false c h₀ a))

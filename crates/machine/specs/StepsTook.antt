@@ -16,7 +16,7 @@ use Rattle.format.specs.Records.{Mark, mark, markBytes, isCount, orStop, readTy
 use Rattle.format.specs.ReadWrite.{read-write}
 use Rattle.format.specs.Outcome.{accepted}
 use Rattle.machine.specs.SheetLimits.{maxSteps, maxStack}
-use Rattle.machine.specs.Steps.{Step, Opcode, aPut, aRow, aPervading, aJoin, aValidating, opcodeOf, markOf, opcodes, takes, leaves, flagByte, maxFlag, fillsTop, fillsBelow, writeArgument, writeStep, writeSteps, StepWithin, SheetOf}
+use Rattle.machine.specs.Steps.{Step, Opcode, aPut, aRow, aPervading, aJoin, aValidating, opcodeOf, markOf, opcodes, takes, leaves, flagByte, maxFlag, fillsTop, fillsBelow, argumentOf, writeArgument, writeStep, writeSteps, StepWithin, SheetOf}
 use Rattle.machine.specs.Run.{State, fresh, afterStep}
 use Rattle.machine.specs.Sheet.{isMark, opcodeIn, opcodeFrom, argumentFrom, stepFrom, toEnd, skimMore, skimFrom, outcomeOf, skim}
 use Rattle.machine.specs.WellFormed.{Heights}
@@ -68,7 +68,7 @@ module _ (s : List ℕ) (small : Bytes s) where
       orStop-got (opcodeIn opcodes x y) unmarked p m₂ e₄ λ h w.
       rw (← opcode-back opcodes x y c h, ← w) (took-join (took-byte s small p at x m₁ e₁ .0) (took-byte s small p m₁ y m₂ e₃ .0))
 
-  took-argument : (c : Opcode) (p at : ℕ) (x : Step) (n : ℕ) → argumentFrom s c p at ≡ got x n → (opcodeOf x ≡ c) × Took s at (writeArgument x) n × StepWithin x
+  took-argument : (c : Opcode) (p at : ℕ) (x : Step) (n : ℕ) → argumentFrom s c p at ≡ got x n → (opcodeOf x ≡ c) × Took s at (writeArgument (argumentOf x)) n × StepWithin x
   unfolding argumentFrom
   took-argument aPut p at x n e =
       split (readType s at) e λ t m e₁ e₂.

@@ -20,7 +20,7 @@ use Rattle.machine.specs.Sheet.{sheetRun}
 use Rattle.machine.specs.Call.{Tally, tally, called, writeTypes, zeroed, atFront, handOver, sheetCall}
 use Rattle.machine.specs.Real.{RealShape, Holds}
 use Rattle.demand.specs.Claims.{Leaves, Mismatched, EachHolds}
-use Rattle.holding.specs.StepsHold.{Held}
+use Rattle.holding.specs.StepsHold.{AllHold}
 use Rattle.machine.specs.StepsWithin.{writeTypes-suffices, writeTypes-same}
 use Rattle.machine.specs.Sheets.{sheet-steps, left-within}
 
@@ -99,7 +99,7 @@ Beside [] (r ∷ rs) = ⊥
 Beside (t ∷ ts) [] = ⊥
 Beside (t ∷ ts) (r ∷ rs) = Holds t r × Beside ts rs
 
-beside-reversed : (st : Stack) (rs : List RealShape) (ts : List Ty) (qs : List RealShape) → Held st rs → Beside ts qs → Beside (reverseAux st ts) (reverseAux rs qs)
+beside-reversed : (st : Stack) (rs : List RealShape) (ts : List Ty) (qs : List RealShape) → AllHold st rs → Beside ts qs → Beside (reverseAux st ts) (reverseAux rs qs)
 beside-reversed [] [] ts qs h k = k
 beside-reversed [] (r ∷ rs) ts qs h k = absurd h
 beside-reversed (t ∷ st) [] ts qs h k = absurd h
@@ -121,7 +121,7 @@ beside-nth (u ∷ ts) (q ∷ rs) h zero t r e f =
     rw (← w, ← v) (h .0)
 beside-nth (u ∷ ts) (q ∷ rs) h (suc n) t r e f = beside-nth ts rs (h .1) n t r e f
 
-pub held-each : (st : Stack) (rs : List RealShape) → Held st rs → EachHolds (reverse st) (reverse rs)
+pub held-each : (st : Stack) (rs : List RealShape) → AllHold st rs → EachHolds (reverse st) (reverse rs)
 held-each st rs h =
     let b = beside-reversed st rs [] [] h tt in
     record { equally-many = beside-length (reverse st) (reverse rs) b; nth = beside-nth (reverse st) (reverse rs) b }

@@ -25,8 +25,8 @@ use Rattle.validation.specs.Validate.{validate}
 use Rattle.validation.specs.Claims.{ofValidation, Listed}
 use Rattle.validation.specs.RefusalsLaws.{validate-listed}
 use Rattle.machine.specs.SheetLimits.{maxSteps, maxStack, scratchBytes, resultBytes}
-use Rattle.machine.specs.Steps.{Step, put, row, pervading, join, validating, Opcode, aPut, aRow, aPervading, aJoin, aValidating, opcodeOf, opcodes, takes, leaves, maxFlag}
-use Rattle.machine.specs.Run.{Answer, gives, refuses, following, orRefuses, aside, Stack, State, fresh, afterStep, onto, pervadeTypes, step, work}
+use Rattle.machine.specs.Steps.{Step, put, row, pervading, join, validating, Opcode, aPut, aRow, aPervading, aJoin, aValidating, opcodeOf, opcodes, takes, leaves, maxFlag, Rule, ofNone, ofOne, ofTwo}
+use Rattle.machine.specs.Run.{Answer, gives, refuses, following, orRefuses, aside, Stack, State, fresh, afterStep, onto, pervadeTypes, ruleOf, ruled, step, work}
 use Rattle.machine.specs.Sheet.{opcodeIn, placed, opcodeFrom, argumentFrom, stepFrom, workFrom, toEnd, sheetMore, skimMore, sheetFrom, skimFrom, outcomeOf, sheetRun, skim}
 use Rattle.machine.specs.WellFormed.{WellFormed}
 use Rattle.machine.specs.Call.{called, tally, writeTypes, zeroed, atFront, handOver, sheetCall}
@@ -266,35 +266,50 @@ abbrev RefusesWith : {A : Type 0} → List ℕ → Answer A → Type 0
 RefusesWith ns (gives a) = Unit {0}
 RefusesWith ns (refuses k) = Among ns k
 
-put-refuses : (t : Ty) (st : Stack) (b : Bool) → RefusesWith ofSheet (cond b (gives (t ∷ st)) (refuses overflow))
-put-refuses t st true = tt
-put-refuses t st false = refl
+-- Where a rule refuses, it does so with one of these.
+abbrev RuleRefuses : List ℕ → Rule Ty (Answer Ty) → Type 0
+RuleRefuses ns (ofNone a) = RefusesWith ns a
+RuleRefuses ns (ofOne f) = (t : Ty) → RefusesWith ns (f t)
+RuleRefuses ns (ofTwo f) = (t u : Ty) → RefusesWith ns (f t u)
 
-pervading-refuses : (f g : Bool) (t u : Ty) (st : Stack) → RefusesWith ofSheet (onto st (pervadeTypes f g t u))
+onto-refuses : (st : Stack) (a : Answer Ty) → RefusesWith ofSheet a → RefusesWith ofSheet (onto st a)
+onto-refuses st (gives t) h = tt
+onto-refuses st (refuses k) h = h
+
+room-refuses : (b : Bool) (st : Stack) (a : Answer Ty) → RefusesWith ofSheet a → RefusesWith ofSheet (cond b (onto st a) (refuses overflow))
+room-refuses true st a h = onto-refuses st a h
+room-refuses false st a h = refl
+
+ruled-refuses : (r : Rule Ty (Answer Ty)) (st : Stack) → RuleRefuses ofSheet r → RefusesWith ofSheet (ruled r st)
+ruled-refuses (ofNone a) st h = room-refuses (ltb (length st) maxStack) st a h
+ruled-refuses (ofOne f) [] h = refl
+ruled-refuses (ofOne f) (t ∷ st) h = onto-refuses st (f t) (h t)
+ruled-refuses (ofTwo f) [] h = refl
+ruled-refuses (ofTwo f) (t ∷ []) h = refl
+ruled-refuses (ofTwo f) (t ∷ u ∷ st) h = onto-refuses st (f t u) (h t u)
+
+pervading-refuses : (f g : Bool) (t u : Ty) → RefusesWith ofSheet (pervadeTypes f g t u)
 unfolding pervadeTypes
-pervading-refuses f g (ty s k) (ty t l) st = go (pervade f g s t)
+pervading-refuses f g (ty s k) (ty t l) = go (pervade f g s t)
   where
-    go : (o : Option Shape) → RefusesWith ofSheet (onto st (following (orRefuses o unpervaded) λ x. gives (ty x (union k l))))
+    go : (o : Option Shape) → RefusesWith ofSheet (following (orRefuses o unpervaded) λ x. gives (ty x (union k l)))
     go none = refl
     go (some x) = tt
 
-validating-refuses : (o : Outcome Ty) (st : Stack) → Listed o → RefusesWith ofSheet (onto st (aside o))
-validating-refuses (accepted t) st h = tt
-validating-refuses (refused n p) st h = among-more ofValidation ofSheet (refl, (refl, (refl, tt))) n (h .0)
+validating-refuses : (o : Outcome Ty) → Listed o → RefusesWith ofSheet (aside o)
+validating-refuses (accepted t) h = tt
+validating-refuses (refused n p) h = among-more ofValidation ofSheet (refl, (refl, (refl, tt))) n (h .0)
+
+rule-refuses : (x : Step) → RuleRefuses ofSheet (ruleOf x)
+rule-refuses (put t) = tt
+rule-refuses row = λ t. tt
+rule-refuses (pervading f g) = λ t u. pervading-refuses f g t u
+rule-refuses join = λ t u. tt
+rule-refuses (validating spec) = λ t. validating-refuses (validate unsided spec t) (validate-listed unsided spec t)
 
 step-refuses : (x : Step) (st : Stack) → RefusesWith ofSheet (step x st)
 unfolding step
-step-refuses (put t) st = put-refuses t st (ltb (length st) maxStack)
-step-refuses row [] = refl
-step-refuses row (t ∷ st) = tt
-step-refuses (pervading f g) [] = refl
-step-refuses (pervading f g) (t ∷ []) = refl
-step-refuses (pervading f g) (t ∷ u ∷ st) = pervading-refuses f g t u st
-step-refuses join [] = refl
-step-refuses join (t ∷ []) = refl
-step-refuses join (t ∷ u ∷ st) = tt
-step-refuses (validating spec) [] = refl
-step-refuses (validating spec) (t ∷ st) = validating-refuses (validate unsided spec t) st (validate-listed unsided spec t)
+step-refuses x st = ruled-refuses (ruleOf x) st (rule-refuses x)
 
 work-refuses : (x : Step) (st : State Stack) → RefusesWith ofSheet (work x st)
 work-refuses x st = go (step x (st .stack)) (step-refuses x (st .stack))

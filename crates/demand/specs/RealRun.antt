@@ -1,7 +1,7 @@
 -- The real run (document 01, "The sheet, added"): it stops only where a real pervading stops or a real shape does not fit the spec
 -- of its validation, and never for want of a shape in an accepted or well-formed sheet. It keeps as many real shapes as the sheet
 -- keeps types.
-use Prim.Native.Nat.{ℕ, suc, _≤_}
+use Prim.Native.Nat.{ℕ, _≤_}
 use native.Mathlib.Omega.{arith}
 use mathlib.Core.Bool.{Bool, true, false, cond}
 use mathlib.Core.List.{List, [], _∷_, reverse}
@@ -15,11 +15,12 @@ use Rattle.machine.specs.SheetLimits.{maxStack}
 use Rattle.machine.specs.Steps.{Step, put, row, pervading, join, validating, opcodeOf, takes, leaves, SheetOf}
 use Rattle.machine.specs.Run.{gives, Stack, step, steps}
 use Rattle.machine.specs.WellFormed.{WellFormed, heightAfter, typesLeft, Heights}
-use Rattle.machine.specs.Real.{RealShape, fits, realPervade, Feed, Feeds, realRow, keeps, ontoReal, realStep, goesOn, realRun}
+use Rattle.machine.specs.Real.{RealShape, fits, realPervade, Feed, Feeds, ontoReal, realRule, realStep, goesOn, realRun}
 use Rattle.machine.specs.StepsTook.{skim-took}
 use Rattle.machine.specs.RunLaws.{following-gives}
 use Rattle.machine.specs.StepsReads.{step-room}
-use Rattle.machine.specs.SheetWorked.{step-height}
+use Rattle.machine.specs.SheetWorked.{step-height, step-takes}
+use Rattle.machine.specs.Ruled.{real-takes, lays-one, realRuled-height}
 use Rattle.machine.specs.Sheets.{left-within}
 use Rattle.demand.specs.Claims.{Leaves, StopsBecause, RunStopsBecause}
 use Rattle.demand.specs.Calls.{leaves-run}
@@ -30,9 +31,9 @@ onto-stops : (rs : List RealShape) (o : Option RealShape) → ontoReal rs o ≡ 
 onto-stops rs none e = refl
 onto-stops rs (some r) e = let z : _≡_ {A = ℕ} 0 1 = cc in absurd (omega arith)
 
-unfit : (b : Bool) (rs : List RealShape) → cond b (some rs) none ≡ none → b ≡ false
-unfit true rs e = let z : _≡_ {A = ℕ} 0 1 = cc in absurd (omega arith)
-unfit false rs e = refl
+unfit : (b : Bool) (r : RealShape) → cond b (some r) none ≡ none → b ≡ false
+unfit true r e = let z : _≡_ {A = ℕ} 0 1 = cc in absurd (omega arith)
+unfit false r e = refl
 
 -- "Never lacks a shape": with at least as many real shapes as the step takes, it stops for one of the two reasons alone.
 pub step-stops : (x : Step) (u : Feed x) (rs : List RealShape) → takes (opcodeOf x) ≤ length rs → realStep x u rs ≡ none → StopsBecause x rs
@@ -47,30 +48,12 @@ step-stops join side [] h e = absurd (omega arith)
 step-stops join side (r ∷ []) h e = absurd (omega arith)
 step-stops join side (r ∷ q ∷ rs) h e = let z : _≡_ {A = ℕ} 0 1 = cc in absurd (omega arith)
 step-stops (validating spec) u [] h e = absurd (omega arith)
-step-stops (validating spec) u (r ∷ rs) h e = unfit (fits (shapeOf spec) r) (r ∷ rs) e
-
-onto-many : (rs : List RealShape) (o : Option RealShape) (rs₁ : List RealShape) → ontoReal rs o ≡ some rs₁ → length rs₁ ≡ suc (length rs)
-onto-many rs none rs₁ e = let z : _≡_ {A = ℕ} 0 1 = cc in absurd (omega arith)
-onto-many rs (some r) rs₁ e = let w : r ∷ rs ≡ rs₁ = cc in rw (← w)
-
-fit-many : (b : Bool) (rs rs₁ : List RealShape) → cond b (some rs) none ≡ some rs₁ → length rs₁ ≡ length rs
-fit-many true rs rs₁ e = let w : rs ≡ rs₁ = cc in rw (← w)
-fit-many false rs rs₁ e = let z : _≡_ {A = ℕ} 0 1 = cc in absurd (omega arith)
+step-stops (validating spec) u (r ∷ rs) h e = unfit (fits (shapeOf spec) r) r (onto-stops rs (cond (fits (shapeOf spec) r) (some r) none) e)
 
 -- A step that goes on leaves as many real shapes as it leaves types.
 pub step-many : (x : Step) (u : Feed x) (rs rs₁ : List RealShape) → realStep x u rs ≡ some rs₁ → length rs₁ ≡ leaves (opcodeOf x) (length rs)
 unfolding realStep
-step-many (put t) r rs rs₁ e = let w : r ∷ rs ≡ rs₁ = cc in rw (← w) (omega arith)
-step-many row u [] rs₁ e = let z : _≡_ {A = ℕ} 0 1 = cc in absurd (omega arith)
-step-many row u (r ∷ rs) rs₁ e = let w : realRow r ∷ rs ≡ rs₁ = cc in rw (← w) (omega arith)
-step-many (pervading f g) u [] rs₁ e = let z : _≡_ {A = ℕ} 0 1 = cc in absurd (omega arith)
-step-many (pervading f g) u (r ∷ []) rs₁ e = let z : _≡_ {A = ℕ} 0 1 = cc in absurd (omega arith)
-step-many (pervading f g) u (r ∷ q ∷ rs) rs₁ e = omega (arith, onto-many rs (realPervade r q) rs₁ e)
-step-many join side [] rs₁ e = let z : _≡_ {A = ℕ} 0 1 = cc in absurd (omega arith)
-step-many join side (r ∷ []) rs₁ e = let z : _≡_ {A = ℕ} 0 1 = cc in absurd (omega arith)
-step-many join side (r ∷ q ∷ rs) rs₁ e = let w : keeps side r q ∷ rs ≡ rs₁ = cc in rw (← w) (omega arith)
-step-many (validating spec) u [] rs₁ e = let z : _≡_ {A = ℕ} 0 1 = cc in absurd (omega arith)
-step-many (validating spec) u (r ∷ rs) rs₁ e = omega (arith, fit-many (fits (shapeOf spec) r) (r ∷ rs) rs₁ e)
+step-many x u rs rs₁ e = rw (real-takes x u, lays-one (opcodeOf x)) (realRuled-height (realRule x u) rs rs₁ e)
 
 -- ---- all steps
 
@@ -105,21 +88,6 @@ module _ (s result scratch : List ℕ) (small : Bytes s) (xs : List Step) (w : W
   well-formed-many left e = run-many xs f [] left e
 
 -- ---- an accepted sheet
-
--- A step that its rules work has all the types that it takes.
-step-takes : (x : Step) (st st₁ : Stack) → step x st ≡ gives st₁ → takes (opcodeOf x) ≤ length st
-unfolding step
-step-takes (put t) st st₁ e = omega arith
-step-takes row [] st₁ e = let z : _≡_ {A = ℕ} 0 1 = cc in absurd (omega arith)
-step-takes row (t ∷ st) st₁ e = omega arith
-step-takes (pervading f g) [] st₁ e = let z : _≡_ {A = ℕ} 0 1 = cc in absurd (omega arith)
-step-takes (pervading f g) (t ∷ []) st₁ e = let z : _≡_ {A = ℕ} 0 1 = cc in absurd (omega arith)
-step-takes (pervading f g) (t ∷ u ∷ st) st₁ e = omega arith
-step-takes join [] st₁ e = let z : _≡_ {A = ℕ} 0 1 = cc in absurd (omega arith)
-step-takes join (t ∷ []) st₁ e = let z : _≡_ {A = ℕ} 0 1 = cc in absurd (omega arith)
-step-takes join (t ∷ u ∷ st) st₁ e = omega arith
-step-takes (validating spec) [] st₁ e = let z : _≡_ {A = ℕ} 0 1 = cc in absurd (omega arith)
-step-takes (validating spec) (t ∷ st) st₁ e = omega arith
 
 -- Steps that are worked to their end lack no types and lay down none too many.
 steps-heights : (xs : List Step) (st st₁ : Stack) → length st ≤ maxStack → steps xs st ≡ gives st₁ → Heights xs (length st)

@@ -8,32 +8,38 @@ use mathlib.Core.Option.{Option, none, some}
 use mathlib.Core.Path.{_≡_, refl}
 use lib.ListN.{length}
 use lib.Dec.{ltb}
-use Rattle.model.specs.Refusals.{unpervaded, overflow}
-use Rattle.model.specs.Types.{Shape, shape, ty, shapeOf}
+use Rattle.model.specs.Refusals.{unpervaded}
+use Rattle.model.specs.Types.{Shape, shape, Ty, ty, shapeOf}
 use Rattle.model.specs.Within.{All}
-use Rattle.rules.specs.Shapes.{rowShape, joinShapes}
 use Rattle.rules.specs.Pervade.{pervade}
 use Rattle.rules.specs.Scalars.{union}
-use Rattle.rules.specs.Types.{firstField, rowScalar, rowBy, joinTypes}
+use Rattle.rules.specs.Types.{intoRow, rowBy, joinTypes}
 use Rattle.validation.specs.CheckShape.{unsided}
 use Rattle.validation.specs.Validate.{validate}
 use Rattle.validation.specs.ValidateLaws.{validate-shape}
 use Rattle.machine.specs.SheetLimits.{maxStack}
-use Rattle.machine.specs.Steps.{Step, put, row, pervading, join, validating}
-use Rattle.machine.specs.Run.{gives, following, orRefuses, aside, Stack, pervadeTypes, step, steps}
-use Rattle.machine.specs.Real.{RealShape, fits, Holds, realPervade, Feed, Feeds, realRow, keeps, ontoReal, realStep, goesOn, realRun, FitsPut, FitsPuts}
-use Rattle.machine.specs.Conditions.{namesClosing, NamesNoClosing, FillsNothing, JoinsAlike, Along}
+use Rattle.machine.specs.Steps.{Step, put, row, pervading, join, validating, flagByte, Rule, ofNone, ofOne, ofTwo}
+use Rattle.machine.specs.Run.{Answer, gives, orRefuses, aside, Stack, onto, pervadeTypes, ruleOf, ruled, step, steps}
+use Rattle.machine.specs.Real.{RealShape, fits, Holds, realPervade, Kept, Feed, Feeds, realRow, keeps, ontoReal, realRule, realRuled, realStep, goesOn, realRun, FitsPut, FitsPuts}
+use Rattle.machine.specs.Conditions.{namesClosing, NamesNoClosing, FillsNothing, Alike, JoinsAlike, Along}
 use Rattle.holding.specs.Bare.{Bare}
 use Rattle.holding.specs.PervadeHolds.{pervade-holds}
 use Rattle.holding.specs.RulesHold.{row-holds, join-holds, merge-holds}
-use Rattle.machine.specs.RunLaws.{unfilled, following-gives, orRefuses-gives, aside-gives, cond-gives}
+use Rattle.machine.specs.RunLaws.{unfilled, following-gives, orRefuses-gives, aside-gives}
+use Rattle.machine.specs.Ruled.{room-gives}
+
+-- ---- types beside real shapes
+
+-- A type holds a real shape and names no closing size.
+abbrev pub HoldsBare : Ty → RealShape → Type 0
+HoldsBare t r = Holds t r × Bare (shapeOf t)
 
 -- Each type holds the real shape beside it, and names no closing size.
-abbrev pub Held : Stack → List RealShape → Type 0
-Held [] [] = Unit {0}
-Held [] (r ∷ rs) = ⊥
-Held (t ∷ st) [] = ⊥
-Held (t ∷ st) (r ∷ rs) = (Holds t r × Bare (shapeOf t)) × Held st rs
+abbrev pub AllHold : Stack → List RealShape → Type 0
+AllHold [] [] = Unit {0}
+AllHold [] (r ∷ rs) = ⊥
+AllHold (t ∷ st) [] = ⊥
+AllHold (t ∷ st) (r ∷ rs) = HoldsBare t r × AllHold st rs
 
 -- ---- what an accepted step says
 
@@ -50,57 +56,97 @@ ontoReal-some : {C : Type 0} (rs : List RealShape) (o : Option RealShape) {out :
 ontoReal-some rs none e k = let z : _≡_ {A = ℕ} 0 1 = cc in absurd (omega arith)
 ontoReal-some rs (some r) e k = k r refl (cc)
 
-goesOn-some : {C : Type 0} (o : Option (List RealShape)) {f : List RealShape → Option (List RealShape)} {out : List RealShape} → goesOn o f ≡ some out → ((rs : List RealShape) → o ≡ some rs → f rs ≡ some out → C) → C
+goesOn-some : {C : Type 0} (o : Option (List RealShape)) {f : List RealShape → Option (List RealShape)} {out : List RealShape}
+    → goesOn o f ≡ some out → ((rs : List RealShape) → o ≡ some rs → f rs ≡ some out → C) → C
 goesOn-some none e k = let z : _≡_ {A = ℕ} 0 1 = cc in absurd (omega arith)
 goesOn-some (some rs) e k = k rs refl e
 
--- ---- one step
+-- ---- a rule beside the real one
 
-step-holds : (x : Step) (st st₁ : Stack) (f : Feed x) (rs rs₁ : List RealShape) → NamesNoClosing x → FillsNothing x → JoinsAlike x st → FitsPut x f → Held st rs → step x st ≡ gives st₁ → realStep x f rs ≡ some rs₁ → Held st₁ rs₁
-unfolding step realStep pervadeTypes rowBy joinTypes
-step-holds (put t) st st₁ f rs rs₁ n u j p h e y =
-    cond-gives (ltb (length st) maxStack) overflow e λ w.
-    let v : f ∷ rs ≡ rs₁ = cc in
-    rw (← w, ← v) ((p, bare-of (shapeOf t) n), h)
-step-holds row [] st₁ f rs rs₁ n u j p h e y = let z : _≡_ {A = ℕ} 0 1 = cc in absurd (omega arith)
-step-holds row (t ∷ st) st₁ f [] rs₁ n u j p h e y = absurd h
-step-holds row (ty s k ∷ st) st₁ f (r ∷ rs) rs₁ n u j p h e y =
-    let w : ty (rowShape s) (rowScalar firstField s k) ∷ st ≡ st₁ = cc in
-    let v : realRow r ∷ rs ≡ rs₁ = cc in
-    rw (← w, ← v) (row-holds s r (h .0 .1) (h .0 .0), h .1)
-step-holds (pervading a b) [] st₁ f rs rs₁ n u j p h e y = let z : _≡_ {A = ℕ} 0 1 = cc in absurd (omega arith)
-step-holds (pervading a b) (t ∷ []) st₁ f rs rs₁ n u j p h e y = let z : _≡_ {A = ℕ} 0 1 = cc in absurd (omega arith)
-step-holds (pervading a b) (t ∷ t′ ∷ st) st₁ f [] rs₁ n u j p h e y = absurd h
-step-holds (pervading a b) (t ∷ t′ ∷ st) st₁ f (r ∷ []) rs₁ n u j p h e y = absurd (h .1)
-step-holds (pervading a b) (ty s k ∷ ty t l ∷ st) st₁ f (r ∷ q ∷ rs) rs₁ n u j p h e y =
-    following-gives (following (orRefuses (pervade a b s t) unpervaded) (λ x. gives (ty x (union k l)))) e λ c e₁ e₂.
-    following-gives (orRefuses (pervade a b s t) unpervaded) e₁ λ x e₃ e₄.
-    orRefuses-gives (pervade a b s t) unpervaded e₃ λ e₅.
-    ontoReal-some rs (realPervade r q) y λ z y₁ v.
-    let c′ : ty x (union k l) ≡ c = cc in
-    let w : ty x (union k l) ∷ st ≡ st₁ = cc in
-    let (a′, b′) = unfilled a b u in
-    rw (← w, ← v) (pervade-holds s t x r q z (h .0 .1) (h .1 .0 .1) (h .0 .0) (h .1 .0 .0) (rw (a′, b′) at e₅) y₁, h .1 .1)
-step-holds join [] st₁ f rs rs₁ n u j p h e y = let z : _≡_ {A = ℕ} 0 1 = cc in absurd (omega arith)
-step-holds join (t ∷ []) st₁ f rs rs₁ n u j p h e y = let z : _≡_ {A = ℕ} 0 1 = cc in absurd (omega arith)
-step-holds join (t ∷ t′ ∷ st) st₁ f [] rs₁ n u j p h e y = absurd h
-step-holds join (t ∷ t′ ∷ st) st₁ f (r ∷ []) rs₁ n u j p h e y = absurd (h .1)
-step-holds join (ty s k ∷ ty t l ∷ st) st₁ f (r ∷ q ∷ rs) rs₁ n u j p h e y =
-    let w : ty (joinShapes s t) (union k l) ∷ st ≡ st₁ = cc in
-    let v : keeps f r q ∷ rs ≡ rs₁ = cc in
-    rw (← w, ← v) (join-holds f s t r q (h .0 .1) (h .1 .0 .1) j (h .0 .0) (h .1 .0 .0), h .1 .1)
-step-holds (validating spec) [] st₁ f rs rs₁ n u j p h e y = let z : _≡_ {A = ℕ} 0 1 = cc in absurd (omega arith)
-step-holds (validating spec) (t ∷ st) st₁ f [] rs₁ n u j p h e y = absurd h
-step-holds (validating spec) (t ∷ st) st₁ f (r ∷ rs) rs₁ n u j p h e y =
-    following-gives (aside (validate unsided spec t)) e λ c e₁ e₂.
-    aside-gives (validate unsided spec t) e₁ λ e₃.
+-- What is made holds what is really made.
+abbrev Result : Answer Ty → Option RealShape → Type 0
+Result a o = (x : Ty) (z : RealShape) → a ≡ gives x → o ≡ some z → HoldsBare x z
+
+-- Where the types taken hold the real shapes taken, what is made holds what is really made. Q is what is asked of the stack.
+abbrev Preserves : (Stack → Type 0) → Rule Ty (Answer Ty) → Rule RealShape (Option RealShape) → Type 0
+Preserves Q (ofNone a) (ofNone o) = Result a o
+Preserves Q (ofNone a) (ofOne g) = ⊥
+Preserves Q (ofNone a) (ofTwo g) = ⊥
+Preserves Q (ofOne f) (ofNone o) = ⊥
+Preserves Q (ofOne f) (ofOne g) = (t : Ty) (r : RealShape) → HoldsBare t r → Result (f t) (g r)
+Preserves Q (ofOne f) (ofTwo g) = ⊥
+Preserves Q (ofTwo f) (ofNone o) = ⊥
+Preserves Q (ofTwo f) (ofOne g) = ⊥
+Preserves Q (ofTwo f) (ofTwo g) = (t u : Ty) (st : Stack) (r q : RealShape) → Q (t ∷ u ∷ st) → HoldsBare t r → HoldsBare u q → Result (f t u) (g r q)
+
+onto-hold : (st : Stack) (a : Answer Ty) (rs : List RealShape) (o : Option RealShape) {st₁ : Stack} {rs₁ : List RealShape}
+    → Result a o → AllHold st rs → onto st a ≡ gives st₁ → ontoReal rs o ≡ some rs₁ → AllHold st₁ rs₁
+onto-hold st a rs o {st₁} {rs₁} k h e y =
+    following-gives a e λ x e₁ e₂.
+    ontoReal-some rs o y λ z y₁ v.
+    let w : x ∷ st ≡ st₁ = cc in
+    rw (← w, ← v) (k x z e₁ y₁, h)
+
+module _ (Q : Stack → Type 0) where
+  ruled-hold : (a : Rule Ty (Answer Ty)) (b : Rule RealShape (Option RealShape)) (st st₁ : Stack) (rs rs₁ : List RealShape)
+      → Preserves Q a b → Q st → AllHold st rs → ruled a st ≡ gives st₁ → realRuled b rs ≡ some rs₁ → AllHold st₁ rs₁
+  ruled-hold (ofNone a) (ofNone o) st st₁ rs rs₁ k c h e y = room-gives (ltb (length st) maxStack) st a e λ e₁. onto-hold st a rs o k h e₁ y
+  ruled-hold (ofNone a) (ofOne g) st st₁ rs rs₁ k c h e y = absurd k
+  ruled-hold (ofNone a) (ofTwo g) st st₁ rs rs₁ k c h e y = absurd k
+  ruled-hold (ofOne f) (ofNone o) st st₁ rs rs₁ k c h e y = absurd k
+  ruled-hold (ofOne f) (ofOne g) [] st₁ rs rs₁ k c h e y = let z : _≡_ {A = ℕ} 0 1 = cc in absurd (omega arith)
+  ruled-hold (ofOne f) (ofOne g) (t ∷ st) st₁ [] rs₁ k c h e y = absurd h
+  ruled-hold (ofOne f) (ofOne g) (t ∷ st) st₁ (r ∷ rs) rs₁ k c h e y = onto-hold st (f t) rs (g r) (k t r (h .0)) (h .1) e y
+  ruled-hold (ofOne f) (ofTwo g) st st₁ rs rs₁ k c h e y = absurd k
+  ruled-hold (ofTwo f) (ofNone o) st st₁ rs rs₁ k c h e y = absurd k
+  ruled-hold (ofTwo f) (ofOne g) st st₁ rs rs₁ k c h e y = absurd k
+  ruled-hold (ofTwo f) (ofTwo g) [] st₁ rs rs₁ k c h e y = let z : _≡_ {A = ℕ} 0 1 = cc in absurd (omega arith)
+  ruled-hold (ofTwo f) (ofTwo g) (t ∷ []) st₁ rs rs₁ k c h e y = let z : _≡_ {A = ℕ} 0 1 = cc in absurd (omega arith)
+  ruled-hold (ofTwo f) (ofTwo g) (t ∷ u ∷ st) st₁ [] rs₁ k c h e y = absurd h
+  ruled-hold (ofTwo f) (ofTwo g) (t ∷ u ∷ st) st₁ (r ∷ []) rs₁ k c h e y = absurd (h .1)
+  ruled-hold (ofTwo f) (ofTwo g) (t ∷ u ∷ st) st₁ (r ∷ q ∷ rs) rs₁ k c h e y = onto-hold st (f t u) rs (g r q) (k t u st r q c (h .0) (h .1 .0)) (h .1 .1) e y
+
+-- ---- the five rules
+
+row-made : (t : Ty) (r : RealShape) → HoldsBare t r → HoldsBare (intoRow t) (realRow r)
+unfolding rowBy
+row-made (ty s k) r h = row-holds s r (h .1) (h .0)
+
+pervade-made : (f g : Bool) (t u : Ty) (r q : RealShape) → flagByte f g ≡ 0 → HoldsBare t r → HoldsBare u q → Result (pervadeTypes f g t u) (realPervade r q)
+unfolding pervadeTypes
+pervade-made f g (ty s k) (ty t l) r q unfilled-flags h i x z e y =
+    following-gives (orRefuses (pervade f g s t) unpervaded) e λ v e₁ e₂.
+    orRefuses-gives (pervade f g s t) unpervaded e₁ λ e₃.
+    let w : ty v (union k l) ≡ x = cc in
+    let (a, b) = unfilled f g unfilled-flags in
+    rw (← w) (pervade-holds s t v r q z (h .1) (i .1) (h .0) (i .0) (rw (a, b) at e₃) y)
+
+join-made : (side : Kept) (t u : Ty) (r q : RealShape) → Alike (shapeOf t) (shapeOf u) → HoldsBare t r → HoldsBare u q → HoldsBare (joinTypes t u) (keeps side r q)
+unfolding joinTypes
+join-made side (ty s k) (ty t l) r q alike h i = join-holds side s t r q (h .1) (i .1) alike (h .0) (i .0)
+
+validate-made : (spec t : Ty) (r : RealShape) → namesClosing (shapeOf spec) ≡ false → HoldsBare t r → Result (aside (validate unsided spec t)) (cond (fits (shapeOf spec) r) (some r) none)
+validate-made spec t r n h x z e y =
+    aside-gives (validate unsided spec t) e λ e₁.
     cond-some (fits (shapeOf spec) r) y λ fit v.
-    let w : c ∷ st ≡ st₁ = cc in
-    rw (← w, ← v, validate-shape spec t c e₃) (merge-holds (shapeOf t) (shapeOf spec) r (h .0 .1) (bare-of (shapeOf spec) n) (h .0 .0) fit, h .1)
+    rw (← v, validate-shape spec t x e₁) (merge-holds (shapeOf t) (shapeOf spec) r (h .1) (bare-of (shapeOf spec) n) (h .0) fit)
+
+rule-holds : (x : Step) (f : Feed x) → NamesNoClosing x → FillsNothing x → FitsPut x f → Preserves (JoinsAlike x) (ruleOf x) (realRule x f)
+rule-holds (put t) f n u p = λ x z e y. let w : t ≡ x = cc in let v : f ≡ z = cc in rw (← w, ← v) (p, bare-of (shapeOf t) n)
+rule-holds row f n u p = λ t r h x z e y. let w : intoRow t ≡ x = cc in let v : realRow r ≡ z = cc in rw (← w, ← v) (row-made t r h)
+rule-holds (pervading a b) f n u p = λ t u′ st r q c h i. pervade-made a b t u′ r q u h i
+rule-holds join f n u p = λ t u′ st r q c h i x z e y. let w : joinTypes t u′ ≡ x = cc in let v : keeps f r q ≡ z = cc in rw (← w, ← v) (join-made f t u′ r q c h i)
+rule-holds (validating spec) f n u p = λ t r h. validate-made spec t r n h
 
 -- ---- all steps
 
-pub steps-hold : (xs : List Step) (st st₁ : Stack) (f : Feeds xs) (rs rs₁ : List RealShape) → All NamesNoClosing xs → All FillsNothing xs → Along JoinsAlike xs st → FitsPuts xs f → Held st rs → steps xs st ≡ gives st₁ → realRun xs f rs ≡ some rs₁ → Held st₁ rs₁
+step-holds : (x : Step) (st st₁ : Stack) (f : Feed x) (rs rs₁ : List RealShape)
+    → NamesNoClosing x → FillsNothing x → JoinsAlike x st → FitsPut x f → AllHold st rs → step x st ≡ gives st₁ → realStep x f rs ≡ some rs₁ → AllHold st₁ rs₁
+unfolding step realStep
+step-holds x st st₁ f rs rs₁ n u j p h e y = ruled-hold (JoinsAlike x) (ruleOf x) (realRule x f) st st₁ rs rs₁ (rule-holds x f n u p) j h e y
+
+pub steps-hold : (xs : List Step) (st st₁ : Stack) (f : Feeds xs) (rs rs₁ : List RealShape)
+    → All NamesNoClosing xs → All FillsNothing xs → Along JoinsAlike xs st → FitsPuts xs f → AllHold st rs → steps xs st ≡ gives st₁ → realRun xs f rs ≡ some rs₁ → AllHold st₁ rs₁
 unfolding steps realRun
 steps-hold [] st st₁ f rs rs₁ n u j p h e y =
     let w : st ≡ st₁ = cc in

@@ -9,6 +9,7 @@ pub mod Conditions
 pub mod Examples
 pub mod RunLaws
 pub mod Opcodes
+pub mod Ruled
 pub mod SheetSteps
 pub mod StepsTook
 pub mod StepsReads

@@ -8,7 +8,7 @@ use mathlib.Core.Path.{_≡_}
 use lib.ListN.{length, take, drop}
 use lib.Dec.{eqb, leb}
 use Rattle.model.specs.Types.{Dim, static, unknown, Shape, shape, Ty, shapeOf}
-use Rattle.machine.specs.Steps.{Step, put, row, pervading, join, validating, aJoin, isA, putBy}
+use Rattle.machine.specs.Steps.{Step, put, row, pervading, join, validating, aJoin, isA, putBy, Rule, ofNone, ofOne, ofTwo}
 
 -- ---- real shapes
 
@@ -92,19 +92,26 @@ abbrev pub ontoReal : List RealShape → Option RealShape → Option (List RealS
 ontoReal rs none = none
 ontoReal rs (some r) = some (r ∷ rs)
 
--- One step on a stack of real shapes, top first. None where the run stops; an accepted or well-formed sheet never lacks a shape.
+-- What each step makes of the real shapes that it takes; none where the run stops.
+abbrev pub realRule : (x : Step) → Feed x → Rule RealShape (Option RealShape)
+realRule (put t) r = ofNone (some r)
+realRule row u = ofOne λ r. some (realRow r)
+realRule (pervading f g) u = ofTwo λ r q. realPervade r q
+realRule join side = ofTwo λ r q. some (keeps side r q)
+realRule (validating spec) u = ofOne λ r. cond (fits (shapeOf spec) r) (some r) none
+
+-- It is laid on top. An accepted or well-formed sheet never lacks a shape (`demand`: `accepted-stops`, `well-formed-stops`).
+abbrev pub realRuled : Rule RealShape (Option RealShape) → List RealShape → Option (List RealShape)
+realRuled (ofNone o) rs = ontoReal rs o
+realRuled (ofOne f) [] = none
+realRuled (ofOne f) (r ∷ rs) = ontoReal rs (f r)
+realRuled (ofTwo f) [] = none
+realRuled (ofTwo f) (r ∷ []) = none
+realRuled (ofTwo f) (r ∷ q ∷ rs) = ontoReal rs (f r q)
+
+-- One step on a stack of real shapes, top first.
 unfoldable pub realStep : (x : Step) → Feed x → List RealShape → Option (List RealShape)
-realStep (put t) r rs = some (r ∷ rs)
-realStep row u [] = none
-realStep row u (r ∷ rs) = some (realRow r ∷ rs)
-realStep (pervading f g) u [] = none
-realStep (pervading f g) u (r ∷ []) = none
-realStep (pervading f g) u (r ∷ q ∷ rs) = ontoReal rs (realPervade r q)
-realStep join side [] = none
-realStep join side (r ∷ []) = none
-realStep join side (r ∷ q ∷ rs) = some (keeps side r q ∷ rs)
-realStep (validating spec) u [] = none
-realStep (validating spec) u (r ∷ rs) = cond (fits (shapeOf spec) r) (some (r ∷ rs)) none
+realStep x f rs = realRuled (realRule x f) rs
 
 -- A stopped run takes no further step.
 abbrev pub goesOn : Option (List RealShape) → (List RealShape → Option (List RealShape)) → Option (List RealShape)

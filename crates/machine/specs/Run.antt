@@ -15,7 +15,7 @@ use Rattle.rules.specs.Types.{joinTypes, intoRow}
 use Rattle.validation.specs.CheckShape.{unsided}
 use Rattle.validation.specs.Validate.{validate}
 use Rattle.machine.specs.SheetLimits.{maxSteps, maxStack}
-use Rattle.machine.specs.Steps.{Step, put, row, pervading, join, validating}
+use Rattle.machine.specs.Steps.{Step, put, row, pervading, join, validating, Rule, ofNone, ofOne, ofTwo}
 
 -- What a rule answers, the place aside: a value, or the number of a refusal.
 pub data Answer (A : Type 0) : Type 0 where
@@ -71,20 +71,26 @@ onto st a = following a λ t. gives (t ∷ st)
 unfoldable pub pervadeTypes : Bool → Bool → Ty → Ty → Answer Ty
 pervadeTypes f g (ty s k) (ty t l) = following (orRefuses (pervade f g s t) unpervaded) λ x. gives (ty x (union k l))
 
--- One step. What the stack lacks or has no room for is refused here as in the reading of a sheet, where it comes before the step's
--- bytes (`lacks`, `overfull` in StepsReads).
+-- What each step makes of the types that it takes.
+abbrev pub ruleOf : Step → Rule Ty (Answer Ty)
+ruleOf (put t) = ofNone (gives t)
+ruleOf row = ofOne λ t. gives (intoRow t)
+ruleOf (pervading f g) = ofTwo λ t u. pervadeTypes f g t u
+ruleOf join = ofTwo λ t u. gives (joinTypes t u)
+ruleOf (validating spec) = ofOne λ t. aside (validate unsided spec t)
+
+-- What it makes is laid on top. What the stack lacks or has no room for is refused here as in the reading of a sheet, where it comes
+-- before the step's bytes (`lacks`, `overfull` in StepsReads).
+abbrev pub ruled : Rule Ty (Answer Ty) → Stack → Answer Stack
+ruled (ofNone a) st = cond (ltb (length st) maxStack) (onto st a) (refuses overflow)
+ruled (ofOne f) [] = refuses underflow
+ruled (ofOne f) (t ∷ st) = onto st (f t)
+ruled (ofTwo f) [] = refuses underflow
+ruled (ofTwo f) (t ∷ []) = refuses underflow
+ruled (ofTwo f) (t ∷ u ∷ st) = onto st (f t u)
+
 unfoldable pub step : Step → Stack → Answer Stack
-step (put t) st = cond (ltb (length st) maxStack) (gives (t ∷ st)) (refuses overflow)
-step row [] = refuses underflow
-step row (t ∷ st) = gives (intoRow t ∷ st)
-step (pervading f g) [] = refuses underflow
-step (pervading f g) (t ∷ []) = refuses underflow
-step (pervading f g) (t ∷ u ∷ st) = onto st (pervadeTypes f g t u)
-step join [] = refuses underflow
-step join (t ∷ []) = refuses underflow
-step join (t ∷ u ∷ st) = gives (joinTypes t u ∷ st)
-step (validating spec) [] = refuses underflow
-step (validating spec) (t ∷ st) = onto st (aside (validate unsided spec t))
+step x st = ruled (ruleOf x) st
 
 -- One step of a run: its rule, and one step more is taken.
 abbrev pub work : Step → State Stack → Answer (State Stack)

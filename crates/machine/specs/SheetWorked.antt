@@ -1,49 +1,31 @@
 -- A sheet's run against the run of a list of steps: the height that each step leaves, and that an accepted sheet, read to the end
 -- with the rules passed over, gives steps that are worked to the same stack.
-use Prim.Native.Nat.{ℕ, zero, suc, _+_, _-_}
+use Prim.Native.Nat.{ℕ, zero, suc, _≤_}
 use native.Mathlib.Omega.{arith}
-use mathlib.Core.Bool.{Bool, true, false, cond}
 use mathlib.Core.List.{List, [], _∷_}
-use mathlib.Core.Path.{_≡_, refl, sym, _∙_, ap}
+use mathlib.Core.Path.{_≡_, refl, _∙_, ap}
 use lib.ListN.{length}
-use lib.Dec.{ltb}
 use Rattle.model.specs.Refusals.{overflow}
-use Rattle.model.specs.Types.{Ty}
-use Rattle.format.specs.Reader.{Read, got, stopped, Reader, andThen, _>>=_, give, stop, here}
+use Rattle.format.specs.Reader.{Read, got, stopped, Reader, andThen, _>>=_, stop, here}
 use Rattle.format.specs.ReaderLaws.{split}
-use Rattle.rules.specs.Types.{intoRow, joinTypes}
-use Rattle.validation.specs.CheckShape.{unsided}
-use Rattle.validation.specs.Validate.{validate}
-use Rattle.machine.specs.SheetLimits.{maxStack}
-use Rattle.machine.specs.Steps.{Step, put, row, pervading, join, validating, opcodeOf, leaves}
-use Rattle.machine.specs.Run.{Answer, gives, refuses, following, aside, Stack, onto, pervadeTypes, State, afterStep, onStack, step, work, steps}
+use Rattle.machine.specs.Steps.{Step, opcodeOf, takes, leaves}
+use Rattle.machine.specs.Run.{Answer, gives, refuses, following, Stack, ruleOf, State, afterStep, onStack, step, work, steps}
 use Rattle.machine.specs.Sheet.{placed, stepFrom, workFrom, sheetMore, skimMore}
 use Rattle.machine.specs.SheetSteps.{placed-got, toEnd-end, toEnd-more}
-use Rattle.machine.specs.RunLaws.{step-join, following-gives}
+use Rattle.machine.specs.RunLaws.{following-gives}
+use Rattle.machine.specs.Ruled.{rule-takes, lays-one, ruled-height}
 use Rattle.machine.specs.StepsTook.{ended-or, stepAndMore}
 
 -- ---- heights
 
-onto-height : (st : Stack) (a : Answer Ty) {st₁ : Stack} → onto st a ≡ gives st₁ → length st₁ ≡ suc (length st)
-onto-height st a {st₁} e = following-gives a e λ t e₁ e₂. let w : t ∷ st ≡ st₁ = cc in rw (← w)
-
 pub step-height : (x : Step) (st st₁ : Stack) → step x st ≡ gives st₁ → length st₁ ≡ leaves (opcodeOf x) (length st)
 unfolding step
-step-height (put t) st st₁ e = go (ltb (length st) maxStack) e
-  where
-    go : (b : Bool) → cond b (gives (t ∷ st)) (refuses overflow) ≡ gives st₁ → length st₁ ≡ length st - 0 + 1
-    go true e = let w : t ∷ st ≡ st₁ = cc in rw (← w) (omega arith)
-    go false e = let z : _≡_ {A = ℕ} 0 1 = cc in absurd (omega arith)
-step-height row [] st₁ e = let z : _≡_ {A = ℕ} 0 1 = cc in absurd (omega arith)
-step-height row (t ∷ st) st₁ e = let w : intoRow t ∷ st ≡ st₁ = cc in rw (← w) (omega arith)
-step-height (pervading f g) [] st₁ e = let z : _≡_ {A = ℕ} 0 1 = cc in absurd (omega arith)
-step-height (pervading f g) (t ∷ []) st₁ e = let z : _≡_ {A = ℕ} 0 1 = cc in absurd (omega arith)
-step-height (pervading f g) (t ∷ u ∷ st) st₁ e = omega (arith, onto-height st (pervadeTypes f g t u) e)
-step-height join [] st₁ e = let z : _≡_ {A = ℕ} 0 1 = cc in absurd (omega arith)
-step-height join (t ∷ []) st₁ e = let z : _≡_ {A = ℕ} 0 1 = cc in absurd (omega arith)
-step-height join (t ∷ u ∷ st) st₁ e = let w : joinTypes t u ∷ st ≡ st₁ = cc (step-join t u st) in rw (← w) (omega arith)
-step-height (validating spec) [] st₁ e = let z : _≡_ {A = ℕ} 0 1 = cc in absurd (omega arith)
-step-height (validating spec) (t ∷ st) st₁ e = omega (arith, onto-height st (aside (validate unsided spec t)) e)
+step-height x st st₁ e = rw (rule-takes x, lays-one (opcodeOf x)) (ruled-height (ruleOf x) st st₁ e .1)
+
+-- A step that its rule works has all the types that it takes.
+pub step-takes : (x : Step) (st st₁ : Stack) → step x st ≡ gives st₁ → takes (opcodeOf x) ≤ length st
+unfolding step
+step-takes x st st₁ e = rw (rule-takes x) (ruled-height (ruleOf x) st st₁ e .0)
 
 -- ---- the same answer
 

@@ -1,5 +1,5 @@
 -- The steps of a sheet and their bytes (document 01, "The sheet, added"): two mark bytes, then a type, a flag byte or nothing.
-use Prim.Native.Nat.{ℕ, suc, _+_, _-_, _/_, _%_, _≤_}
+use Prim.Native.Nat.{ℕ, _+_, _-_, _/_, _%_, _≤_}
 use mathlib.Core.Bool.{Bool, true, _&&_, cond}
 use mathlib.Core.List.{List, [], _∷_, _++_}
 use mathlib.Core.Option.{Option, none, some}
@@ -80,6 +80,14 @@ lays aValidating = 1
 -- The height that a step leaves of height h.
 abbrev pub leaves : Opcode → ℕ → ℕ
 leaves c h = h - takes c + lays c
+
+-- ---- rules
+
+-- What a step makes of what it takes off a stack, the top first: of none, of one or of two.
+pub data Rule (A R : Type 0) : Type 0 where
+  ofNone : R → Rule A R
+  ofOne : (A → R) → Rule A R
+  ofTwo : (A → A → R) → Rule A R
 
 -- ---- writing
 

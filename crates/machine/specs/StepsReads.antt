@@ -7,7 +7,7 @@ use mathlib.Core.List.{List, [], _∷_, _++_, append-assoc, append-cancel-left}
 use mathlib.Core.Path.{_≡_, refl, sym, _∙_, ap}
 use lib.ListN.{length, drop, length-drop, length-append}
 use lib.Dec.{leb}
-use borrow.Author.Tests.{le-leb, le-ltb, leb-true, leb-false}
+use borrow.Author.Tests.{le-leb, leb-true, leb-false}
 use Rattle.model.specs.Refusals.{underflow, overflow}
 use Rattle.model.specs.Within.{All}
 use Rattle.format.specs.Reader.{got, stop, here, Reads}
@@ -16,9 +16,10 @@ use Rattle.format.specs.Records.{markBytes, isCount}
 use Rattle.format.specs.WriteRead.{write-read}
 use Rattle.machine.specs.SheetLimits.{maxStack}
 use Rattle.machine.specs.Steps.{Step, put, row, pervading, join, validating, Opcode, aPut, aRow, aPervading, aJoin, aValidating, opcodeOf, markOf, takes, leaves, flagByte, maxFlag, fillsTop, fillsBelow, argumentOf, writeArgument, writeStep, writeSteps, StepWithin}
-use Rattle.machine.specs.Run.{gives, refuses, Stack, State, afterStep, step, work, steps}
+use Rattle.machine.specs.Run.{gives, refuses, Stack, ruleOf, State, afterStep, step, work, steps}
 use Rattle.machine.specs.Sheet.{placed, opcodeFrom, argumentFrom, stepFrom, workFrom, sheetMore, skimMore}
 use Rattle.machine.specs.WellFormed.{Heights}
+use Rattle.machine.specs.Ruled.{rule-takes, lays-one, ruled-lacks, ruled-full}
 use Rattle.machine.specs.Opcodes.{mark-two, takes-few, lays-few}
 use Rattle.machine.specs.SheetWorked.{Same, same-after, step-height, workAndMore}
 use Rattle.machine.specs.SheetSteps.{toEnd-end, toEnd-more, work-rule}
@@ -68,25 +69,11 @@ module _ (s : List ℕ) where
 -- A step that lacks types, and one that lays down one too many, is refused by its rule with the number that the reading gives.
 lacks : (x : Step) (st : Stack) → length st < takes (opcodeOf x) → step x st ≡ refuses underflow
 unfolding step
-lacks (put t) st h = absurd (omega arith)
-lacks row [] h = refl
-lacks row (t ∷ st) h = absurd (omega arith)
-lacks (pervading f g) [] h = refl
-lacks (pervading f g) (t ∷ []) h = refl
-lacks (pervading f g) (t ∷ u ∷ st) h = absurd (omega arith)
-lacks join [] h = refl
-lacks join (t ∷ []) h = refl
-lacks join (t ∷ u ∷ st) h = absurd (omega arith)
-lacks (validating spec) [] h = refl
-lacks (validating spec) (t ∷ st) h = absurd (omega arith)
+lacks x st h = ruled-lacks (ruleOf x) st (omega (arith, rule-takes x))
 
 overfull : (x : Step) (st : Stack) → length st ≤ maxStack → takes (opcodeOf x) ≤ length st → maxStack < leaves (opcodeOf x) (length st) → step x st ≡ refuses overflow
 unfolding step
-overfull (put t) st h k l = rw (le-ltb (length st) maxStack (omega arith))
-overfull row st h k l = absurd (omega arith)
-overfull (pervading f g) st h k l = absurd (omega arith)
-overfull join st h k l = absurd (omega arith)
-overfull (validating spec) st h k l = absurd (omega arith)
+overfull x st h k l = ruled-full (ruleOf x) st h (omega (arith, rule-takes x)) (omega (arith, rule-takes x, lays-one (opcodeOf x)))
 
 -- what an accepted step leaves is not too high
 pub step-room : (x : Step) (st st₁ : Stack) → length st ≤ maxStack → step x st ≡ gives st₁ → length st₁ ≤ maxStack

@@ -1,14 +1,13 @@
 -- The types on the stack keep every limit: what is put does, and no rule leaves them. So the types left can be written, `maxBytes`
 -- suffice for each, and their bytes tell them.
-use Prim.Native.Nat.{ℕ, _*_, _≤_, max}
+use Prim.Native.Nat.{_*_, _≤_, max}
 use native.Mathlib.Omega.{arith}
 use mathlib.Core.Bool.{Bool}
 use mathlib.Core.List.{List, [], _∷_, _++_, append-cancel-left}
 use mathlib.Core.Path.{_≡_, refl}
 use lib.ListN.{length, length-append}
-use lib.Dec.{ltb}
 use Rattle.model.specs.Limits.{maxBytes}
-use Rattle.model.specs.Refusals.{unpervaded, overflow}
+use Rattle.model.specs.Refusals.{unpervaded}
 use Rattle.model.specs.Types.{Ty, ty, inside, below}
 use Rattle.model.specs.Within.{All, Within}
 use Rattle.format.specs.Records.{writeTy}
@@ -24,11 +23,11 @@ use Rattle.rules.specs.TypesLaws.{joinTypes-within}
 use Rattle.validation.specs.CheckShape.{unsided}
 use Rattle.validation.specs.Validate.{validate}
 use Rattle.validation.specs.ValidateLaws.{validate-within}
-use Rattle.machine.specs.SheetLimits.{maxStack}
 use Rattle.machine.specs.Steps.{Step, put, row, pervading, join, validating, StepWithin}
-use Rattle.machine.specs.Run.{Answer, gives, orRefuses, aside, Stack, onto, pervadeTypes, step, steps}
+use Rattle.machine.specs.Run.{gives, orRefuses, Stack, pervadeTypes, ruleOf, step, steps}
 use Rattle.machine.specs.Call.{writeTypes}
-use Rattle.machine.specs.RunLaws.{step-join, following-gives, orRefuses-gives, aside-gives, cond-gives}
+use Rattle.machine.specs.RunLaws.{following-gives, orRefuses-gives, aside-gives}
+use Rattle.machine.specs.Ruled.{Makes, ruled-makes}
 
 -- ---- one step
 
@@ -44,23 +43,16 @@ pervadeTypes-within f g (ty s k) (ty t l) x v w e =
       shallow = omega (arith, union-below (max (below k) (below l)) k l (omega arith) (omega arith), v .shallow, w .shallow);
     }
 
-onto-within : (st : Stack) (a : Answer Ty) {st₁ : Stack} → All Within st → ((t : Ty) → a ≡ gives t → Within t) → onto st a ≡ gives st₁ → All Within st₁
-onto-within st a {st₁} h k e = following-gives a e λ t e₁ e₂. let w : t ∷ st ≡ st₁ = cc in rw (← w) (k t e₁, h)
+rule-within : (x : Step) → StepWithin x → Makes Within (ruleOf x)
+rule-within (put t) w = λ y e. let z : t ≡ y = cc in rw (← z) w
+rule-within row w = λ t y v e. let z : intoRow t ≡ y = cc in rw (← z) (intoRow-within t v)
+rule-within (pervading f g) w = λ t u y v v′ e. pervadeTypes-within f g t u y v v′ e
+rule-within join w = λ t u y v v′ e. let z : joinTypes t u ≡ y = cc in rw (← z) (joinTypes-within t u v v′)
+rule-within (validating spec) w = λ t y v e. aside-gives (validate unsided spec t) e λ e₁. validate-within unsided spec t y w v e₁
 
 step-within : (x : Step) (st st₁ : Stack) → StepWithin x → All Within st → step x st ≡ gives st₁ → All Within st₁
 unfolding step
-step-within (put t) st st₁ w h e = cond-gives (ltb (length st) maxStack) overflow e λ y. rw (← y) (w, h)
-step-within row [] st₁ w h e = let z : _≡_ {A = ℕ} 0 1 = cc in absurd (omega arith)
-step-within row (t ∷ st) st₁ w h e = let y : intoRow t ∷ st ≡ st₁ = cc in rw (← y) (intoRow-within t (h .0), h .1)
-step-within (pervading f g) [] st₁ w h e = let z : _≡_ {A = ℕ} 0 1 = cc in absurd (omega arith)
-step-within (pervading f g) (t ∷ []) st₁ w h e = let z : _≡_ {A = ℕ} 0 1 = cc in absurd (omega arith)
-step-within (pervading f g) (t ∷ u ∷ st) st₁ w h e = onto-within st (pervadeTypes f g t u) (h .1 .1) (λ x k. pervadeTypes-within f g t u x (h .0) (h .1 .0) k) e
-step-within join [] st₁ w h e = let z : _≡_ {A = ℕ} 0 1 = cc in absurd (omega arith)
-step-within join (t ∷ []) st₁ w h e = let z : _≡_ {A = ℕ} 0 1 = cc in absurd (omega arith)
-step-within join (t ∷ u ∷ st) st₁ w h e = let y : joinTypes t u ∷ st ≡ st₁ = cc (step-join t u st) in rw (← y) (joinTypes-within t u (h .0) (h .1 .0), h .1 .1)
-step-within (validating spec) [] st₁ w h e = let z : _≡_ {A = ℕ} 0 1 = cc in absurd (omega arith)
-step-within (validating spec) (t ∷ st) st₁ w h e =
-    onto-within st (aside (validate unsided spec t)) (h .1) (λ x k. aside-gives (validate unsided spec t) k λ e₁. validate-within unsided spec t x w (h .0) e₁) e
+step-within x st st₁ w h e = ruled-makes Within (ruleOf x) st st₁ (rule-within x w) h e
 
 -- ---- all steps
 

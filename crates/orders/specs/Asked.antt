@@ -2,21 +2,21 @@
 -- real shape that fits asks for no less.
 use Prim.Native.Nat.{ℕ, zero, suc}
 use native.Mathlib.Omega.{arith}
-use mathlib.Core.Bool.{true, false}
+use mathlib.Core.Bool.{Bool, true, false}
 use mathlib.Core.List.{List, [], _∷_}
 use mathlib.Core.Option.{Option, none, some}
 use mathlib.Core.Path.{_≡_, refl, sym, _∙_, ap}
 use lib.ListN.{getElem?}
-use Rattle.model.specs.Types.{Dim, static, unknown, Shape, shape, shapeOf}
+use Rattle.model.specs.Types.{Dim, static, unknown, Shape, shape, Ty, shapeOf}
 use Rattle.rules.specs.Pervade.{Pervaded, sizes, clash, pervadeDims, pervadeClosing, closedBy, pervade}
-use Rattle.machine.specs.Steps.{Step, put, row, pervading, join, validating}
-use Rattle.machine.specs.Real.{RealShape, fits, realPervade, Feeds, FitsPuts}
+use Rattle.machine.specs.Steps.{Step, aJoin, isA, putBy}
+use Rattle.machine.specs.Real.{RealShape, fits, realPervade, FeedOf, Feeds, FitsFeed, FitsPuts}
 use Rattle.holding.specs.Fitting.{Fits, fits-of}
 use Rattle.holding.specs.PervadeHolds.{closedBy-some}
 use Rattle.orders.specs.Cells.{Named, unnamed, differ, Cell, cell, named, joinNamed, joinCell, cellOf, namedBy, joinNamed-idem, joinNamed-comm, joinNamed-assoc, joinCell-comm, joinCell-assoc, named-join}
 use Rattle.orders.specs.CellsPervade.{cell-pervade, differ-pervade, named-realPervade, differ-realPervade}
 use Rattle.orders.specs.Play.{Commutes, Joins, gather, laid}
-use Rattle.orders.specs.PlaySteps.{moves, feedMoves}
+use Rattle.orders.specs.PlaySteps.{moveOf, moves, feedMove, feedMoves}
 
 pub named-commutes : Commutes unnamed joinNamed
 named-commutes = record { unital = λ x. refl; comm = joinNamed-comm; assoc = joinNamed-assoc }
@@ -106,13 +106,12 @@ below-holds (shape o c) r i h = below-fits o c r i (fits-of o c r h)
 
 asked-below : (xs : List Step) (f : Feeds xs) (i : ℕ) → FitsPuts xs f → Below (asked i (laid (moves xs))) (realAsked i (laid (feedMoves xs f)))
 asked-below [] f i h = refl
-asked-below (put t ∷ xs) f i h =
-    below-join (namedAt i (shapeOf t)) (realAt i (f .0)) (asked i (laid (moves xs))) (realAsked i (laid (feedMoves xs (f .1))))
-    (below-holds (shapeOf t) (f .0) i (h .0)) (asked-below xs (f .1) i (h .1))
-asked-below (row ∷ xs) f i h = asked-below xs (f .1) i (h .1)
-asked-below (pervading a b ∷ xs) f i h = asked-below xs (f .1) i (h .1)
-asked-below (join ∷ xs) f i h = asked-below xs (f .1) i (h .1)
-asked-below (validating spec ∷ xs) f i h = asked-below xs (f .1) i (h .1)
+asked-below (x ∷ xs) f i h = go (putBy x) (isA aJoin x) (f .0) (h .0) (asked-below xs (f .1) i (h .1))
+  where
+    go : (o : Option Ty) (b : Bool) (a : FeedOf o b) → FitsFeed o b a → Below (asked i (laid (moves xs))) (realAsked i (laid (feedMoves xs (f .1))))
+        → Below (asked i (laid (moveOf o ∷ moves xs))) (realAsked i (laid (feedMove o b a ∷ feedMoves xs (f .1))))
+    go none b a k l = l
+    go (some t) b a k l = below-join (namedAt i (shapeOf t)) (realAt i a) (asked i (laid (moves xs))) (realAsked i (laid (feedMoves xs (f .1)))) (below-holds (shapeOf t) a i k) l
 
 -- Where the puts ask for different sizes, so do all real shapes that fit them.
 pub asked-differ : (xs : List Step) (f : Feeds xs) (i : ℕ) → FitsPuts xs f → asked i (laid (moves xs)) ≡ differ → realAsked i (laid (feedMoves xs f)) ≡ differ

@@ -9,13 +9,13 @@ use mathlib.Core.Path.{_≡_, refl, sym, _∙_}
 use lib.ListN.{length, replicate, getElem?, length-append, length-map, length-replicate}
 use lib.Dec.{ltb}
 use borrow.Author.Tests.{ltb-true, ltb-false}
-use Rattle.model.specs.Types.{Dim, static, unknown, Shape, shape, shapeOf}
-use Rattle.machine.specs.Steps.{Step, put, row, pervading, join, validating}
-use Rattle.machine.specs.Real.{RealShape, fits, Feeds, FitsPuts, theTop}
+use Rattle.model.specs.Types.{Dim, static, unknown, Shape, shape, Ty, shapeOf}
+use Rattle.machine.specs.Steps.{Step, aJoin, isA, putBy}
+use Rattle.machine.specs.Real.{RealShape, fits, theTop, FeedOf, Feeds, FitsFeed, FitsPuts}
 use Rattle.holding.specs.Fitting.{FitAll, Follows, Fits, of-fits}
 use Rattle.orders.specs.Cells.{unnamed, differ, named, cellOf, joinNamed-comm, real-sure}
 use Rattle.orders.specs.Play.{laid}
-use Rattle.orders.specs.PlaySteps.{moves, feedMoves}
+use Rattle.orders.specs.PlaySteps.{moveOf, moves, feedMove, feedMoves}
 use Rattle.orders.specs.Asked.{openingOf, namedAt, asked, realAt, realAsked}
 
 -- ---- the real shapes
@@ -40,21 +40,27 @@ abbrev realsFor : List Shape → ℕ → List RealShape
 realsFor [] b = []
 realsFor (s ∷ l) b = realFor s b ∷ realsFor l (nextFor s b)
 
+abbrev feedFor : (o : Option Ty) (b : Bool) → ℕ → FeedOf o b
+feedFor (some t) b n = realFor (shapeOf t) n
+feedFor none true n = theTop
+feedFor none false n = tt
+
+abbrev nextOf : Option Ty → ℕ → ℕ
+nextOf none n = n
+nextOf (some t) n = nextFor (shapeOf t) n
+
 abbrev pub witness : (xs : List Step) → ℕ → Feeds xs
 witness [] b = tt
-witness (put t ∷ xs) b = (realFor (shapeOf t) b, witness xs (nextFor (shapeOf t) b))
-witness (row ∷ xs) b = (tt, witness xs b)
-witness (pervading f g ∷ xs) b = (tt, witness xs b)
-witness (join ∷ xs) b = (theTop, witness xs b)
-witness (validating spec ∷ xs) b = (tt, witness xs b)
+witness (x ∷ xs) b = (feedFor (putBy x) (isA aJoin x) b, witness xs (nextOf (putBy x) b))
 
 laid-witness : (xs : List Step) (b : ℕ) → laid (feedMoves xs (witness xs b)) ≡ realsFor (laid (moves xs)) b
 laid-witness [] b = refl
-laid-witness (put t ∷ xs) b = rw (laid-witness xs (nextFor (shapeOf t) b))
-laid-witness (row ∷ xs) b = laid-witness xs b
-laid-witness (pervading f g ∷ xs) b = laid-witness xs b
-laid-witness (join ∷ xs) b = laid-witness xs b
-laid-witness (validating spec ∷ xs) b = laid-witness xs b
+laid-witness (x ∷ xs) b = go (putBy x) (isA aJoin x) (laid-witness xs (nextOf (putBy x) b))
+  where
+    go : (o : Option Ty) (j : Bool) → laid (feedMoves xs (witness xs (nextOf o b))) ≡ realsFor (laid (moves xs)) (nextOf o b)
+        → laid (feedMove o j (feedFor o j b) ∷ feedMoves xs (witness xs (nextOf o b))) ≡ realsFor (laid (moveOf o ∷ moves xs)) b
+    go none j e = e
+    go (some t) j e = rw e
 
 -- ---- they fit
 
@@ -74,11 +80,11 @@ fits-real (shape o (some c)) b = of-fits o (some c) _ (fits-sizes o (some c) _ (
 
 pub fits-witness : (xs : List Step) (b : ℕ) → FitsPuts xs (witness xs b)
 fits-witness [] b = tt
-fits-witness (put t ∷ xs) b = (fits-real (shapeOf t) b, fits-witness xs (nextFor (shapeOf t) b))
-fits-witness (row ∷ xs) b = (tt, fits-witness xs b)
-fits-witness (pervading f g ∷ xs) b = (tt, fits-witness xs b)
-fits-witness (join ∷ xs) b = (tt, fits-witness xs b)
-fits-witness (validating spec ∷ xs) b = (tt, fits-witness xs b)
+fits-witness (x ∷ xs) b = (go (putBy x) (isA aJoin x), fits-witness xs (nextOf (putBy x) b))
+  where
+    go : (o : Option Ty) (j : Bool) → FitsFeed o j (feedFor o j b)
+    go none j = tt
+    go (some t) j = fits-real (shapeOf t) b
 
 -- ---- below index b a real shape asks for what its shape asks for
 

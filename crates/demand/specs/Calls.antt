@@ -1,70 +1,91 @@
--- What an accepted call says of its run; the call's answer from the run of a list of steps; and the types left from a stack,
--- counted from the bottom.
-use Prim.Native.Nat.{ℕ, zero, suc, _≤_}
+-- What an accepted call says of its run, and the call's answer from the run of a list of steps.
+use Prim.Native.Nat.{ℕ, _≤_}
 use native.Mathlib.Omega.{arith}
 use mathlib.Core.Bool.{Bool, true, false, cond}
-use mathlib.Core.List.{List, [], _∷_, reverse, reverseAux}
-use mathlib.Core.Option.{some}
+use mathlib.Core.List.{List, [], _∷_}
 use mathlib.Core.Path.{_≡_, refl, sym, _∙_, ap}
-use lib.ListN.{length, take, drop, getElem?}
+use lib.ListN.{length, take, drop}
 use lib.Seq.{take-at, take-append-seam}
 use lib.Dec.{leb, ltb}
 use borrow.Author.Tests.{le-leb, le-ltb}
 use Rattle.model.specs.Refusals.{tooShort, unpervaded}
 use Rattle.model.specs.Types.{Ty}
+use Rattle.model.specs.Within.{All, Within}
 use Rattle.format.specs.Outcome.{Outcome, accepted, refused}
-use Rattle.machine.specs.SheetLimits.{scratchBytes}
+use Rattle.machine.specs.SheetLimits.{scratchBytes, resultBytes}
 use Rattle.machine.specs.Steps.{Step, SheetOf}
-use Rattle.machine.specs.Run.{gives, refuses, aside, Stack, steps, bottomFirst}
+use Rattle.machine.specs.Run.{gives, refuses, aside, steps, bottomFirst}
 use Rattle.machine.specs.Sheet.{sheetRun}
-use Rattle.machine.specs.Call.{Tally, tally, called, writeTypes, zeroed, atFront, handOver, sheetCall}
-use Rattle.machine.specs.Real.{RealShape, Holds}
-use Rattle.demand.specs.Claims.{Leaves, Mismatched, EachHolds}
-use Rattle.holding.specs.StepsHold.{AllHold}
+use Rattle.machine.specs.Call.{Tally, tally, Called, called, writeTypes, zeroed, atFront, handOver, sheetCall}
+use Rattle.demand.specs.Claims.{Check, answerTo, IsAccepted, Leaves, Mismatched, MakesAccepted}
 use Rattle.machine.specs.StepsWithin.{writeTypes-suffices, writeTypes-same}
 use Rattle.machine.specs.Sheets.{sheet-steps, left-within}
 
 -- ---- an accepted call
 
 -- With enough scratch the call hands the run over.
-pub call-run : (s result scratch : List ℕ) → scratchBytes ≤ length scratch → sheetCall s result scratch ≡ handOver (length s) (sheetRun s) result (zeroed scratch)
+pub call-run : (c : Check) → scratchBytes ≤ length (c .scratch) → answerTo c ≡ handOver (length (c .sheet)) (sheetRun (c .sheet)) (c .result) (zeroed (c .scratch))
 unfolding sheetCall
-call-run s result scratch h = rw (le-ltb (length scratch) scratchBytes h)
+call-run c h = rw (le-ltb (length (c .scratch)) scratchBytes h)
 
 -- What an accepted call says.
-pub record Accepted (s result scratch : List ℕ) (c : Tally) (out after : List ℕ) (ts : List Ty) : Type 0 where
-  pub run : sheetRun s ≡ accepted ts
-  pub answer : tally (length ts) (length (writeTypes ts)) ≡ c
-  pub written : atFront (writeTypes ts) result ≡ out
-  pub zero-after : zeroed scratch ≡ after
+pub record AcceptedBy (c : Check) (a : IsAccepted c) (ts : List Ty) : Type 0 where
+  pub run : sheetRun (c .sheet) ≡ accepted ts
+  pub answer : tally (length ts) (length (writeTypes ts)) ≡ a .left
+  pub written : atFront (writeTypes ts) (c .result) ≡ a .result-after
+  pub zero-after : zeroed (c .scratch) ≡ a .scratch-after
 
-handed : {C : Type 0} (size : ℕ) (o : Outcome (List Ty)) (result scratch : List ℕ) {c : Tally} {out after : List ℕ} → handOver size o result scratch ≡ called (accepted c) out after → ((ts : List Ty) → o ≡ accepted ts → tally (length ts) (length (writeTypes ts)) ≡ c → atFront (writeTypes ts) result ≡ out → scratch ≡ after → C) → C
+-- what is handed over with the types ts left, the scratch as given
+abbrev handed : List Ty → List ℕ → List ℕ → Called
+handed ts result scratch = called (accepted (tally (length ts) (length (writeTypes ts)))) (atFront (writeTypes ts) result) scratch
+
+handed-accepted : {C : Type 0} (size : ℕ) (o : Outcome (List Ty)) (result scratch : List ℕ) {n : Tally} {out after : List ℕ}
+    → handOver size o result scratch ≡ called (accepted n) out after
+    → ((ts : List Ty) → o ≡ accepted ts → handed ts result scratch ≡ called (accepted n) out after → C)
+    → C
 unfolding handOver
-handed size (refused k p) result scratch e f = let z : _≡_ {A = ℕ} 0 1 = cc in absurd (omega arith)
-handed {C} size (accepted ts) result scratch {c} {out} {after} e f = go (leb (length (writeTypes ts)) (length result)) e
+handed-accepted size (refused k p) result scratch e f = let z : _≡_ {A = ℕ} 0 1 = cc in absurd (omega arith)
+handed-accepted {C} size (accepted ts) result scratch {n} {out} {after} e f = go (leb (length (writeTypes ts)) (length result)) e
   where
-    go : (b : Bool) → cond b (called (accepted (tally (length ts) (length (writeTypes ts)))) (atFront (writeTypes ts) result) scratch) (called (refused tooShort size) result scratch) ≡ called (accepted c) out after → C
-    go true e = f ts refl (cc) (cc) (cc)
+    go : (b : Bool) → cond b (handed ts result scratch) (called (refused tooShort size) result scratch) ≡ called (accepted n) out after → C
+    go true e = f ts refl e
     go false e = let z : _≡_ {A = ℕ} 0 1 = cc in absurd (omega arith)
 
-pub call-accepted : (s result scratch : List ℕ) (c : Tally) (out after : List ℕ) → sheetCall s result scratch ≡ called (accepted c) out after → (ts : List Ty) × Accepted s result scratch c out after ts
+pub call-accepted : (c : Check) (a : IsAccepted c) → (ts : List Ty) × AcceptedBy c a ts
 unfolding sheetCall
-call-accepted s result scratch c out after e = go (ltb (length scratch) scratchBytes) e
+call-accepted c a = go (ltb (length (c .scratch)) scratchBytes) (a .outcome)
   where
-    go : (b : Bool) → cond b (called (refused tooShort 0) result scratch) (handOver (length s) (sheetRun s) result (zeroed scratch)) ≡ called (accepted c) out after → (ts : List Ty) × Accepted s result scratch c out after ts
+    go : (b : Bool)
+        → cond b (called (refused tooShort 0) (c .result) (c .scratch)) (handOver (length (c .sheet)) (sheetRun (c .sheet)) (c .result) (zeroed (c .scratch)))
+        ≡ called (accepted (a .left)) (a .result-after) (a .scratch-after)
+        → (ts : List Ty) × AcceptedBy c a ts
     go true e = let z : _≡_ {A = ℕ} 0 1 = cc in absurd (omega arith)
-    go false e = handed (length s) (sheetRun s) result (zeroed scratch) e λ ts r a w z. (ts, record { run = r; answer = a; written = w; zero-after = z })
+    go false e =
+        handed-accepted (length (c .sheet)) (sheetRun (c .sheet)) (c .result) (zeroed (c .scratch)) e λ ts r h.
+        (ts, record { run = r; answer = cc; written = cc; zero-after = cc })
+
+-- Types that stand at the front of a buffer are told by their number and the number of their bytes.
+front-told : (ts us : List Ty) (buffer : List ℕ) → All Within ts → All Within us
+    → tally (length us) (length (writeTypes us)) ≡ tally (length ts) (length (writeTypes ts)) → atFront (writeTypes us) buffer ≡ atFront (writeTypes ts) buffer
+    → us ≡ ts
+front-told ts us buffer v w a e =
+    let n : length us ≡ length ts = cc in
+    let b : length (writeTypes us) ≡ length (writeTypes ts) = cc in
+    let first = take-at (writeTypes us) (drop (length (writeTypes us)) buffer) (length (writeTypes ts)) b in
+    let second = take-append-seam (writeTypes ts) (drop (length (writeTypes ts)) buffer) in
+    writeTypes-same us ts w v n (sym first ∙ ap (take (length (writeTypes ts))) e ∙ second)
 
 -- The types that an accepted call leaves are those of its run.
-pub leaves-run : (s result scratch : List ℕ) (xs : List Step) (ts : List Ty) → SheetOf s xs → Leaves s result scratch ts → sheetRun s ≡ accepted ts
-leaves-run s result scratch xs ts h l = go (call-accepted s result scratch _ _ _ (l .outcome))
+pub leaves-run : (c : Check) (xs : List Step) (ts : List Ty) → MakesAccepted c xs ts → sheetRun (c .sheet) ≡ accepted ts
+leaves-run c xs ts m = go (call-accepted c a)
   where
-    go : (us : List Ty) × Accepted s result scratch (tally (length ts) (length (writeTypes ts))) (atFront (writeTypes ts) result) (zeroed scratch) us → sheetRun s ≡ accepted ts
-    go (us, a) =
-        let n : length us ≡ length ts = let x = a .answer in cc in
-        let b : length (writeTypes us) ≡ length (writeTypes ts) = let x = a .answer in cc in
-        let w : writeTypes us ≡ writeTypes ts = sym (take-at (writeTypes us) (drop (length (writeTypes us)) result) (length (writeTypes ts)) b) ∙ ap (take (length (writeTypes ts))) (a .written) ∙ take-append-seam (writeTypes ts) (drop (length (writeTypes ts)) result) in
-        a .run ∙ ap accepted (writeTypes-same us ts (left-within s xs us h (a .run) .1) (l .within) n w)
+    a : IsAccepted c
+    a = record { left = tally (length ts) (length (writeTypes ts)); result-after = atFront (writeTypes ts) (c .result); scratch-after = zeroed (c .scratch); outcome = m .leaves .outcome }
+
+    go : (us : List Ty) × AcceptedBy c a us → sheetRun (c .sheet) ≡ accepted ts
+    go (us, b) =
+        let within = left-within (c .sheet) xs us (m .bytes) (b .run) .1 in
+        b .run ∙ ap accepted (front-told ts us (c .result) (m .leaves .within) within (b .answer) (b .written))
 
 -- ---- the call, with buffers that are long enough
 
@@ -76,52 +97,23 @@ aside-refused : {A C : Type 0} (o : Outcome A) (k : ℕ) → aside o ≡ refuses
 aside-refused (accepted b) k e f = let z : _≡_ {A = ℕ} 0 1 = cc in absurd (omega arith)
 aside-refused (refused j p) k e f = let w : j ≡ k = cc in f p (rw w)
 
-module _ (s result scratch : List ℕ) (xs : List Step) (sheet : SheetOf s xs) (enough : scratchBytes ≤ length scratch) where
-  pub call-leaves : scratchBytes ≤ length result → (t : Ty) → steps xs [] ≡ gives (t ∷ []) → Leaves s result scratch (t ∷ [])
+module _ (c : Check) (enough : scratchBytes ≤ length (c .scratch)) where
+  pub run-leaves : (ts : List Ty) → sheetRun (c .sheet) ≡ accepted ts → All Within ts → length (writeTypes ts) ≤ length (c .result) → Leaves c ts
   unfolding handOver
-  call-leaves room t e =
-      let run : sheetRun s ≡ accepted (t ∷ []) = aside-accepted (sheetRun s) (t ∷ []) (sheet-steps s xs sheet ∙ ap bottomFirst e) in
-      let within = left-within s xs (t ∷ []) sheet run .1 in
-      let fits : leb (length (writeTypes (t ∷ []))) (length result) ≡ true = le-leb (length (writeTypes (t ∷ []))) (length result) (omega (arith, writeTypes-suffices (t ∷ []) within)) in
-      record { within = within; outcome = call-run s result scratch enough ∙ rw (run, fits) }
+  run-leaves ts e within room = record { within = within; outcome = call-run c enough ∙ rw (e, le-leb (length (writeTypes ts)) (length (c .result)) room) }
 
-  pub call-mismatch : steps xs [] ≡ refuses unpervaded → Mismatched s result scratch
+  pub run-mismatched : (p : ℕ) → sheetRun (c .sheet) ≡ refused unpervaded p → Mismatched c
   unfolding handOver
-  call-mismatch e =
-      aside-refused (sheetRun s) unpervaded (sheet-steps s xs sheet ∙ ap bottomFirst e) λ p run.
-      record { place = p; outcome = call-run s result scratch enough ∙ rw run }
+  run-mismatched p e = record { place = p; outcome = call-run c enough ∙ rw e }
 
--- ---- from the bottom
+  module _ (xs : List Step) (sheet : SheetOf (c .sheet) xs) where
+    pub call-leaves : resultBytes ≤ length (c .result) → (t : Ty) → steps xs [] ≡ gives (t ∷ []) → Leaves c (t ∷ [])
+    call-leaves room t e =
+        let run : sheetRun (c .sheet) ≡ accepted (t ∷ []) = aside-accepted (sheetRun (c .sheet)) (t ∷ []) (sheet-steps (c .sheet) xs sheet ∙ ap bottomFirst e) in
+        let within = left-within (c .sheet) xs (t ∷ []) sheet run .1 in
+        run-leaves (t ∷ []) run within (omega (arith, writeTypes-suffices (t ∷ []) within))
 
-abbrev Beside : List Ty → List RealShape → Type 0
-Beside [] [] = Unit {0}
-Beside [] (r ∷ rs) = ⊥
-Beside (t ∷ ts) [] = ⊥
-Beside (t ∷ ts) (r ∷ rs) = Holds t r × Beside ts rs
-
-beside-reversed : (st : Stack) (rs : List RealShape) (ts : List Ty) (qs : List RealShape) → AllHold st rs → Beside ts qs → Beside (reverseAux st ts) (reverseAux rs qs)
-beside-reversed [] [] ts qs h k = k
-beside-reversed [] (r ∷ rs) ts qs h k = absurd h
-beside-reversed (t ∷ st) [] ts qs h k = absurd h
-beside-reversed (t ∷ st) (r ∷ rs) ts qs h k = beside-reversed st rs (t ∷ ts) (r ∷ qs) (h .1) (h .0 .0, k)
-
-beside-length : (ts : List Ty) (rs : List RealShape) → Beside ts rs → length ts ≡ length rs
-beside-length [] [] h = refl
-beside-length [] (r ∷ rs) h = absurd h
-beside-length (t ∷ ts) [] h = absurd h
-beside-length (t ∷ ts) (r ∷ rs) h = ap suc (beside-length ts rs (h .1))
-
-beside-nth : (ts : List Ty) (rs : List RealShape) → Beside ts rs → (n : ℕ) (t : Ty) (r : RealShape) → getElem? ts n ≡ some t → getElem? rs n ≡ some r → Holds t r
-beside-nth [] [] h n t r e f = let z : _≡_ {A = ℕ} 0 1 = cc in absurd (omega arith)
-beside-nth [] (q ∷ rs) h n t r e f = absurd h
-beside-nth (u ∷ ts) [] h n t r e f = absurd h
-beside-nth (u ∷ ts) (q ∷ rs) h zero t r e f =
-    let w : u ≡ t = cc in
-    let v : q ≡ r = cc in
-    rw (← w, ← v) (h .0)
-beside-nth (u ∷ ts) (q ∷ rs) h (suc n) t r e f = beside-nth ts rs (h .1) n t r e f
-
-pub held-each : (st : Stack) (rs : List RealShape) → AllHold st rs → EachHolds (reverse st) (reverse rs)
-held-each st rs h =
-    let b = beside-reversed st rs [] [] h tt in
-    record { equally-many = beside-length (reverse st) (reverse rs) b; nth = beside-nth (reverse st) (reverse rs) b }
+    pub call-mismatch : steps xs [] ≡ refuses unpervaded → Mismatched c
+    call-mismatch e =
+        aside-refused (sheetRun (c .sheet)) unpervaded (sheet-steps (c .sheet) xs sheet ∙ ap bottomFirst e) λ p run.
+        run-mismatched p run

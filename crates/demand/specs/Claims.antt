@@ -10,26 +10,47 @@ use lib.ListN.{length, getElem?}
 use Rattle.model.specs.Refusals.{unpervaded}
 use Rattle.model.specs.Types.{Ty, shapeOf}
 use Rattle.model.specs.Within.{All, Within}
+use Rattle.format.specs.Reader.{Bytes}
 use Rattle.format.specs.Outcome.{accepted, refused}
-use Rattle.machine.specs.Steps.{Step, put, row, pervading, join, validating}
+use Rattle.machine.specs.Steps.{Step, put, row, pervading, join, validating, SheetOf}
 use Rattle.machine.specs.Run.{Answer, gives, refuses}
-use Rattle.machine.specs.Call.{tally, Called, called, writeTypes, zeroed, atFront, sheetCall}
+use Rattle.machine.specs.Call.{Tally, tally, Called, called, writeTypes, zeroed, atFront, sheetCall}
 use Rattle.machine.specs.WellFormed.{WellFormed, typesLeft}
 use Rattle.machine.specs.Real.{RealShape, fits, Holds, realPervade, Feeds, realStep, Through}
-use Rattle.machine.specs.Conditions.{NamesNoClosing, FillsNothing, RowsNoOpenDef, JoinsAlike, Along, PutOrPervade}
+use Rattle.machine.specs.Conditions.{NamesNoClosing, FillsNothing, RowsNoOpenDef, JoinsAlike, Along, PutOrPervade, SamePuts}
 
 -- ---- what the call answers
 
+-- One call of the sheet check: the bytes that are handed in, and the two buffers as they are lent.
+pub record Check : Type 0 where
+  pub sheet : List ℕ
+  pub result : List ℕ
+  pub scratch : List ℕ
+
+abbrev pub checkOf : List ℕ → List ℕ → List ℕ → Check
+checkOf s result scratch = record { sheet = s; result = result; scratch = scratch }
+
+-- its answer, with both buffers as they are then
+abbrev pub answerTo : Check → Called
+answerTo c = sheetCall (c .sheet) (c .result) (c .scratch)
+
+-- "an accepted sheet", whatever it leaves.
+pub record IsAccepted (c : Check) : Type 0 where
+  pub left : Tally
+  pub result-after : List ℕ
+  pub scratch-after : List ℕ
+  pub outcome : answerTo c ≡ called (accepted left) result-after scratch-after
+
 -- "an accepted sheet", and the types left, bottom first: the answer is their number and the number of their bytes, their bytes stand
 -- at the front of the result, and the scratch is zero.
-pub record Leaves (s result scratch : List ℕ) (ts : List Ty) : Type 0 where
+pub record Leaves (c : Check) (ts : List Ty) : Type 0 where
   pub within : All Within ts
-  pub outcome : sheetCall s result scratch ≡ called (accepted (tally (length ts) (length (writeTypes ts)))) (atFront (writeTypes ts) result) (zeroed scratch)
+  pub outcome : answerTo c ≡ called (accepted (tally (length ts) (length (writeTypes ts)))) (atFront (writeTypes ts) (c .result)) (zeroed (c .scratch))
 
 -- "mismatch, refusal 8, is answered", at some place.
-pub record Mismatched (s result scratch : List ℕ) : Type 0 where
+pub record Mismatched (c : Check) : Type 0 where
   pub place : ℕ
-  pub outcome : sheetCall s result scratch ≡ called (refused unpervaded place) result (zeroed scratch)
+  pub outcome : answerTo c ≡ called (refused unpervaded place) (c .result) (zeroed (c .scratch))
 
 -- The term verdict: accepted, or the number of a refusal, the place aside. Under the conditions below that number is 8, mismatch.
 abbrev pub verdictOf : Called → Answer (Unit {0})
@@ -38,7 +59,13 @@ verdictOf (called (refused k p) result scratch) = refuses k
 
 -- ---- the first half
 
--- All conditions of the first half on the steps, a list that is worked in order from an empty stack. The proof does without the third.
+-- "makes an accepted sheet": the sheet handed in is the bytes of these steps, and the call accepts it and leaves these types.
+pub record MakesAccepted (c : Check) (xs : List Step) (ts : List Ty) : Type 0 where
+  pub bytes : SheetOf (c .sheet) xs
+  pub leaves : Leaves c ts
+
+-- All conditions of the first half on the steps, a list that is worked in order from an empty stack: "names no closing sizes, fills
+-- nothing, takes no row of an open Def, and joins only closed shapes of equal count or two open ones". The proof does without the third.
 pub record FirstConditions (xs : List Step) : Type 0 where
   pub names-no-closing : All NamesNoClosing xs
   pub fills-nothing : All FillsNothing xs
@@ -53,18 +80,30 @@ pub record EachHolds (ts : List Ty) (rs : List RealShape) : Type 0 where
 
 -- ---- the second half
 
--- All conditions of the second half: "puts and unfilled pervadings", "a well-formed sheet", "leaving one type".
-pub record SecondConditions (s result scratch : List ℕ) (xs : List Step) : Type 0 where
-  pub well-formed : WellFormed s result scratch xs
+-- All conditions of the second half: "puts and unfilled pervadings", "a well-formed sheet", "leaving one type". The sheet is of bytes,
+-- as every slice of u8 is.
+pub record SecondConditions (c : Check) (xs : List Step) : Type 0 where
+  pub bytes : Bytes (c .sheet)
+  pub well-formed : WellFormed (c .sheet) (c .result) (c .scratch) xs
   pub puts-and-pervadings : All PutOrPervade xs
   pub one-left : typesLeft xs ≡ 1
 
--- "For every list of puts and unfilled pervadings that makes a well-formed sheet leaving one type": `SecondConditions`. "Mismatch,
--- refusal 8, is answered exactly when no real arrays that fit the puts get through, and otherwise the sheet is accepted": one of
--- these two, and no third.
-pub data SecondHalf (s result scratch : List ℕ) (xs : List Step) : Type 0 where
-  accepts : (t : Ty) → Leaves s result scratch (t ∷ []) → (f : Feeds xs) (left : List RealShape) → Through xs f left → SecondHalf s result scratch xs
-  mismatches : Mismatched s result scratch → ((f : Feeds xs) (left : List RealShape) → Through xs f left → ⊥) → SecondHalf s result scratch xs
+-- "no real arrays that fit the puts get through".
+abbrev pub NoneThrough : List Step → Type 0
+NoneThrough xs = (f : Feeds xs) (left : List RealShape) → Through xs f left → ⊥
+
+-- "Mismatch, refusal 8, is answered exactly when no real arrays that fit the puts get through, and otherwise the sheet is accepted":
+-- one of these two, and no third.
+pub data SecondHalf (c : Check) (xs : List Step) : Type 0 where
+  accepts : (t : Ty) → Leaves c (t ∷ []) → (f : Feeds xs) (left : List RealShape) → Through xs f left → SecondHalf c xs
+  mismatches : Mismatched c → NoneThrough xs → SecondHalf c xs
+
+-- "every other order or grouping of the same puts within eight places": another sheet with the same conditions, so within eight places,
+-- that puts the same types, each as often. Its buffers may be others too.
+pub record Regrouped (c d : Check) (xs ys : List Step) : Type 0 where
+  pub one : SecondConditions c xs
+  pub other : SecondConditions d ys
+  pub same-puts : SamePuts xs ys
 
 -- ---- the real run
 

@@ -1,5 +1,7 @@
 pub mod Claims
 pub mod Calls
+pub mod Words
+pub mod FirstCalls
 pub mod SecondCalls
 pub mod Demand
 pub mod Buffers

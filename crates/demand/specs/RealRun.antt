@@ -12,7 +12,7 @@ use lib.ListN.{length, length-reverse}
 use Rattle.model.specs.Types.{Ty, shapeOf}
 use Rattle.format.specs.Reader.{Bytes}
 use Rattle.machine.specs.SheetLimits.{maxStack}
-use Rattle.machine.specs.Steps.{Step, put, row, pervading, join, validating, opcodeOf, takes, leaves, SheetOf}
+use Rattle.machine.specs.Steps.{Step, put, row, pervading, join, validating, opcodeOf, takes, leaves}
 use Rattle.machine.specs.Run.{gives, Stack, step, steps}
 use Rattle.machine.specs.WellFormed.{WellFormed, heightAfter, typesLeft, Heights}
 use Rattle.machine.specs.Real.{RealShape, fits, realPervade, Feed, Feeds, ontoReal, realRule, realStep, goesOn, realRun}
@@ -22,7 +22,7 @@ use Rattle.machine.specs.StepsReads.{step-room}
 use Rattle.machine.specs.SheetWorked.{step-height, step-takes}
 use Rattle.machine.specs.Ruled.{real-takes, lays-one, realRuled-height}
 use Rattle.machine.specs.Sheets.{left-within}
-use Rattle.demand.specs.Claims.{Leaves, StopsBecause, RunStopsBecause}
+use Rattle.demand.specs.Claims.{Check, MakesAccepted, StopsBecause, RunStopsBecause}
 use Rattle.demand.specs.Calls.{leaves-run}
 
 -- ---- one step
@@ -105,9 +105,9 @@ unfolding steps
 steps-many [] st st₁ e = let w : st ≡ st₁ = cc in rw (← w)
 steps-many (x ∷ xs) st st₁ e = following-gives (step x st) e λ st₂ e₁ e₂. rw (step-height x st st₂ e₁) at (steps-many xs st₂ st₁ e₂)
 
-module _ (s result scratch : List ℕ) (xs : List Step) (ts : List Ty) (sheet : SheetOf s xs) (l : Leaves s result scratch ts) (f : Feeds xs) where
+module _ (c : Check) (xs : List Step) (ts : List Ty) (m : MakesAccepted c xs ts) (f : Feeds xs) where
   worked : steps xs [] ≡ gives (reverse ts)
-  worked = left-within s xs ts sheet (leaves-run s result scratch xs ts sheet l) .0
+  worked = left-within (c .sheet) xs ts (m .bytes) (leaves-run c xs ts m) .0
 
   -- "an accepted sheet never lacks a shape"
   pub accepted-stops : realRun xs f [] ≡ none → RunStopsBecause xs f []

@@ -26,8 +26,9 @@ use Rattle.machine.specs.Sheet.{opcodeFrom, argumentFrom, stepFrom, workFrom, s
 use Rattle.machine.specs.Call.{writeTypes}
 use Rattle.machine.specs.Real.{fits, realPervade, theOneBelow, Feeds, realStep, realRun, Through}
 use Rattle.machine.specs.Conditions.{RowsNoOpenDef, JoinsAlike}
-use Rattle.demand.specs.Claims.{Leaves, FirstConditions, EachHolds}
-use Rattle.demand.specs.WorkedWith.{nums, oneSize, nums-within, zeroes, long-enough, run-leaves, as-worked}
+use Rattle.demand.specs.Claims.{Check, checkOf, Leaves, MakesAccepted, FirstConditions, EachHolds}
+use Rattle.demand.specs.Calls.{run-leaves}
+use Rattle.demand.specs.WorkedWith.{nums, oneSize, nums-within, zeroes, long-enough, as-worked}
 use Rattle.demand.specs.Demand.{first-half}
 
 -- ---- the sheet
@@ -75,11 +76,16 @@ unfolding bytesOf code writeShape writeScalar writeTy writeTypes
 worked-length = refl
 
 -- With any result of at least 15 bytes, which the type left takes, and any scratch that is long enough.
-pub worked-leaves : (result scratch : List ℕ) → 15 ≤ length result → scratchBytes ≤ length scratch → Leaves workedBytes result scratch workedLeft
-worked-leaves result scratch room enough = run-leaves workedBytes result scratch enough workedLeft worked-run (nums-within (static 3 ∷ []) (omega arith, (omega arith, tt)), tt) (omega (arith, worked-length))
+pub worked-leaves : (result scratch : List ℕ) → 15 ≤ length result → scratchBytes ≤ length scratch → Leaves (checkOf workedBytes result scratch) workedLeft
+worked-leaves result scratch room enough =
+    let within3 = nums-within (static 3 ∷ []) (omega arith, (omega arith, tt)) in
+    run-leaves (checkOf workedBytes result scratch) enough workedLeft worked-run (within3, tt) (omega (arith, worked-length))
 
 -- There are such buffers.
-pub worked-buffers : Leaves workedBytes (zeroes 15) (zeroes scratchBytes) workedLeft
+abbrev pub workedCheck : Check
+workedCheck = checkOf workedBytes (zeroes 15) (zeroes scratchBytes)
+
+pub worked-buffers : Leaves workedCheck workedLeft
 worked-buffers = worked-leaves (zeroes 15) (zeroes scratchBytes) (long-enough 15) (long-enough scratchBytes)
 
 -- ---- it keeps the conditions
@@ -104,4 +110,6 @@ worked-through = record { fit = (refl, (tt, (refl, (tt, (refl, (tt, (tt, tt)))))
 
 -- The type left, [3] Num, holds the shape 3 of the real array there.
 pub worked-holds : EachHolds workedLeft ((3 ∷ []) ∷ [])
-worked-holds = first-half workedBytes (zeroes 15) (zeroes scratchBytes) workedSteps workedLeft worked-sheet worked-buffers worked-conditions workedFeeds ((3 ∷ []) ∷ []) worked-through
+worked-holds =
+    let makes : MakesAccepted workedCheck workedSteps workedLeft = record { bytes = worked-sheet; leaves = worked-buffers } in
+    first-half workedCheck workedSteps workedLeft makes worked-conditions workedFeeds ((3 ∷ []) ∷ []) worked-through

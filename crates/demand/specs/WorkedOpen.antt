@@ -23,9 +23,10 @@ use Rattle.machine.specs.Sheet.{opcodeFrom, argumentFrom, stepFrom, workFrom, s
 use Rattle.machine.specs.Call.{writeTypes}
 use Rattle.machine.specs.Real.{RealShape, fits, theTop, Feeds, realStep, realRun, Through}
 use Rattle.machine.specs.Conditions.{RowsNoOpenDef, JoinsAlike}
-use Rattle.demand.specs.Claims.{Leaves, FirstConditions, EachHolds}
+use Rattle.demand.specs.Claims.{Check, checkOf, Leaves, MakesAccepted, FirstConditions, EachHolds}
+use Rattle.demand.specs.Calls.{run-leaves}
 use Rattle.demand.specs.Demand.{first-half}
-use Rattle.demand.specs.WorkedWith.{numOf, num-within, zeroes, long-enough, run-leaves, as-worked}
+use Rattle.demand.specs.WorkedWith.{numOf, num-within, zeroes, long-enough, as-worked}
 
 -- ---- the sheet
 
@@ -65,9 +66,9 @@ openLeft = numOf (shape (unknown ∷ []) (some [])) ∷ ty (shape [] none) (boxA
 abbrev pub openFeeds : Feeds openSteps
 openFeeds = (2 ∷ 5 ∷ [], (3 ∷ [], (theTop, (2 ∷ [], (tt, tt)))))
 
--- what they leave, top first: a scalar and 3
+-- what they leave, bottom first: 3 and a scalar
 abbrev pub openReal : List RealShape
-openReal = [] ∷ (3 ∷ []) ∷ []
+openReal = (3 ∷ []) ∷ [] ∷ []
 
 -- ---- it is a sheet, and accepted
 
@@ -96,11 +97,15 @@ row-within : Within (ty (shape [] none) (boxAll (shape [] none) (plain num)))
 unfolding inside below
 row-within = record { records = (((omega arith, tt), tt), (((omega arith, tt), tt), tt)); few = omega arith; shallow = omega arith }
 
-pub open-leaves : Leaves openBytes (zeroes 32) (zeroes scratchBytes) openLeft
+abbrev pub openCheck : Check
+openCheck = checkOf openBytes (zeroes 32) (zeroes scratchBytes)
+
+pub open-leaves : Leaves openCheck openLeft
 open-leaves =
     let enough = long-enough scratchBytes in
     let room = long-enough 32 in
-    run-leaves openBytes (zeroes 32) (zeroes scratchBytes) enough openLeft open-run (num-within (shape (unknown ∷ []) (some [])) ((omega arith, (tt, tt)), (omega arith, tt)), (row-within, tt)) (omega (arith, open-length))
+    let within : Within (numOf (shape (unknown ∷ []) (some []))) = num-within (shape (unknown ∷ []) (some [])) ((omega arith, (tt, tt)), (omega arith, tt)) in
+    run-leaves openCheck enough openLeft open-run (within, (row-within, tt)) (omega (arith, open-length))
 
 -- ---- it keeps the conditions
 
@@ -121,5 +126,7 @@ unfolding fits realStep realRun
 open-through = record { fit = (refl, (refl, (tt, (refl, (tt, tt))))); run = refl }
 
 -- [?..] Num holds the shape 3, and the Def's row a scalar.
-pub open-holds : EachHolds openLeft ((3 ∷ []) ∷ [] ∷ [])
-open-holds = first-half openBytes (zeroes 32) (zeroes scratchBytes) openSteps openLeft open-sheet open-leaves open-conditions openFeeds openReal open-through
+pub open-holds : EachHolds openLeft openReal
+open-holds =
+    let makes : MakesAccepted openCheck openSteps openLeft = record { bytes = open-sheet; leaves = open-leaves } in
+    first-half openCheck openSteps openLeft makes open-conditions openFeeds openReal open-through

@@ -19,17 +19,19 @@ use Rattle.rules.specs.Sizes.{cmpDim}
 use Rattle.rules.specs.Order.{codeOf}
 use Rattle.rules.specs.Scalars.{supersetCodes, supersetOf, union}
 use Rattle.rules.specs.Pervade.{againstAbsent, together, pervadeDims, pervadeClosing, pervade}
-use Rattle.machine.specs.SheetLimits.{scratchBytes}
+use Rattle.machine.specs.SheetLimits.{scratchBytes, resultBytes}
 use Rattle.machine.specs.Steps.{Step, put, pervading, writeSteps, SheetOf}
 use Rattle.machine.specs.Run.{gives, refuses, pervadeTypes, step}
 use Rattle.machine.specs.Sheet.{opcodeFrom, argumentFrom, stepFrom, workFrom, sheetMore, sheetFrom, sheetRun}
-use Rattle.machine.specs.Call.{sheetCall, writeTypes}
+use Rattle.machine.specs.Call.{writeTypes}
 use Rattle.machine.specs.WellFormed.{typesLeft}
-use Rattle.machine.specs.Real.{RealShape, fits, realPervade, Feeds, realStep, realRun, Through}
+use Rattle.machine.specs.Real.{fits, realPervade, Feeds, realStep, realRun, Through}
 use Rattle.machine.specs.Conditions.{PutOrPervade, puts, SamePuts, countClosing}
-use Rattle.demand.specs.Claims.{Leaves, Mismatched, verdictOf, SecondConditions, SecondHalf}
-use Rattle.demand.specs.Demand.{steps-well-formed, second-half, mismatch-exactly, same-verdict, same-shape}
-use Rattle.demand.specs.WorkedWith.{numOf, nums, oneSize, anySize, lastSize, num-within, nums-within, are-bytes, areHeights, are-heights, zeroes, long-enough, run-leaves, run-mismatched}
+use Rattle.demand.specs.Claims.{Check, checkOf, answerTo, Leaves, Mismatched, verdictOf, SecondConditions, NoneThrough, SecondHalf, Regrouped}
+use Rattle.demand.specs.Calls.{run-leaves, run-mismatched}
+use Rattle.demand.specs.Words.{steps-well-formed}
+use Rattle.demand.specs.Demand.{second-half, mismatch-exactly, same-verdict, same-shape}
+use Rattle.demand.specs.WorkedWith.{numOf, nums, oneSize, anySize, lastSize, num-within, nums-within, are-bytes, areHeights, are-heights, zeroes, long-enough}
 
 -- ---- how they are written
 
@@ -92,9 +94,9 @@ turnedSteps = put4 ∷ put3 ∷ pervade0 ∷ []
 abbrev pub turnedBytes : List ℕ
 turnedBytes = putting (oneSize 4) ++ (putting (oneSize 3) ++ pervading0)
 
--- a buffer, for the result and for the scratch
-abbrev pub buffer : List ℕ
-buffer = zeroes scratchBytes
+-- a call with two buffers that are long enough
+abbrev pub checkWith : List ℕ → Check
+checkWith s = checkOf s (zeroes resultBytes) (zeroes scratchBytes)
 
 -- ---- they are bytes
 
@@ -147,26 +149,29 @@ pub turned-sheet : SheetOf turnedBytes turnedSteps
 unfolding bytesOf code writeShape writeScalar writeTy writeSteps
 turned-sheet = record { bytes = refl; within = (within4, (within3, (tt, tt))); few = omega arith }
 
-conditions : (s : List ℕ) (xs : List Step) → SheetOf s xs → areHeights xs 0 ≡ true → All PutOrPervade xs → typesLeft xs ≡ 1 → SecondConditions s buffer buffer xs
-conditions s xs sheet heights only one =
-    let long = long-enough scratchBytes in
-    record { well-formed = steps-well-formed s buffer buffer xs sheet (are-heights xs 0 heights) long long; puts-and-pervadings = only; one-left = one }
+conditions : (s : List ℕ) (xs : List Step) → Bytes s → SheetOf s xs → areHeights xs 0 ≡ true → All PutOrPervade xs → typesLeft xs ≡ 1 → SecondConditions (checkWith s) xs
+conditions s xs small sheet heights only one = record {
+  bytes = small;
+  well-formed = steps-well-formed s (zeroes resultBytes) (zeroes scratchBytes) xs sheet (are-heights xs 0 heights) (long-enough resultBytes) (long-enough scratchBytes);
+  puts-and-pervadings = only;
+  one-left = one;
+}
 
 -- Each step has what it takes, at most eight types lie on the stack, and one is left.
-pub pairs-conditions : SecondConditions pairsBytes buffer buffer pairsSteps
-pairs-conditions = conditions pairsBytes pairsSteps pairs-sheet refl (tt, (tt, (refl, (tt, (tt, (refl, (refl, tt))))))) refl
+pub pairs-conditions : SecondConditions (checkWith pairsBytes) pairsSteps
+pairs-conditions = conditions pairsBytes pairsSteps pairs-bytes pairs-sheet refl (tt, (tt, (refl, (tt, (tt, (refl, (refl, tt))))))) refl
 
-pub left-conditions : SecondConditions leftBytes buffer buffer leftSteps
-left-conditions = conditions leftBytes leftSteps left-sheet refl (tt, (tt, (refl, (tt, (refl, (tt, (refl, tt))))))) refl
+pub left-conditions : SecondConditions (checkWith leftBytes) leftSteps
+left-conditions = conditions leftBytes leftSteps left-bytes left-sheet refl (tt, (tt, (refl, (tt, (refl, (tt, (refl, tt))))))) refl
 
-pub right-conditions : SecondConditions rightBytes buffer buffer rightSteps
-right-conditions = conditions rightBytes rightSteps right-sheet refl (tt, (tt, (tt, (tt, (refl, (refl, (refl, tt))))))) refl
+pub right-conditions : SecondConditions (checkWith rightBytes) rightSteps
+right-conditions = conditions rightBytes rightSteps right-bytes right-sheet refl (tt, (tt, (tt, (tt, (refl, (refl, (refl, tt))))))) refl
 
-pub unlike-conditions : SecondConditions unlikeBytes buffer buffer unlikeSteps
-unlike-conditions = conditions unlikeBytes unlikeSteps unlike-sheet refl (tt, (tt, (refl, tt))) refl
+pub unlike-conditions : SecondConditions (checkWith unlikeBytes) unlikeSteps
+unlike-conditions = conditions unlikeBytes unlikeSteps unlike-bytes unlike-sheet refl (tt, (tt, (refl, tt))) refl
 
-pub turned-conditions : SecondConditions turnedBytes buffer buffer turnedSteps
-turned-conditions = conditions turnedBytes turnedSteps turned-sheet refl (tt, (tt, (refl, tt))) refl
+pub turned-conditions : SecondConditions (checkWith turnedBytes) turnedSteps
+turned-conditions = conditions turnedBytes turnedSteps turned-bytes turned-sheet refl (tt, (tt, (refl, tt))) refl
 
 -- ---- what the rules make of them
 
@@ -187,10 +192,10 @@ one-length : length (writeTypes (oneLeft ∷ [])) ≡ 15
 unfolding bytesOf code writeShape writeScalar writeTy writeTypes
 one-length = refl
 
-pub pairs-leaves : Leaves pairsBytes buffer buffer (oneLeft ∷ [])
+pub pairs-leaves : Leaves (checkWith pairsBytes) (oneLeft ∷ [])
 pairs-leaves =
-    let long = long-enough scratchBytes in
-    run-leaves pairsBytes buffer buffer long (oneLeft ∷ []) pairs-run (num-within (shape (static 3 ∷ []) (some [])) ((omega arith, (omega arith, tt)), (omega arith, tt)), tt) (omega (arith, one-length))
+    let within : Within oneLeft = num-within (shape (static 3 ∷ []) (some [])) ((omega arith, (omega arith, tt)), (omega arith, tt)) in
+    run-leaves (checkWith pairsBytes) (long-enough scratchBytes) (oneLeft ∷ []) pairs-run (within, tt) (omega (arith, one-length, long-enough resultBytes))
 
 -- [3] and [4] are refused at the pervading.
 unlike-run : sheetRun unlikeBytes ≡ refused unpervaded 34
@@ -198,8 +203,8 @@ unfolding byte judged number code kindOf readMark readDim readDims shapeFrom sca
     pervadeDims pervadeClosing pervade pervadeTypes step opcodeFrom argumentFrom stepFrom workFrom sheetMore sheetFrom sheetRun
 unlike-run = refl
 
-pub unlike-mismatched : Mismatched unlikeBytes buffer buffer
-unlike-mismatched = run-mismatched unlikeBytes buffer buffer (long-enough scratchBytes) 34 unlike-run
+pub unlike-mismatched : Mismatched (checkWith unlikeBytes)
+unlike-mismatched = run-mismatched (checkWith unlikeBytes) (long-enough scratchBytes) 34 unlike-run
 
 -- ---- "mismatch exactly when no real arrays that fit the puts get through"
 
@@ -211,16 +216,16 @@ pub pairs-through : Through pairsSteps pairsFeeds ((3 ∷ 2 ∷ 4 ∷ []) ∷ []
 unfolding fits realPervade realStep realRun
 pairs-through = record { fit = (refl, (refl, (tt, (refl, (refl, (tt, (tt, tt))))))); run = refl }
 
-pub pairs-second-half : SecondHalf pairsBytes buffer buffer pairsSteps
-pairs-second-half = second-half pairsBytes buffer buffer pairs-bytes pairsSteps pairs-conditions
+pub pairs-second-half : SecondHalf (checkWith pairsBytes) pairsSteps
+pairs-second-half = second-half (checkWith pairsBytes) pairsSteps pairs-conditions
 
 -- So mismatch is not answered there.
-pub pairs-matched : Mismatched pairsBytes buffer buffer → ⊥
-pairs-matched m = mismatch-exactly pairsBytes buffer buffer pairs-bytes pairsSteps pairs-conditions .0 m pairsFeeds ((3 ∷ 2 ∷ 4 ∷ []) ∷ []) pairs-through
+pub pairs-matched : Mismatched (checkWith pairsBytes) → ⊥
+pairs-matched m = mismatch-exactly (checkWith pairsBytes) pairsSteps pairs-conditions .0 m pairsFeeds ((3 ∷ 2 ∷ 4 ∷ []) ∷ []) pairs-through
 
 -- And no real arrays that fit [3] and [4] get through.
-pub unlike-none : (f : Feeds unlikeSteps) (left : List RealShape) → Through unlikeSteps f left → ⊥
-unlike-none = mismatch-exactly unlikeBytes buffer buffer unlike-bytes unlikeSteps unlike-conditions .0 unlike-mismatched
+pub unlike-none : NoneThrough unlikeSteps
+unlike-none = mismatch-exactly (checkWith unlikeBytes) unlikeSteps unlike-conditions .0 unlike-mismatched
 
 -- ---- "every other order or grouping gets the same verdict and, if accepted, the same shape"
 
@@ -233,37 +238,46 @@ pairs-right t = omega arith
 pub unlike-turned : SamePuts unlikeSteps turnedSteps
 unlike-turned t = omega arith
 
+abbrev pairs-regrouped-left : Regrouped (checkWith pairsBytes) (checkWith leftBytes) pairsSteps leftSteps
+pairs-regrouped-left = record { one = pairs-conditions; other = left-conditions; same-puts = pairs-left }
+
+abbrev pairs-regrouped-right : Regrouped (checkWith pairsBytes) (checkWith rightBytes) pairsSteps rightSteps
+pairs-regrouped-right = record { one = pairs-conditions; other = right-conditions; same-puts = pairs-right }
+
+abbrev unlike-regrouped : Regrouped (checkWith unlikeBytes) (checkWith turnedBytes) unlikeSteps turnedSteps
+unlike-regrouped = record { one = unlike-conditions; other = turned-conditions; same-puts = unlike-turned }
+
 -- Two of the four name closing sizes.
 pub pairs-closing : countClosing (puts pairsSteps) ≡ 2
 pairs-closing = refl
 
 -- The verdict of all three is accepted.
 pub accepted-verdicts :
-    (verdictOf (sheetCall pairsBytes buffer buffer) ≡ gives tt)
-    × (verdictOf (sheetCall leftBytes buffer buffer) ≡ gives tt)
-    × (verdictOf (sheetCall rightBytes buffer buffer) ≡ gives tt)
+    (verdictOf (answerTo (checkWith pairsBytes)) ≡ gives tt)
+    × (verdictOf (answerTo (checkWith leftBytes)) ≡ gives tt)
+    × (verdictOf (answerTo (checkWith rightBytes)) ≡ gives tt)
 accepted-verdicts =
-    let first : verdictOf (sheetCall pairsBytes buffer buffer) ≡ gives tt = ap verdictOf (pairs-leaves .outcome) in
-    let left = same-verdict pairsBytes buffer buffer leftBytes buffer buffer pairs-bytes left-bytes pairsSteps leftSteps pairs-conditions left-conditions pairs-left in
-    let right = same-verdict pairsBytes buffer buffer rightBytes buffer buffer pairs-bytes right-bytes pairsSteps rightSteps pairs-conditions right-conditions pairs-right in
+    let first : verdictOf (answerTo (checkWith pairsBytes)) ≡ gives tt = ap verdictOf (pairs-leaves .outcome) in
+    let left = same-verdict (checkWith pairsBytes) (checkWith leftBytes) pairsSteps leftSteps pairs-regrouped-left in
+    let right = same-verdict (checkWith pairsBytes) (checkWith rightBytes) pairsSteps rightSteps pairs-regrouped-right in
     (first, sym left ∙ first, sym right ∙ first)
 
 -- The type that each of the others leaves has the shape [3..].
-pub left-shape : (u : Ty) × Leaves leftBytes buffer buffer (u ∷ []) × (shapeRecord oneLeft ≡ shapeRecord u)
-left-shape = same-shape pairsBytes buffer buffer leftBytes buffer buffer pairs-bytes left-bytes pairsSteps leftSteps pairs-conditions left-conditions pairs-left oneLeft pairs-leaves (omega (arith, pairs-closing))
+pub left-shape : (u : Ty) × Leaves (checkWith leftBytes) (u ∷ []) × (shapeRecord oneLeft ≡ shapeRecord u)
+left-shape = same-shape (checkWith pairsBytes) (checkWith leftBytes) pairsSteps leftSteps pairs-regrouped-left oneLeft pairs-leaves (omega (arith, pairs-closing))
 
-pub right-shape : (u : Ty) × Leaves rightBytes buffer buffer (u ∷ []) × (shapeRecord oneLeft ≡ shapeRecord u)
-right-shape = same-shape pairsBytes buffer buffer rightBytes buffer buffer pairs-bytes right-bytes pairsSteps rightSteps pairs-conditions right-conditions pairs-right oneLeft pairs-leaves (omega (arith, pairs-closing))
+pub right-shape : (u : Ty) × Leaves (checkWith rightBytes) (u ∷ []) × (shapeRecord oneLeft ≡ shapeRecord u)
+right-shape = same-shape (checkWith pairsBytes) (checkWith rightBytes) pairsSteps rightSteps pairs-regrouped-right oneLeft pairs-leaves (omega (arith, pairs-closing))
 
 -- The verdict of [3] and [4], in both orders, is mismatch.
-pub mismatch-verdicts : (verdictOf (sheetCall unlikeBytes buffer buffer) ≡ refuses unpervaded) × (verdictOf (sheetCall turnedBytes buffer buffer) ≡ refuses unpervaded)
+pub mismatch-verdicts : (verdictOf (answerTo (checkWith unlikeBytes)) ≡ refuses unpervaded) × (verdictOf (answerTo (checkWith turnedBytes)) ≡ refuses unpervaded)
 mismatch-verdicts =
-    let first : verdictOf (sheetCall unlikeBytes buffer buffer) ≡ refuses unpervaded = ap verdictOf (unlike-mismatched .outcome) in
-    let turned = same-verdict unlikeBytes buffer buffer turnedBytes buffer buffer unlike-bytes turned-bytes unlikeSteps turnedSteps unlike-conditions turned-conditions unlike-turned in
+    let first : verdictOf (answerTo (checkWith unlikeBytes)) ≡ refuses unpervaded = ap verdictOf (unlike-mismatched .outcome) in
+    let turned = same-verdict (checkWith unlikeBytes) (checkWith turnedBytes) unlikeSteps turnedSteps unlike-regrouped in
     (first, sym turned ∙ first)
 
 -- The two verdicts are two.
-pub verdicts-differ : verdictOf (sheetCall pairsBytes buffer buffer) ≡ verdictOf (sheetCall unlikeBytes buffer buffer) → ⊥
+pub verdicts-differ : verdictOf (answerTo (checkWith pairsBytes)) ≡ verdictOf (answerTo (checkWith unlikeBytes)) → ⊥
 verdicts-differ e =
     let a = accepted-verdicts .0 in
     let b = mismatch-verdicts .0 in

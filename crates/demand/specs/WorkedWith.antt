@@ -5,25 +5,19 @@ use native.Mathlib.Omega.{arith}
 use mathlib.Core.Bool.{Bool, true, _&&_}
 use mathlib.Core.List.{List, [], _∷_}
 use mathlib.Core.Option.{none}
-use mathlib.Core.Path.{_≡_, _∙_}
+use mathlib.Core.Path.{_≡_}
 use lib.ListN.{length, replicate, length-replicate}
 use lib.Dec.{leb, ltb}
-use borrow.Author.Tests.{leb-true, ltb-true, le-leb}
-use Rattle.model.specs.Refusals.{unpervaded}
+use borrow.Author.Tests.{leb-true, ltb-true}
 use Rattle.model.specs.Types.{Dim, Shape, shape, num, plain, Ty, ty, inside, below}
-use Rattle.model.specs.Within.{All, DimsWithin, ShapeWithin, Within}
+use Rattle.model.specs.Within.{DimsWithin, ShapeWithin, Within}
 use Rattle.format.specs.Reader.{Bytes}
-use Rattle.format.specs.Outcome.{accepted, refused}
 use Rattle.validation.specs.OutcomeLaws.{both-true}
-use Rattle.machine.specs.SheetLimits.{maxStack, scratchBytes}
+use Rattle.machine.specs.SheetLimits.{maxStack}
 use Rattle.machine.specs.Steps.{Step, opcodeOf, takes, leaves}
 use Rattle.machine.specs.Run.{Answer, gives, refuses, Stack, step}
-use Rattle.machine.specs.Sheet.{sheetRun}
-use Rattle.machine.specs.Call.{writeTypes, handOver}
 use Rattle.machine.specs.WellFormed.{Heights}
 use Rattle.machine.specs.Conditions.{Along}
-use Rattle.demand.specs.Claims.{Leaves, Mismatched}
-use Rattle.demand.specs.Calls.{call-run}
 
 -- ---- types and their bytes
 
@@ -73,7 +67,7 @@ are-heights (x ∷ xs) h e =
     let (c, d) = both-true (leb (leaves (opcodeOf x) h) maxStack) _ b in
     (leb-true (takes (opcodeOf x)) h a, leb-true (leaves (opcodeOf x) h) maxStack c, are-heights xs (leaves (opcodeOf x) h) d)
 
--- ---- buffers, and what the call then answers
+-- ---- buffers
 
 -- a buffer of zeroes
 unfoldable pub zeroes : ℕ → List ℕ
@@ -82,15 +76,6 @@ zeroes n = replicate n 0
 pub long-enough : (n : ℕ) → n ≤ length (zeroes n)
 unfolding zeroes
 long-enough n = let l : length (replicate {A = ℕ} n 0) ≡ n = length-replicate n 0 in omega arith
-
-module _ (s result scratch : List ℕ) (enough : scratchBytes ≤ length scratch) where
-  pub run-leaves : (ts : List Ty) → sheetRun s ≡ accepted ts → All Within ts → length (writeTypes ts) ≤ length result → Leaves s result scratch ts
-  unfolding handOver
-  run-leaves ts e within room = record { within = within; outcome = call-run s result scratch enough ∙ rw (e, le-leb (length (writeTypes ts)) (length result) room) }
-
-  pub run-mismatched : (p : ℕ) → sheetRun s ≡ refused unpervaded p → Mismatched s result scratch
-  unfolding handOver
-  run-mismatched p e = record { place = p; outcome = call-run s result scratch enough ∙ rw e }
 
 -- ---- along the stacks
 

@@ -2,7 +2,7 @@
 -- for each join; nothing that the checker worked out enters it.
 use Prim.Native.Nat.{ℕ, _+_, _-_}
 use mathlib.Core.Bool.{Bool, true, false, _&&_, cond}
-use mathlib.Core.List.{List, [], _∷_}
+use mathlib.Core.List.{List, [], _∷_, reverse}
 use mathlib.Core.Option.{Option, none, some}
 use mathlib.Core.Path.{_≡_}
 use lib.ListN.{length, take, drop}
@@ -137,7 +137,7 @@ FitsPuts [] u = Unit {0}
 FitsPuts (x ∷ xs) f = FitsPut x (f .0) × FitsPuts xs (f .1)
 
 -- The terms fit and get through: the shapes fed fit the puts, and the run on them, from the empty stack, never stops. It leaves
--- `left`, top first.
+-- `left`, told bottom first; on the stack the top is the first.
 pub record Through (xs : List Step) (f : Feeds xs) (left : List RealShape) : Type 0 where
   pub fit : FitsPuts xs f
-  pub run : realRun xs f [] ≡ some left
+  pub run : realRun xs f [] ≡ some (reverse left)

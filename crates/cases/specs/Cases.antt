@@ -137,5 +137,44 @@ unfolding cases
 cases-thirteen = refl
 
 pub cases-hold : All AllGiven cases
-unfolding cases inside below cmpDim larger compatible rowShape isAny rank mergeDims mergeClosing mergeFrom joinDim joinDims joinLonger joinEnds joinClosing joinShapes code codeOf supersetCodes supersetOf union whollyAny againstAbsent together pervadeDims pervadeClosing pervade numsScalar lt sizesFrom valueSpec valueAsDim valueAsDims agree equalDim equalDims mismatch shapeMismatch sidedShape checkShape keepsLimits checkScalar validate
-cases-hold = (((refl, refl), ((refl, refl), ((refl, refl), tt))), ((refl, tt), ((refl, tt), ((refl, (refl, (refl, tt))), ((λ s k. refl, (λ s k. refl, tt)), ((refl, (refl, (refl, tt))), ((refl, (refl, (refl, (refl, tt)))), ((λ f g. refl, tt), ((λ f g. refl, tt), ((refl, (refl, (refl, (refl, tt)))), ((λ f g. refl, tt), ((refl, (refl, tt)), ((refl, (refl, tt)), tt)))))))))))))
+unfolding cases inside below cmpDim larger compatible rowShape isAny rank mergeDims mergeClosing mergeFrom joinDim joinDims joinLonger joinEnds
+    joinClosing joinShapes code codeOf supersetCodes supersetOf union whollyAny againstAbsent together pervadeDims pervadeClosing pervade numsScalar
+    lt sizesFrom valueSpec valueAsDim valueAsDims agree equalDim equalDims mismatch shapeMismatch sidedShape checkShape keepsLimits checkScalar
+    validate
+cases-hold = (
+  ((refl, refl), ((refl, refl), ((refl, refl), tt))),
+  (
+    (refl, tt),
+    (
+      (refl, tt),
+      (
+        (refl, (refl, (refl, tt))),
+        (
+          (λ s k. refl, (λ s k. refl, tt)),
+          (
+            (refl, (refl, (refl, tt))),
+            (
+              (refl, (refl, (refl, (refl, tt)))),
+              (
+                (λ f g. refl, tt),
+                (
+                  (λ f g. refl, tt),
+                  (
+                    (refl, (refl, (refl, (refl, tt)))),
+                    (
+                      (λ f g. refl, tt),
+                      (
+                        (refl, (refl, tt)),
+                        ((refl, (refl, tt)), tt),
+                      ),
+                    ),
+                  ),
+                ),
+              ),
+            ),
+          ),
+        ),
+      ),
+    ),
+  ),
+)

@@ -62,24 +62,24 @@ either true e f g = f refl e
 either false e f g = g refl e
 
 -- an answer that is no acceptance; and one whose bytes are w, if it is one, and which is no refusal
-abbrev Kept : Outcome Tally → Type 0
-Kept o = (n b : ℕ) → o ≡ accepted (tally n b) → ⊥
+abbrev NotAccepted : Outcome Tally → Type 0
+NotAccepted o = (n b : ℕ) → o ≡ accepted (tally n b) → ⊥
 
-record Wrote (o : Outcome Tally) (w : List ℕ) : Type 0 where
+record AcceptedOf (o : Outcome Tally) (w : List ℕ) : Type 0 where
   counts : (n b : ℕ) → o ≡ accepted (tally n b) → length w ≡ b
   accepts : (k p : ℕ) → o ≡ refused k p → ⊥
 
 -- By continuation: the result is as lent, or bytes stand at its front, which has room for them. The other buffer is handed through.
 handed : {C : Type 0} (size : ℕ) (r : Outcome (List Ty)) (result scratch : List ℕ) {o : Outcome Tally} {out after : List ℕ} → handOver size r result scratch ≡ called o out after
-    → (result ≡ out → scratch ≡ after → Kept o → C)
-    → ((w : List ℕ) → length w ≤ length result → atFront w result ≡ out → scratch ≡ after → Wrote o w → C)
+    → (result ≡ out → scratch ≡ after → NotAccepted o → C)
+    → ((w : List ℕ) → length w ≤ length result → atFront w result ≡ out → scratch ≡ after → AcceptedOf o w → C)
     → C
 unfolding handOver
-handed size (refused k p) result scratch e kept laid = kept (cc) (cc) (λ n b f. let z : _≡_ {A = ℕ} 0 1 = cc in absurd (omega arith))
-handed size (accepted ts) result scratch e kept laid =
+handed size (refused k p) result scratch e stays fills = stays (cc) (cc) (λ n b f. let z : _≡_ {A = ℕ} 0 1 = cc in absurd (omega arith))
+handed size (accepted ts) result scratch e stays fills =
     either (leb (length (writeTypes ts)) (length result)) e
-    (λ t f. laid (writeTypes ts) (leb-true (length (writeTypes ts)) (length result) t) (cc) (cc) record { counts = λ n b g. cc; accepts = λ k p g. let z : _≡_ {A = ℕ} 0 1 = cc in absurd (omega arith) })
-    (λ t f. kept (cc) (cc) (λ n b g. let z : _≡_ {A = ℕ} 0 1 = cc in absurd (omega arith)))
+    (λ t f. fills (writeTypes ts) (leb-true (length (writeTypes ts)) (length result) t) (cc) (cc) record { counts = λ n b g. cc; accepts = λ k p g. let z : _≡_ {A = ℕ} 0 1 = cc in absurd (omega arith) })
+    (λ t f. stays (cc) (cc) (λ n b g. let z : _≡_ {A = ℕ} 0 1 = cc in absurd (omega arith)))
 
 module _ (s result scratch : List ℕ) {o : Outcome Tally} {out after : List ℕ} (e : sheetCall s result scratch ≡ called o out after) where
   -- The scratch is short and stays, or is zeroed.
@@ -91,12 +91,12 @@ module _ (s result scratch : List ℕ) {o : Outcome Tally} {out after : List ℕ
       (λ t f. handed (length s) (sheetRun s) result (zeroed scratch) f (λ r z u. long (ltb-false (length scratch) scratchBytes t) z) (λ w room l z u. long (ltb-false (length scratch) scratchBytes t) z))
 
   -- The result stays, or bytes stand at its front.
-  resulted : {C : Type 0} → (result ≡ out → Kept o → C) → ((w : List ℕ) → length w ≤ length result → atFront w result ≡ out → Wrote o w → C) → C
+  resulted : {C : Type 0} → (result ≡ out → NotAccepted o → C) → ((w : List ℕ) → length w ≤ length result → atFront w result ≡ out → AcceptedOf o w → C) → C
   unfolding sheetCall
-  resulted kept laid =
+  resulted stays fills =
       either (ltb (length scratch) scratchBytes) e
-      (λ t f. kept (cc) (λ n b g. let z : _≡_ {A = ℕ} 0 1 = cc in absurd (omega arith)))
-      (λ t f. handed (length s) (sheetRun s) result (zeroed scratch) f (λ r z u. kept r u) (λ w room l z u. laid w room l u))
+      (λ t f. stays (cc) (λ n b g. let z : _≡_ {A = ℕ} 0 1 = cc in absurd (omega arith)))
+      (λ t f. handed (length s) (sheetRun s) result (zeroed scratch) f (λ r z u. stays r u) (λ w room l z u. fills w room l u))
 
   -- Of each byte of a scratch that is long enough: zero below 39,936, as lent from there on.
   pub scratch-zero : scratchBytes ≤ length scratch → (i z : ℕ) → i < scratchBytes → getD after i z ≡ 0
@@ -114,11 +114,11 @@ module _ (s result scratch : List ℕ) {o : Outcome Tally} {out after : List ℕ
 
   -- Of the result, after a refusal: all of it as lent.
   pub result-refused : {k p : ℕ} → o ≡ refused k p → out ≡ result
-  result-refused {k} {p} r = resulted (λ same u. sym same) (λ w room laid u. absurd (u .accepts k p r))
+  result-refused {k} {p} r = resulted (λ same u. sym same) (λ w room fills u. absurd (u .accepts k p r))
 
   -- Of each byte past the b that were written: as lent.
   pub result-past : {n b : ℕ} → o ≡ accepted (tally n b) → (i z : ℕ) → b ≤ i → getD out i z ≡ getD result i z
-  result-past {n} {b} r i z h = resulted (λ same u. absurd (u n b r)) (λ w room laid u. rw (← laid) (front-stays w result i z (omega (arith, u .counts n b r))))
+  result-past {n} {b} r i z h = resulted (λ same u. absurd (u n b r)) (λ w room fills u. rw (← fills) (front-stays w result i z (omega (arith, u .counts n b r))))
 
   pub result-length : length out ≡ length result
-  result-length = resulted (λ same u. rw (← same)) (λ w room laid u. rw (← laid) (front-length w result room))
+  result-length = resulted (λ same u. rw (← same)) (λ w room fills u. rw (← fills) (front-length w result room))

@@ -31,23 +31,23 @@ call-run c h = rw (le-ltb (length (c .scratch)) scratchBytes h)
 -- What an accepted call says.
 pub record AcceptedBy (c : Check) (a : IsAccepted c) (ts : List Ty) : Type 0 where
   pub run : sheetRun (c .sheet) ≡ accepted ts
-  pub answer : tally (length ts) (length (writeTypes ts)) ≡ a .left
-  pub written : atFront (writeTypes ts) (c .result) ≡ a .result-after
+  pub tallied : tally (length ts) (length (writeTypes ts)) ≡ a .left
+  pub in-front : atFront (writeTypes ts) (c .result) ≡ a .result-after
   pub zero-after : zeroed (c .scratch) ≡ a .scratch-after
 
 -- what is handed over with the types ts left, the scratch as given
-abbrev handed : List Ty → List ℕ → List ℕ → Called
-handed ts result scratch = called (accepted (tally (length ts) (length (writeTypes ts)))) (atFront (writeTypes ts) result) scratch
+abbrev handedOver : List Ty → List ℕ → List ℕ → Called
+handedOver ts result scratch = called (accepted (tally (length ts) (length (writeTypes ts)))) (atFront (writeTypes ts) result) scratch
 
 handed-accepted : {C : Type 0} (size : ℕ) (o : Outcome (List Ty)) (result scratch : List ℕ) {n : Tally} {out after : List ℕ}
     → handOver size o result scratch ≡ called (accepted n) out after
-    → ((ts : List Ty) → o ≡ accepted ts → handed ts result scratch ≡ called (accepted n) out after → C)
+    → ((ts : List Ty) → o ≡ accepted ts → handedOver ts result scratch ≡ called (accepted n) out after → C)
     → C
 unfolding handOver
 handed-accepted size (refused k p) result scratch e f = let z : _≡_ {A = ℕ} 0 1 = cc in absurd (omega arith)
 handed-accepted {C} size (accepted ts) result scratch {n} {out} {after} e f = go (leb (length (writeTypes ts)) (length result)) e
   where
-    go : (b : Bool) → cond b (handed ts result scratch) (called (refused tooShort size) result scratch) ≡ called (accepted n) out after → C
+    go : (b : Bool) → cond b (handedOver ts result scratch) (called (refused tooShort size) result scratch) ≡ called (accepted n) out after → C
     go true e = f ts refl e
     go false e = let z : _≡_ {A = ℕ} 0 1 = cc in absurd (omega arith)
 
@@ -62,7 +62,7 @@ call-accepted c a = go (ltb (length (c .scratch)) scratchBytes) (a .outcome)
     go true e = let z : _≡_ {A = ℕ} 0 1 = cc in absurd (omega arith)
     go false e =
         handed-accepted (length (c .sheet)) (sheetRun (c .sheet)) (c .result) (zeroed (c .scratch)) e λ ts r h.
-        (ts, record { run = r; answer = cc; written = cc; zero-after = cc })
+        (ts, record { run = r; tallied = cc; in-front = cc; zero-after = cc })
 
 -- Types that stand at the front of a buffer are told by their number and the number of their bytes.
 front-told : (ts us : List Ty) (buffer : List ℕ) → All Within ts → All Within us
@@ -85,7 +85,7 @@ leaves-run c xs ts m = go (call-accepted c a)
     go : (us : List Ty) × AcceptedBy c a us → sheetRun (c .sheet) ≡ accepted ts
     go (us, b) =
         let within = left-within (c .sheet) xs us (m .bytes) (b .run) .1 in
-        b .run ∙ ap accepted (front-told ts us (c .result) (m .leaves .within) within (b .answer) (b .written))
+        b .run ∙ ap accepted (front-told ts us (c .result) (m .leaves .within) within (b .tallied) (b .in-front))
 
 -- ---- the call, with buffers that are long enough
 

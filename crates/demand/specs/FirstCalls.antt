@@ -16,25 +16,25 @@ use Rattle.demand.specs.Calls.{leaves-run}
 
 -- ---- from the bottom
 
-abbrev Beside : List Ty → List RealShape → Type 0
-Beside [] [] = Unit {0}
-Beside [] (r ∷ rs) = ⊥
-Beside (t ∷ ts) [] = ⊥
-Beside (t ∷ ts) (r ∷ rs) = Holds t r × Beside ts rs
+abbrev EachBeside : List Ty → List RealShape → Type 0
+EachBeside [] [] = Unit {0}
+EachBeside [] (r ∷ rs) = ⊥
+EachBeside (t ∷ ts) [] = ⊥
+EachBeside (t ∷ ts) (r ∷ rs) = Holds t r × EachBeside ts rs
 
-beside-reversed : (st : Stack) (rs : List RealShape) (ts : List Ty) (qs : List RealShape) → AllHold st rs → Beside ts qs → Beside (reverseAux st ts) (reverseAux rs qs)
+beside-reversed : (st : Stack) (rs : List RealShape) (ts : List Ty) (qs : List RealShape) → AllHold st rs → EachBeside ts qs → EachBeside (reverseAux st ts) (reverseAux rs qs)
 beside-reversed [] [] ts qs h k = k
 beside-reversed [] (r ∷ rs) ts qs h k = absurd h
 beside-reversed (t ∷ st) [] ts qs h k = absurd h
 beside-reversed (t ∷ st) (r ∷ rs) ts qs h k = beside-reversed st rs (t ∷ ts) (r ∷ qs) (h .1) (h .0 .0, k)
 
-beside-length : (ts : List Ty) (rs : List RealShape) → Beside ts rs → length ts ≡ length rs
+beside-length : (ts : List Ty) (rs : List RealShape) → EachBeside ts rs → length ts ≡ length rs
 beside-length [] [] h = refl
 beside-length [] (r ∷ rs) h = absurd h
 beside-length (t ∷ ts) [] h = absurd h
 beside-length (t ∷ ts) (r ∷ rs) h = ap suc (beside-length ts rs (h .1))
 
-beside-nth : (ts : List Ty) (rs : List RealShape) → Beside ts rs → (n : ℕ) (t : Ty) (r : RealShape) → getElem? ts n ≡ some t → getElem? rs n ≡ some r → Holds t r
+beside-nth : (ts : List Ty) (rs : List RealShape) → EachBeside ts rs → (n : ℕ) (t : Ty) (r : RealShape) → getElem? ts n ≡ some t → getElem? rs n ≡ some r → Holds t r
 beside-nth [] [] h n t r e f = let z : _≡_ {A = ℕ} 0 1 = cc in absurd (omega arith)
 beside-nth [] (q ∷ rs) h n t r e f = absurd h
 beside-nth (u ∷ ts) [] h n t r e f = absurd h

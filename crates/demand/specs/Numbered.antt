@@ -16,7 +16,8 @@ use Rattle.model.specs.Refusals.{ended, unmarked, outOfRange, oversized, tooMan
 use Rattle.model.specs.Types.{Shape, Scalar, Ty, ty, types}
 use Rattle.model.specs.Within.{All}
 use Rattle.format.specs.Reader.{Read, got, stopped, Reader, andThen, _>>=_, give, stop, need, here, byte, judged, number}
-use Rattle.format.specs.Records.{Mark, mark, shapeMark, scalarMark, boxMark, boxCode, kindOf, isCount, isOptional, listCount, isPrinting, form, orStop, readMark, readDim, readDims, shapeFrom, readName, readFields, defFrom, boxFrom, scalarFrom, readTy, readType}
+use Rattle.format.specs.Records.{Mark, mark, shapeMark, scalarMark, boxMark, boxCode, kindOf, isCount, isOptional, listCount, isPrinting, form, orStop, readMark, readDim, readDims}
+use Rattle.format.specs.Records.{shapeFrom, readName, readFields, defFrom, boxFrom, scalarFrom, readTy, readType}
 use Rattle.format.specs.Outcome.{Outcome, accepted, refused, mapped, alone, lone}
 use Rattle.rules.specs.Pervade.{pervade}
 use Rattle.rules.specs.Scalars.{union}
@@ -25,7 +26,8 @@ use Rattle.validation.specs.Validate.{validate}
 use Rattle.validation.specs.Claims.{ofValidation, Listed}
 use Rattle.validation.specs.RefusalsLaws.{validate-listed}
 use Rattle.machine.specs.SheetLimits.{maxSteps, maxStack, scratchBytes, resultBytes}
-use Rattle.machine.specs.Steps.{Step, put, row, pervading, join, validating, Opcode, aPut, aRow, aPervading, aJoin, aValidating, opcodeOf, opcodes, takes, leaves, maxFlag, Rule, ofNone, ofOne, ofTwo}
+use Rattle.machine.specs.Steps.{Step, put, row, pervading, join, validating, Opcode, aPut, aRow, aPervading, aJoin, aValidating, opcodeOf, opcodes, takes, heightPast, maxFlag}
+use Rattle.machine.specs.Steps.{Rule, ofNone, ofOne, ofTwo}
 use Rattle.machine.specs.Run.{Answer, gives, refuses, following, orRefuses, aside, Stack, State, fresh, afterStep, onto, pervadeTypes, ruleOf, ruled, step, work}
 use Rattle.machine.specs.Sheet.{opcodeIn, placed, opcodeFrom, argumentFrom, stepFrom, workFrom, toEnd, sheetMore, skimMore, sheetFrom, skimFrom, outcomeOf, sheetRun, skim}
 use Rattle.machine.specs.WellFormed.{WellFormed}
@@ -229,7 +231,7 @@ module _ (s : List ℕ) where
   stops-step h p =
       stops-bind _ (stops-more ofReading records-reading (stops-opcode p)) λ c.
       stops-bind _ (stops-need (leb (takes c) h) underflow p refl) λ _.
-      stops-bind _ (stops-need (leb (leaves c h) maxStack) overflow p refl) λ _.
+      stops-bind _ (stops-need (leb (heightPast c h) maxStack) overflow p refl) λ _.
       stops-more ofReading records-reading (stops-argument c p)
 
   stops-skim : (n : ℕ) (st : State ℕ) → Stops ofReading (skimMore s n st)
@@ -238,7 +240,7 @@ module _ (s : List ℕ) where
   stops-skim (suc n) st =
       stops-toEnd []
       (stops-bind _ (stops-here (stepFrom s (st .stack)) (stops-step (st .stack))) λ x.
-      stops-bind _ (stops-skim n (afterStep st (leaves (opcodeOf x) (st .stack)))) λ xs.
+      stops-bind _ (stops-skim n (afterStep st (heightPast (opcodeOf x) (st .stack)))) λ xs.
       stops-give)
 
 outcome-number : {A : Type 0} (ns : List ℕ) (r : Read A) → ((k p : ℕ) → r ≡ stopped k p → Among ns k) → RefusedWith ns (outcomeOf r)
@@ -252,7 +254,8 @@ skim-numbered s = outcome-number ofReading (skimMore s maxSteps (fresh 0) 0) (st
 
 -- "Meets none of 1 to 5, 11 and 12, and both buffers hold the bytes that are asked for": with such buffers a sheet of any bytes is well-formed, or
 -- its reading meets one of these.
-pub well-formed-or-refused : (s result scratch : List ℕ) → resultBytes ≤ length result → scratchBytes ≤ length scratch → ((xs : List Step) × WellFormed s result scratch xs) ⊎ ((k : ℕ) × (p : ℕ) × (skim s ≡ refused k p) × Among ofReading k)
+pub well-formed-or-refused : (s result scratch : List ℕ) → resultBytes ≤ length result → scratchBytes ≤ length scratch
+    → ((xs : List Step) × WellFormed s result scratch xs) ⊎ ((k : ℕ) × (p : ℕ) × (skim s ≡ refused k p) × Among ofReading k)
 well-formed-or-refused s result scratch r c = go (skim s) refl
   where
     go : (o : Outcome (List Step)) → skim s ≡ o → ((xs : List Step) × WellFormed s result scratch xs) ⊎ ((k : ℕ) × (p : ℕ) × (skim s ≡ refused k p) × Among ofReading k)
@@ -357,7 +360,8 @@ unfolding handOver
 handed-numbered size (refused k p) result scratch h = refused-with (among-more ofSheet ofSheetCall (refl, (refl, (refl, (refl, (refl, (refl, (refl, (refl, (refl, (refl, tt)))))))))) k (h .number-is k p refl))
 handed-numbered size (accepted ts) result scratch h = go (leb (length (writeTypes ts)) (length result))
   where
-    go : (t : Bool) → RefusedWith ofSheetCall (answerIn (cond t (called (accepted (tally (length ts) (length (writeTypes ts)))) (atFront (writeTypes ts) result) scratch) (called (refused tooShort size) result scratch)))
+    go : (t : Bool)
+        → RefusedWith ofSheetCall (answerIn (cond t (called (accepted (tally (length ts) (length (writeTypes ts)))) (atFront (writeTypes ts) result) scratch) (called (refused tooShort size) result scratch)))
     go true = accepted-with
     go false = refused-with refl
 

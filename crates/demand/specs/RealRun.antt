@@ -12,7 +12,7 @@ use lib.ListN.{length, length-reverse}
 use Rattle.model.specs.Types.{Ty, shapeOf}
 use Rattle.format.specs.Reader.{Bytes}
 use Rattle.machine.specs.SheetLimits.{maxStack}
-use Rattle.machine.specs.Steps.{Step, put, row, pervading, join, validating, opcodeOf, takes, leaves}
+use Rattle.machine.specs.Steps.{Step, put, row, pervading, join, validating, opcodeOf, takes, heightPast}
 use Rattle.machine.specs.Run.{gives, Stack, step, steps}
 use Rattle.machine.specs.WellFormed.{WellFormed, heightAfter, typesLeft, Heights}
 use Rattle.machine.specs.Real.{RealShape, fits, realPervade, Feed, Feeds, ontoReal, realRule, realStep, goesOn, realRun}
@@ -51,7 +51,7 @@ step-stops (validating spec) u [] h e = absurd (omega arith)
 step-stops (validating spec) u (r ∷ rs) h e = unfit (fits (shapeOf spec) r) r (onto-stops rs (cond (fits (shapeOf spec) r) (some r) none) e)
 
 -- A step that goes on leaves as many real shapes as it leaves types.
-pub step-many : (x : Step) (u : Feed x) (rs rs₁ : List RealShape) → realStep x u rs ≡ some rs₁ → length rs₁ ≡ leaves (opcodeOf x) (length rs)
+pub step-many : (x : Step) (u : Feed x) (rs rs₁ : List RealShape) → realStep x u rs ≡ some rs₁ → length rs₁ ≡ heightPast (opcodeOf x) (length rs)
 unfolding realStep
 step-many x u rs rs₁ e = rw (real-takes x u, lays-one (opcodeOf x)) (realRuled-height (realRule x u) rs rs₁ e)
 
@@ -63,7 +63,9 @@ unfolding realRun
 run-stops [] u rs h e = let z : _≡_ {A = ℕ} 0 1 = cc in absurd (omega arith)
 run-stops (x ∷ xs) f rs h e = go (realStep x (f .0) rs) refl e (λ rs₁ k l. run-stops xs (f .1) rs₁ k l)
   where
-    go : (o : Option (List RealShape)) → realStep x (f .0) rs ≡ o → goesOn o (λ rs₁. realRun xs (f .1) rs₁) ≡ none → ((rs₁ : List RealShape) → Heights xs (length rs₁) → realRun xs (f .1) rs₁ ≡ none → RunStopsBecause xs (f .1) rs₁) → RunStopsBecause (x ∷ xs) f rs
+    go : (o : Option (List RealShape)) → realStep x (f .0) rs ≡ o → goesOn o (λ rs₁. realRun xs (f .1) rs₁) ≡ none
+        → ((rs₁ : List RealShape) → Heights xs (length rs₁) → realRun xs (f .1) rs₁ ≡ none → RunStopsBecause xs (f .1) rs₁)
+        → RunStopsBecause (x ∷ xs) f rs
     go none e₁ e₂ k = inl (step-stops x (f .0) rs (h .0) e₁)
     go (some rs₁) e₁ e₂ k = inr (rs₁, e₁, k rs₁ (rw (step-many x (f .0) rs rs₁ e₁) (h .2)) e₂)
 
@@ -73,7 +75,9 @@ unfolding realRun
 run-many [] u rs left e = let w : rs ≡ left = cc in rw (← w)
 run-many (x ∷ xs) f rs left e = go (realStep x (f .0) rs) refl e (λ rs₁ l. run-many xs (f .1) rs₁ left l)
   where
-    go : (o : Option (List RealShape)) → realStep x (f .0) rs ≡ o → goesOn o (λ rs₁. realRun xs (f .1) rs₁) ≡ some left → ((rs₁ : List RealShape) → realRun xs (f .1) rs₁ ≡ some left → length left ≡ heightAfter xs (length rs₁)) → length left ≡ heightAfter xs (leaves (opcodeOf x) (length rs))
+    go : (o : Option (List RealShape)) → realStep x (f .0) rs ≡ o → goesOn o (λ rs₁. realRun xs (f .1) rs₁) ≡ some left
+        → ((rs₁ : List RealShape) → realRun xs (f .1) rs₁ ≡ some left → length left ≡ heightAfter xs (length rs₁))
+        → length left ≡ heightAfter xs (heightPast (opcodeOf x) (length rs))
     go none e₁ e₂ k = let z : _≡_ {A = ℕ} 0 1 = cc in absurd (omega arith)
     go (some rs₁) e₁ e₂ k = rw (← step-many x (f .0) rs rs₁ e₁) (k rs₁ e₂)
 
@@ -96,7 +100,7 @@ steps-heights [] st st₁ h e = tt
 steps-heights (x ∷ xs) st st₁ h e =
     following-gives (step x st) e λ st₂ e₁ e₂.
     let n : length st₂ ≤ maxStack = step-room x st st₂ h e₁ in
-    let l : length st₂ ≡ leaves (opcodeOf x) (length st) = step-height x st st₂ e₁ in
+    let l : length st₂ ≡ heightPast (opcodeOf x) (length st) = step-height x st st₂ e₁ in
     (step-takes x st st₂ e₁, rw l at n, rw l at (steps-heights xs st₂ st₁ n e₂))
 
 -- They leave as many types as counted.

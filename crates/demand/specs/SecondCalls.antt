@@ -12,7 +12,7 @@ use Rattle.machine.specs.Run.{gives, refuses, steps}
 use Rattle.machine.specs.Conditions.{puts, countClosing}
 use Rattle.machine.specs.Sheets.{left-within}
 use Rattle.machine.specs.StepsTook.{skim-took}
-use Rattle.orders.specs.Verdicts.{Pervadings, Answered, passes, fails, answered}
+use Rattle.orders.specs.Verdicts.{Pervadings, Decided, passes, fails, decided}
 use Rattle.orders.specs.Orders.{order-mismatch, order-shape}
 use Rattle.demand.specs.Claims.{Check, answerTo, Leaves, Mismatched, verdictOf, SecondConditions, SecondHalf, accepts, mismatches, Regrouped}
 use Rattle.demand.specs.Calls.{leaves-run, call-leaves, call-mismatch}
@@ -40,9 +40,9 @@ module _ (c : Check) (xs : List Step) (k : SecondConditions c xs) where
   steps-of t l = left-within (c .sheet) xs (t ∷ []) sheet-of (leaves-run c xs (t ∷ []) (record { bytes = sheet-of; leaves = l })) .0
 
   pub one-of-two : SecondHalf c xs
-  one-of-two = go (answered xs pervadings)
+  one-of-two = go (decided xs pervadings)
     where
-      go : Answered xs → SecondHalf c xs
+      go : Decided xs → SecondHalf c xs
       go (passes t e f r h) = accepts t (leaves-of t e) f (r ∷ []) h
       go (fails e h) = mismatches (mismatched-of e) h
 
@@ -63,9 +63,9 @@ module _ (c d : Check) (xs ys : List Step) (r : Regrouped c d xs ys) where
       → ((t u : Ty) → steps xs [] ≡ gives (t ∷ []) → steps ys [] ≡ gives (u ∷ []) → C)
       → (steps xs [] ≡ refuses unpervaded → steps ys [] ≡ refuses unpervaded → C)
       → C
-  both-or-neither {C} k l = go (answered xs p) (answered ys q)
+  both-or-neither {C} k l = go (decided xs p) (decided ys q)
     where
-      go : Answered xs → Answered ys → C
+      go : Decided xs → Decided ys → C
       go (passes t e f v h) (passes u e′ f′ v′ h′) = k t u e e′
       go (fails e h) (fails e′ h′) = l e e′
       go (fails e h) (passes u e′ f′ v′ h′) =

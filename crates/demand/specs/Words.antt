@@ -27,7 +27,7 @@ accepted-sheet c small a =
     let (ts, b) = call-accepted c a in
     let (xs, h, k) = accepted-steps (c .sheet) small ts (b .run) in
     let within = left-within (c .sheet) xs ts h (b .run) .1 in
-    (xs, ts, record { bytes = h; leaves = record { within = within; outcome = rw (b .answer, b .written, b .zero-after) (a .outcome) } }, k)
+    (xs, ts, record { bytes = h; leaves = record { within = within; outcome = rw (b .tallied, b .in-front, b .zero-after) (a .outcome) } }, k)
 
 -- There is one such list.
 pub one-list : (s : List ℕ) (xs ys : List Step) → SheetOf s xs → SheetOf s ys → xs ≡ ys

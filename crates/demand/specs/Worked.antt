@@ -7,6 +7,7 @@ use mathlib.Core.List.{List, [], _∷_, _++_}
 use mathlib.Core.Path.{_≡_, refl}
 use lib.ListN.{length}
 use Rattle.model.specs.Types.{static, unknown, Ty, inside, below}
+use Rattle.model.specs.Within.{Within}
 use Rattle.format.specs.Reader.{byte, judged, number, bytesOf}
 use Rattle.format.specs.Records.{code, kindOf, writeShape, writeScalar, writeTy, readMark, readDim, readDims, shapeFrom, scalarFrom, readTy}
 use Rattle.format.specs.Outcome.{accepted}
@@ -28,7 +29,7 @@ use Rattle.machine.specs.Real.{fits, realPervade, theOneBelow, Feeds, realStep,
 use Rattle.machine.specs.Conditions.{RowsNoOpenDef, JoinsAlike}
 use Rattle.demand.specs.Claims.{Check, checkOf, Leaves, MakesAccepted, FirstConditions, EachHolds}
 use Rattle.demand.specs.Calls.{run-leaves}
-use Rattle.demand.specs.WorkedWith.{nums, oneSize, nums-within, zeroes, long-enough, as-worked}
+use Rattle.demand.specs.WorkedWith.{nums, oneSize, nums-within, within3, within4, zeroes, long-enough, as-worked}
 use Rattle.demand.specs.Demand.{first-half}
 
 -- ---- the sheet
@@ -57,18 +58,24 @@ workedFeeds = (2 ∷ 3 ∷ [], (tt, (3 ∷ [], (tt, (4 ∷ [], (theOneBelow, (tt
 
 -- ---- it is a sheet
 
+within2? : Within (nums (static 2 ∷ unknown ∷ []))
+within2? = nums-within (static 2 ∷ unknown ∷ []) (omega arith, (omega arith, (tt, tt)))
+
 pub worked-sheet : SheetOf workedBytes workedSteps
 unfolding bytesOf code writeShape writeScalar writeTy writeSteps
 worked-sheet = record {
   bytes = refl;
-  within = (nums-within (static 2 ∷ unknown ∷ []) (omega arith, (omega arith, (tt, tt))), (tt, (nums-within (static 3 ∷ []) (omega arith, (omega arith, tt)), (tt, (nums-within (static 4 ∷ []) (omega arith, (omega arith, tt)), (tt, (nums-within (static 3 ∷ []) (omega arith, (omega arith, tt)), tt)))))));
+  within = (within2?, (tt, (within3, (tt, (within4, (tt, (within3, tt)))))));
   few = omega arith;
 }
 
 -- ---- it is accepted
 
 worked-run : sheetRun workedBytes ≡ accepted workedLeft
-unfolding inside below byte judged number code kindOf readMark readDim readDims shapeFrom scalarFrom readTy cmpDim larger compatible joinDim isAny rowShape mergeDims mergeClosing mergeFrom joinDims joinClosing joinShapes codeOf supersetCodes supersetOf union together pervadeDims pervadeClosing pervade joinTypes whollyAny rowScalar rowBy agree mismatch shapeMismatch sidedShape checkShape checkScalar validate pervadeTypes step opcodeFrom argumentFrom stepFrom workFrom sheetMore sheetFrom sheetRun
+unfolding inside below byte judged number code kindOf readMark readDim readDims shapeFrom scalarFrom readTy cmpDim larger compatible joinDim isAny
+    rowShape mergeDims mergeClosing mergeFrom joinDims joinClosing joinShapes codeOf supersetCodes supersetOf union together pervadeDims
+    pervadeClosing pervade joinTypes whollyAny rowScalar rowBy agree mismatch shapeMismatch sidedShape checkShape checkScalar validate pervadeTypes
+    step opcodeFrom argumentFrom stepFrom workFrom sheetMore sheetFrom sheetRun
 worked-run = refl
 
 worked-length : length (writeTypes workedLeft) ≡ 15
@@ -78,7 +85,6 @@ worked-length = refl
 -- With any result of at least 15 bytes, which the type left takes, and any scratch that is long enough.
 pub worked-leaves : (result scratch : List ℕ) → 15 ≤ length result → scratchBytes ≤ length scratch → Leaves (checkOf workedBytes result scratch) workedLeft
 worked-leaves result scratch room enough =
-    let within3 = nums-within (static 3 ∷ []) (omega arith, (omega arith, tt)) in
     run-leaves (checkOf workedBytes result scratch) enough workedLeft worked-run (within3, tt) (omega (arith, worked-length))
 
 -- There are such buffers.
@@ -92,7 +98,9 @@ worked-buffers = worked-leaves (zeroes 15) (zeroes scratchBytes) (long-enough 15
 
 -- The row is of [2 ?] Num, no Def; the join is of [4] and [3], closed and of one size each.
 pub worked-conditions : FirstConditions workedSteps
-unfolding inside below code cmpDim larger compatible joinDim isAny rowShape mergeDims mergeClosing mergeFrom joinDims joinClosing joinShapes codeOf supersetCodes supersetOf union together pervadeDims pervadeClosing pervade joinTypes whollyAny rowScalar rowBy agree mismatch shapeMismatch sidedShape checkShape checkScalar validate pervadeTypes step
+unfolding inside below code cmpDim larger compatible joinDim isAny rowShape mergeDims mergeClosing mergeFrom joinDims joinClosing joinShapes codeOf
+    supersetCodes supersetOf union together pervadeDims pervadeClosing pervade joinTypes whollyAny rowScalar rowBy agree mismatch shapeMismatch
+    sidedShape checkShape checkScalar validate pervadeTypes step
 worked-conditions = record {
   names-no-closing = (refl, (tt, (refl, (tt, (refl, (tt, (refl, tt)))))));
   fills-nothing = (tt, (tt, (tt, (refl, (tt, (tt, (tt, tt)))))));

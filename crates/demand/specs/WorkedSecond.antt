@@ -31,7 +31,7 @@ use Rattle.demand.specs.Claims.{Check, checkOf, answerTo, Leaves, Mismat
 use Rattle.demand.specs.Calls.{run-leaves, run-mismatched}
 use Rattle.demand.specs.Words.{steps-well-formed}
 use Rattle.demand.specs.Demand.{second-half, mismatch-exactly, same-verdict, same-shape}
-use Rattle.demand.specs.WorkedWith.{numOf, nums, oneSize, anySize, lastSize, num-within, nums-within, are-bytes, areHeights, are-heights, zeroes, long-enough}
+use Rattle.demand.specs.WorkedWith.{numOf, nums, oneSize, anySize, lastSize, num-within, nums-within, within3, within4, are-bytes, areHeights, are-heights, zeroes, long-enough}
 
 -- ---- how they are written
 
@@ -116,12 +116,6 @@ turned-bytes : Bytes turnedBytes
 turned-bytes = are-bytes turnedBytes refl
 
 -- ---- they keep the conditions
-
-within3 : Within (nums (static 3 ∷ []))
-within3 = nums-within (static 3 ∷ []) (omega arith, (omega arith, tt))
-
-within4 : Within (nums (static 4 ∷ []))
-within4 = nums-within (static 4 ∷ []) (omega arith, (omega arith, tt))
 
 within? : Within (nums (unknown ∷ []))
 within? = nums-within (unknown ∷ []) (omega arith, (tt, tt))

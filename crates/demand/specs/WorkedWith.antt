@@ -9,12 +9,12 @@ use mathlib.Core.Path.{_≡_}
 use lib.ListN.{length, replicate, length-replicate}
 use lib.Dec.{leb, ltb}
 use borrow.Author.Tests.{leb-true, ltb-true}
-use Rattle.model.specs.Types.{Dim, Shape, shape, num, plain, Ty, ty, inside, below}
+use Rattle.model.specs.Types.{Dim, static, Shape, shape, num, plain, Ty, ty, inside, below}
 use Rattle.model.specs.Within.{DimsWithin, ShapeWithin, Within}
 use Rattle.format.specs.Reader.{Bytes}
 use Rattle.validation.specs.OutcomeLaws.{both-true}
 use Rattle.machine.specs.SheetLimits.{maxStack}
-use Rattle.machine.specs.Steps.{Step, opcodeOf, takes, leaves}
+use Rattle.machine.specs.Steps.{Step, opcodeOf, takes, heightPast}
 use Rattle.machine.specs.Run.{Answer, gives, refuses, Stack, step}
 use Rattle.machine.specs.WellFormed.{Heights}
 use Rattle.machine.specs.Conditions.{Along}
@@ -45,6 +45,12 @@ num-within s h = record { records = (h, tt); few = omega arith; shallow = omega 
 pub nums-within : (ds : List Dim) → DimsWithin ds → Within (nums ds)
 nums-within ds h = num-within (shape ds none) (h, tt)
 
+pub within3 : Within (nums (static 3 ∷ []))
+within3 = nums-within (static 3 ∷ []) (omega arith, (omega arith, tt))
+
+pub within4 : Within (nums (static 4 ∷ []))
+within4 = nums-within (static 4 ∷ []) (omega arith, (omega arith, tt))
+
 -- That a list is one of bytes, by computation.
 abbrev pub areBytes : List ℕ → Bool
 areBytes [] = true
@@ -58,14 +64,14 @@ are-bytes (b ∷ s) h (suc i) = are-bytes s (both-true (ltb b 256) (areBytes s) 
 -- That no step lacks types or lays down one too many, by computation.
 abbrev pub areHeights : List Step → ℕ → Bool
 areHeights [] h = true
-areHeights (x ∷ xs) h = leb (takes (opcodeOf x)) h && (leb (leaves (opcodeOf x) h) maxStack && areHeights xs (leaves (opcodeOf x) h))
+areHeights (x ∷ xs) h = leb (takes (opcodeOf x)) h && (leb (heightPast (opcodeOf x) h) maxStack && areHeights xs (heightPast (opcodeOf x) h))
 
 pub are-heights : (xs : List Step) (h : ℕ) → areHeights xs h ≡ true → Heights xs h
 are-heights [] h e = tt
 are-heights (x ∷ xs) h e =
     let (a, b) = both-true (leb (takes (opcodeOf x)) h) _ e in
-    let (c, d) = both-true (leb (leaves (opcodeOf x) h) maxStack) _ b in
-    (leb-true (takes (opcodeOf x)) h a, leb-true (leaves (opcodeOf x) h) maxStack c, are-heights xs (leaves (opcodeOf x) h) d)
+    let (c, d) = both-true (leb (heightPast (opcodeOf x) h) maxStack) _ b in
+    (leb-true (takes (opcodeOf x)) h a, leb-true (heightPast (opcodeOf x) h) maxStack c, are-heights xs (heightPast (opcodeOf x) h) d)
 
 -- ---- buffers
 

@@ -13,7 +13,7 @@ use Rattle.model.specs.Types.{Dim, static, unknown, Shape, shape}
 use Rattle.rules.specs.Sizes.{joinDim}
 use Rattle.rules.specs.Shapes.{rowShape, mergeDims, mergeClosing, mergeFrom, joinDims, joinEnds, joinClosing, joinShapes}
 use Rattle.rules.specs.SizesLaws.{larger-either}
-use Rattle.machine.specs.Real.{RealShape, fits, realRow, Kept, theTop, theOneBelow, keeps}
+use Rattle.machine.specs.Real.{RealShape, fits, realRow, JoinSide, theTop, theOneBelow, keeps}
 use Rattle.machine.specs.Conditions.{Alike}
 use Rattle.holding.specs.Fitting.{Fit}
 use Rattle.holding.specs.Bare.{isOpen, BareClosing, Bare, Rest, Begins, begins-of, of-begins}
@@ -88,7 +88,8 @@ closed-second (d ∷ o) [] r l h = absurd (omega arith)
 closed-second (d ∷ o) (e ∷ p) [] l h = absurd h
 closed-second (d ∷ o) (e ∷ p) (n ∷ r) l h = (fit-join-second d e n (h .0), closed-second o p r (omega arith) (h .1))
 
-pub join-holds : (side : Kept) (s t : Shape) (r q : RealShape) → Bare s → Bare t → Alike s t → fits s r ≡ true → fits t q ≡ true → (fits (joinShapes s t) (keeps side r q) ≡ true) × Bare (joinShapes s t)
+pub join-holds : (side : JoinSide) (s t : Shape) (r q : RealShape) → Bare s → Bare t → Alike s t → fits s r ≡ true → fits t q ≡ true
+    → (fits (joinShapes s t) (keeps side r q) ≡ true) × Bare (joinShapes s t)
 unfolding joinShapes joinClosing joinEnds
 join-holds theTop (shape o none) (shape p none) r q u v l h k = (of-begins (joinDims o p) none r tt (closed-first o p r l (begins-of o none r h)), tt)
 join-holds theOneBelow (shape o none) (shape p none) r q u v l h k = (of-begins (joinDims o p) none q tt (closed-second o p q l (begins-of p none q k)), tt)

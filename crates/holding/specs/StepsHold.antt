@@ -20,7 +20,7 @@ use Rattle.validation.specs.ValidateLaws.{validate-shape}
 use Rattle.machine.specs.SheetLimits.{maxStack}
 use Rattle.machine.specs.Steps.{Step, put, row, pervading, join, validating, flagByte, Rule, ofNone, ofOne, ofTwo}
 use Rattle.machine.specs.Run.{Answer, gives, orRefuses, aside, Stack, onto, pervadeTypes, ruleOf, ruled, step, steps}
-use Rattle.machine.specs.Real.{RealShape, fits, Holds, realPervade, Kept, Feed, Feeds, realRow, keeps, ontoReal, realRule, realRuled, realStep, goesOn, realRun, FitsPut, FitsPuts}
+use Rattle.machine.specs.Real.{RealShape, fits, Holds, realPervade, JoinSide, Feed, Feeds, realRow, keeps, ontoReal, realRule, realRuled, realStep, goesOn, realRun, FitsPut, FitsPuts}
 use Rattle.machine.specs.Conditions.{namesClosing, NamesNoClosing, FillsNothing, Alike, JoinsAlike, Along}
 use Rattle.holding.specs.Bare.{Bare}
 use Rattle.holding.specs.PervadeHolds.{pervade-holds}
@@ -64,23 +64,23 @@ goesOn-some (some rs) e k = k rs refl e
 -- ---- a rule beside the real one
 
 -- What is made holds what is really made.
-abbrev Result : Answer Ty → Option RealShape → Type 0
-Result a o = (x : Ty) (z : RealShape) → a ≡ gives x → o ≡ some z → HoldsBare x z
+abbrev Made : Answer Ty → Option RealShape → Type 0
+Made a o = (x : Ty) (z : RealShape) → a ≡ gives x → o ≡ some z → HoldsBare x z
 
 -- Where the types taken hold the real shapes taken, what is made holds what is really made. Q is what is asked of the stack.
 abbrev Preserves : (Stack → Type 0) → Rule Ty (Answer Ty) → Rule RealShape (Option RealShape) → Type 0
-Preserves Q (ofNone a) (ofNone o) = Result a o
+Preserves Q (ofNone a) (ofNone o) = Made a o
 Preserves Q (ofNone a) (ofOne g) = ⊥
 Preserves Q (ofNone a) (ofTwo g) = ⊥
 Preserves Q (ofOne f) (ofNone o) = ⊥
-Preserves Q (ofOne f) (ofOne g) = (t : Ty) (r : RealShape) → HoldsBare t r → Result (f t) (g r)
+Preserves Q (ofOne f) (ofOne g) = (t : Ty) (r : RealShape) → HoldsBare t r → Made (f t) (g r)
 Preserves Q (ofOne f) (ofTwo g) = ⊥
 Preserves Q (ofTwo f) (ofNone o) = ⊥
 Preserves Q (ofTwo f) (ofOne g) = ⊥
-Preserves Q (ofTwo f) (ofTwo g) = (t u : Ty) (st : Stack) (r q : RealShape) → Q (t ∷ u ∷ st) → HoldsBare t r → HoldsBare u q → Result (f t u) (g r q)
+Preserves Q (ofTwo f) (ofTwo g) = (t u : Ty) (st : Stack) (r q : RealShape) → Q (t ∷ u ∷ st) → HoldsBare t r → HoldsBare u q → Made (f t u) (g r q)
 
 onto-hold : (st : Stack) (a : Answer Ty) (rs : List RealShape) (o : Option RealShape) {st₁ : Stack} {rs₁ : List RealShape}
-    → Result a o → AllHold st rs → onto st a ≡ gives st₁ → ontoReal rs o ≡ some rs₁ → AllHold st₁ rs₁
+    → Made a o → AllHold st rs → onto st a ≡ gives st₁ → ontoReal rs o ≡ some rs₁ → AllHold st₁ rs₁
 onto-hold st a rs o {st₁} {rs₁} k h e y =
     following-gives a e λ x e₁ e₂.
     ontoReal-some rs o y λ z y₁ v.
@@ -112,7 +112,7 @@ row-made : (t : Ty) (r : RealShape) → HoldsBare t r → HoldsBare (intoRow t) 
 unfolding rowBy
 row-made (ty s k) r h = row-holds s r (h .1) (h .0)
 
-pervade-made : (f g : Bool) (t u : Ty) (r q : RealShape) → flagByte f g ≡ 0 → HoldsBare t r → HoldsBare u q → Result (pervadeTypes f g t u) (realPervade r q)
+pervade-made : (f g : Bool) (t u : Ty) (r q : RealShape) → flagByte f g ≡ 0 → HoldsBare t r → HoldsBare u q → Made (pervadeTypes f g t u) (realPervade r q)
 unfolding pervadeTypes
 pervade-made f g (ty s k) (ty t l) r q unfilled-flags h i x z e y =
     following-gives (orRefuses (pervade f g s t) unpervaded) e λ v e₁ e₂.
@@ -121,11 +121,11 @@ pervade-made f g (ty s k) (ty t l) r q unfilled-flags h i x z e y =
     let (a, b) = unfilled f g unfilled-flags in
     rw (← w) (pervade-holds s t v r q z (h .1) (i .1) (h .0) (i .0) (rw (a, b) at e₃) y)
 
-join-made : (side : Kept) (t u : Ty) (r q : RealShape) → Alike (shapeOf t) (shapeOf u) → HoldsBare t r → HoldsBare u q → HoldsBare (joinTypes t u) (keeps side r q)
+join-made : (side : JoinSide) (t u : Ty) (r q : RealShape) → Alike (shapeOf t) (shapeOf u) → HoldsBare t r → HoldsBare u q → HoldsBare (joinTypes t u) (keeps side r q)
 unfolding joinTypes
 join-made side (ty s k) (ty t l) r q alike h i = join-holds side s t r q (h .1) (i .1) alike (h .0) (i .0)
 
-validate-made : (spec t : Ty) (r : RealShape) → namesClosing (shapeOf spec) ≡ false → HoldsBare t r → Result (aside (validate unsided spec t)) (cond (fits (shapeOf spec) r) (some r) none)
+validate-made : (spec t : Ty) (r : RealShape) → namesClosing (shapeOf spec) ≡ false → HoldsBare t r → Made (aside (validate unsided spec t)) (cond (fits (shapeOf spec) r) (some r) none)
 validate-made spec t r n h x z e y =
     aside-gives (validate unsided spec t) e λ e₁.
     cond-some (fits (shapeOf spec) r) y λ fit v.

@@ -55,12 +55,17 @@ pub record LeftBy (s : List ℕ) (n b : ℕ) (out : List ℕ) (ts : List Ty) : T
   pub front : take b out ≡ writeTypes ts
   pub kept : Few ts
 
-handed-left : {C : Type 0} (size : ℕ) (o : Outcome (List Ty)) (result scratch : List ℕ) {n b : ℕ} {out after : List ℕ} → called (accepted (tally n b)) out after ≡ handOver size o result scratch → ((ts : List Ty) → o ≡ accepted ts → n ≡ length ts → b ≡ length (writeTypes ts) → out ≡ atFront (writeTypes ts) result → C) → C
+handed-left : {C : Type 0} (size : ℕ) (o : Outcome (List Ty)) (result scratch : List ℕ) {n b : ℕ} {out after : List ℕ}
+    → called (accepted (tally n b)) out after ≡ handOver size o result scratch
+    → ((ts : List Ty) → o ≡ accepted ts → n ≡ length ts → b ≡ length (writeTypes ts) → out ≡ atFront (writeTypes ts) result → C)
+    → C
 unfolding handOver
 handed-left size (refused k p) result scratch e f = let z : _≡_ {A = ℕ} 0 1 = cc in absurd (omega arith)
 handed-left {C} size (accepted ts) result scratch {n} {b} {out} {after} e f = go (leb (length (writeTypes ts)) (length result)) e
   where
-    go : (t : Bool) → called (accepted (tally n b)) out after ≡ cond t (called (accepted (tally (length ts) (length (writeTypes ts)))) (atFront (writeTypes ts) result) scratch) (called (refused tooShort size) result scratch) → C
+    go : (t : Bool)
+        → called (accepted (tally n b)) out after ≡ cond t (called (accepted (tally (length ts) (length (writeTypes ts)))) (atFront (writeTypes ts) result) scratch) (called (refused tooShort size) result scratch)
+        → C
     go true e = f ts refl (cc) (cc) (cc)
     go false e = let z : _≡_ {A = ℕ} 0 1 = cc in absurd (omega arith)
 
@@ -79,7 +84,8 @@ module _ (s result scratch : List ℕ) where
   -- ---- a refusal
 
   -- With enough room in both buffers it is the run's.
-  pub call-refused : {k p : ℕ} {out after : List ℕ} → Bytes s → resultBytes ≤ length result → scratchBytes ≤ length scratch → called (refused k p) out after ≡ sheetCall s result scratch → sheetRun s ≡ refused k p
+  pub call-refused : {k p : ℕ} {out after : List ℕ} → Bytes s → resultBytes ≤ length result → scratchBytes ≤ length scratch
+      → called (refused k p) out after ≡ sheetCall s result scratch → sheetRun s ≡ refused k p
   unfolding sheetCall handOver
   call-refused {k} {p} {out} {after} small wide enough e =
       let h : called (refused k p) out after ≡ handOver (length s) (sheetRun s) result (zeroed scratch) = e ∙ rw (le-ltb (length scratch) scratchBytes enough) in

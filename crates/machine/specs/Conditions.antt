@@ -99,9 +99,9 @@ puts [] = []
 puts (x ∷ xs) = withPut (putBy x) (puts xs)
 
 -- how often a value stands in a list, by a test for sameness
-abbrev pub count : {A : Type 0} → (A → A → Bool) → A → List A → ℕ
-count is a [] = 0
-count is a (b ∷ l) = cond (is a b) 1 0 + count is a l
+abbrev pub timesIn : {A : Type 0} → (A → A → Bool) → A → List A → ℕ
+timesIn is a [] = 0
+timesIn is a (b ∷ l) = cond (is a b) 1 0 + timesIn is a l
 
 abbrev pub isSame : Order → Bool
 isSame less = false
@@ -114,7 +114,7 @@ sameType t u = isSame (compare t u)
 -- "the same puts", each type as often. Two types are the same where their order says so, which is equality (`rules`: `compare-refl`,
 -- `compare-same`).
 abbrev pub SamePuts : List Step → List Step → Type 0
-SamePuts xs ys = (t : Ty) → count sameType t (puts xs) ≡ count sameType t (puts ys)
+SamePuts xs ys = (t : Ty) → timesIn sameType t (puts xs) ≡ timesIn sameType t (puts ys)
 
 -- how many of some types name closing sizes
 abbrev pub countClosing : List Ty → ℕ

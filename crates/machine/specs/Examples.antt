@@ -29,7 +29,7 @@ use Rattle.machine.specs.Steps.{Step, put, row, pervading, join, validat
 use Rattle.machine.specs.Run.{pervadeTypes, step}
 use Rattle.machine.specs.Sheet.{opcodeFrom, argumentFrom, stepFrom, workFrom, sheetMore, skimMore, sheetFrom, skimFrom, sheetRun, skim}
 use Rattle.machine.specs.Call.{tally, called, writeTypes, zeroed, handOver, sheetCall}
-use Rattle.machine.specs.Real.{RealShape, fits, realPervade, Kept, theTop, theOneBelow, realStep, realRun}
+use Rattle.machine.specs.Real.{RealShape, fits, realPervade, JoinSide, theTop, theOneBelow, realStep, realRun}
 use Rattle.machine.specs.Conditions.{Alike, PutOrPervade}
 
 pub data Example : Type 0 where
@@ -42,11 +42,11 @@ pub data Example : Type 0 where
   -- a sheet's bytes, and the steps that are read with the rules passed over
   theSteps : List ℕ → List Step → Example
 
-abbrev pub Holds : Example → Type 0
-Holds (theBytes s w) = mapped writeTypes (sheetRun s) ≡ accepted w
-Holds (theTypes xs ts) = sheetRun (writeSteps xs) ≡ accepted ts
-Holds (theRefusal s k p) = sheetRun s ≡ refused k p
-Holds (theSteps s xs) = skim s ≡ accepted xs
+abbrev pub Shown : Example → Type 0
+Shown (theBytes s w) = mapped writeTypes (sheetRun s) ≡ accepted w
+Shown (theTypes xs ts) = sheetRun (writeSteps xs) ≡ accepted ts
+Shown (theRefusal s k p) = sheetRun s ≡ refused k p
+Shown (theSteps s xs) = skim s ≡ accepted xs
 
 -- ---- limits, marks and flags as they stand in the paper, once
 
@@ -127,9 +127,13 @@ examples =
     ∷ theSteps (writeSteps (put (nums (3 ∷ [])) ∷ put (nums (4 ∷ [])) ∷ pervading false false ∷ row ∷ [])) (put (nums (3 ∷ [])) ∷ put (nums (4 ∷ [])) ∷ pervading false false ∷ row ∷ [])
     ∷ []
 
-pub examples-hold : All Holds examples
-unfolding examples inside below byte judged number bytesOf code kindOf writeShape writeScalar writeTy readMark readDim readDims shapeFrom readName readFields defFrom boxFrom scalarFrom readTy cmpDim larger compatible joinDim isAny rank rowShape mergeDims mergeClosing mergeFrom joinDims joinLonger joinEnds joinClosing joinShapes codeOf supersetCodes supersetOf union againstAbsent together pervadeDims pervadeClosing pervade joinTypes whollyAny rowScalar rowBy agree equalDim equalDims mismatch shapeMismatch sidedShape checkShape keepsLimits checkScalar validate writeSteps pervadeTypes step opcodeFrom argumentFrom stepFrom workFrom sheetMore skimMore sheetFrom skimFrom sheetRun skim writeTypes
-examples-hold = (refl, (refl, (refl, (refl, (refl, (refl, (refl, (refl, (refl, (refl, (refl, (refl, (refl, (refl, (refl, (refl, (refl, (refl, (refl, (refl, (refl, (refl, (refl, (refl, (refl, tt)))))))))))))))))))))))))
+pub examples-shown : All Shown examples
+unfolding examples inside below byte judged number bytesOf code kindOf writeShape writeScalar writeTy readMark readDim readDims shapeFrom readName
+    readFields defFrom boxFrom scalarFrom readTy cmpDim larger compatible joinDim isAny rank rowShape mergeDims mergeClosing mergeFrom joinDims
+    joinLonger joinEnds joinClosing joinShapes codeOf supersetCodes supersetOf union againstAbsent together pervadeDims pervadeClosing pervade
+    joinTypes whollyAny rowScalar rowBy agree equalDim equalDims mismatch shapeMismatch sidedShape checkShape keepsLimits checkScalar validate
+    writeSteps pervadeTypes step opcodeFrom argumentFrom stepFrom workFrom sheetMore skimMore sheetFrom skimFrom sheetRun skim writeTypes
+examples-shown = (refl, (refl, (refl, (refl, (refl, (refl, (refl, (refl, (refl, (refl, (refl, (refl, (refl, (refl, (refl, (refl, (refl, (refl, (refl, (refl, (refl, (refl, (refl, (refl, (refl, tt)))))))))))))))))))))))))
 
 -- ---- the whole call
 
@@ -153,7 +157,8 @@ module _ (scratch : List ℕ) (enough : scratchBytes ≤ length scratch) where
 
   -- The bytes go to the front of the result, and one past them stays.
   pub call-one : sheetCall oneSheet (replicate 8 7) scratch ≡ called (accepted (tally 1 7)) (oneRecord ++ (7 ∷ [])) (zeroed scratch)
-  unfolding sheetCall sheetRun sheetFrom sheetMore workFrom stepFrom opcodeFrom argumentFrom step handOver writeTypes byte judged number bytesOf code kindOf writeShape writeScalar writeTy readMark readDim readDims shapeFrom scalarFrom readTy
+  unfolding sheetCall sheetRun sheetFrom sheetMore workFrom stepFrom opcodeFrom argumentFrom step handOver writeTypes byte judged number bytesOf code
+      kindOf writeShape writeScalar writeTy readMark readDim readDims shapeFrom scalarFrom readTy
   call-one = rw (le-ltb (length scratch) scratchBytes enough)
 
   -- A refusal writes nothing to the result: a row first.
@@ -163,7 +168,8 @@ module _ (scratch : List ℕ) (enough : scratchBytes ≤ length scratch) where
 
   -- A result that is one byte too short stays as lent, and is found at the sheet's length.
   pub call-short : sheetCall oneSheet (replicate 6 7) scratch ≡ called (refused tooShort 9) (replicate 6 7) (zeroed scratch)
-  unfolding sheetCall sheetRun sheetFrom sheetMore workFrom stepFrom opcodeFrom argumentFrom step handOver writeTypes byte judged number bytesOf code kindOf writeShape writeScalar writeTy readMark readDim readDims shapeFrom scalarFrom readTy
+  unfolding sheetCall sheetRun sheetFrom sheetMore workFrom stepFrom opcodeFrom argumentFrom step handOver writeTypes byte judged number bytesOf code
+      kindOf writeShape writeScalar writeTy readMark readDim readDims shapeFrom scalarFrom readTy
   call-short = rw (le-ltb (length scratch) scratchBytes enough)
 
 -- ---- real shapes
@@ -173,15 +179,15 @@ pub data RealExample : Type 0 where
   theFit : Shape → RealShape → Bool → RealExample
   theReal : RealShape → RealShape → Option RealShape → RealExample
   -- what is fed to put [?], put [3..], join, row, validate [5], and the real shapes left
-  theRun : RealShape → RealShape → Kept → Option (List RealShape) → RealExample
+  theRun : RealShape → RealShape → JoinSide → Option (List RealShape) → RealExample
 
 abbrev fiveSteps : List Step
 fiveSteps = put (ty (shape (unknown ∷ []) none) (plain num)) ∷ put (ty (shape (static 3 ∷ []) (some [])) (plain num)) ∷ join ∷ row ∷ validating (nums (5 ∷ [])) ∷ []
 
-abbrev pub RealHolds : RealExample → Type 0
-RealHolds (theFit s r b) = fits s r ≡ b
-RealHolds (theReal r q z) = realPervade r q ≡ z
-RealHolds (theRun r q side z) = realRun fiveSteps (r, (q, (side, (tt, (tt, tt))))) [] ≡ z
+abbrev pub RealShown : RealExample → Type 0
+RealShown (theFit s r b) = fits s r ≡ b
+RealShown (theReal r q z) = realPervade r q ≡ z
+RealShown (theRun r q side z) = realRun fiveSteps (r, (q, (side, (tt, (tt, tt))))) [] ≡ z
 
 unfoldable pub realExamples : List RealExample
 realExamples =
@@ -201,9 +207,9 @@ realExamples =
     ∷ theRun (4 ∷ []) (3 ∷ 5 ∷ []) theOneBelow none
     ∷ []
 
-pub realExamples-hold : All RealHolds realExamples
+pub realExamples-shown : All RealShown realExamples
 unfolding realExamples fits realPervade realStep realRun
-realExamples-hold = (refl, (refl, (refl, (refl, (refl, (refl, (refl, (refl, (refl, (refl, (refl, tt)))))))))))
+realExamples-shown = (refl, (refl, (refl, (refl, (refl, (refl, (refl, (refl, (refl, (refl, (refl, tt)))))))))))
 
 -- ---- the conditions of demand 3
 

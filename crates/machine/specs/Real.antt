@@ -63,17 +63,17 @@ realPervade (m ∷ r) (n ∷ q) = consBoth (realDim m n) (realPervade r q)
 -- ---- the real run
 
 -- Which side a join keeps.
-pub data Kept : Type 0 where
-  theTop theOneBelow : Kept
+pub data JoinSide : Type 0 where
+  theTop theOneBelow : JoinSide
 
-abbrev pub keeps : Kept → RealShape → RealShape → RealShape
+abbrev pub keeps : JoinSide → RealShape → RealShape → RealShape
 keeps theTop r q = r
 keeps theOneBelow r q = q
 
 -- What a step is fed: a put a real shape, a join the side that it keeps, the others nothing. And all steps.
 abbrev pub FeedOf : Option Ty → Bool → Type 0
 FeedOf (some t) b = RealShape
-FeedOf none true = Kept
+FeedOf none true = JoinSide
 FeedOf none false = Unit {0}
 
 abbrev pub Feed : Step → Type 0

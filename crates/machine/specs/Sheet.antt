@@ -13,7 +13,8 @@ use Rattle.format.specs.Reader.{Read, got, stopped, Reader, _>>=_, _>>_, give, 
 use Rattle.format.specs.Records.{Mark, mark, isCount, orStop, readType}
 use Rattle.format.specs.Outcome.{Outcome, accepted, refused, mapped}
 use Rattle.machine.specs.SheetLimits.{maxStack}
-use Rattle.machine.specs.Steps.{Step, put, row, pervading, join, validating, Opcode, aPut, aRow, aPervading, aJoin, aValidating, opcodeOf, markOf, opcodes, sameMark, takes, leaves, maxFlag, fillsTop, fillsBelow}
+use Rattle.machine.specs.Steps.{Step, put, row, pervading, join, validating, Opcode, aPut, aRow, aPervading, aJoin, aValidating, opcodeOf, markOf, opcodes, sameMark, takes}
+use Rattle.machine.specs.Steps.{heightPast, maxFlag, fillsTop, fillsBelow}
 use Rattle.machine.specs.Run.{Answer, gives, refuses, Stack, State, fresh, afterStep, stepsLeft, work}
 
 -- ---- one step
@@ -57,7 +58,7 @@ module _ (s : List ℕ) where
   stepFrom h p = do
     c ← opcodeFrom p
     need (leb (takes c) h) underflow p
-    need (leb (leaves c h) maxStack) overflow p
+    need (leb (heightPast c h) maxStack) overflow p
     argumentFrom c p
 
   -- A step from a state, and its rule.
@@ -84,7 +85,7 @@ module _ (s : List ℕ) where
   skimMore zero st = toEnd [] (here (stop overflow))
   skimMore (suc n) st = toEnd [] do
     x ← here (stepFrom (st .stack))
-    xs ← skimMore n (afterStep st (leaves (opcodeOf x) (st .stack)))
+    xs ← skimMore n (afterStep st (heightPast (opcodeOf x) (st .stack)))
     give (x ∷ xs)
 
   -- From any state, with as many steps more as that state has left.

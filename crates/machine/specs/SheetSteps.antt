@@ -10,7 +10,7 @@ use Rattle.model.specs.Refusals.{underflow, overflow}
 use Rattle.format.specs.Reader.{got, stopped, Reader}
 use Rattle.format.specs.ReaderLaws.{split}
 use Rattle.machine.specs.SheetLimits.{maxSteps, maxStack}
-use Rattle.machine.specs.Steps.{Step, Opcode, takes, leaves}
+use Rattle.machine.specs.Steps.{Step, Opcode, takes, heightPast}
 use Rattle.machine.specs.Run.{Answer, gives, refuses, following, Stack, State, afterStep, stepsLeft, step, work}
 use Rattle.machine.specs.Sheet.{placed, opcodeFrom, argumentFrom, stepFrom, workFrom, toEnd, sheetMore, sheetFrom}
 use Rattle.machine.specs.RunLaws.{following-gives}
@@ -92,14 +92,14 @@ module _ (s : List ℕ) where
       unfolding stepFrom
       step-lacks l = rw (marked, lt-leb (takes c) h l)
 
-      pub step-overfull : takes c ≤ h → maxStack < leaves c h → stepFrom s h p at ≡ stopped overflow p
+      pub step-overfull : takes c ≤ h → maxStack < heightPast c h → stepFrom s h p at ≡ stopped overflow p
       unfolding stepFrom
-      step-overfull l r = rw (marked, le-leb (takes c) h l, lt-leb (leaves c h) maxStack r)
+      step-overfull l r = rw (marked, le-leb (takes c) h l, lt-leb (heightPast c h) maxStack r)
 
       -- the step's bytes
-      pub step-argument : takes c ≤ h → leaves c h ≤ maxStack → stepFrom s h p at ≡ argumentFrom s c p next
+      pub step-argument : takes c ≤ h → heightPast c h ≤ maxStack → stepFrom s h p at ≡ argumentFrom s c p next
       unfolding stepFrom
-      step-argument l r = rw (marked, le-leb (takes c) h l, le-leb (leaves c h) maxStack r)
+      step-argument l r = rw (marked, le-leb (takes c) h l, le-leb (heightPast c h) maxStack r)
 
   -- as it is worked from a state
   module _ (st : State Stack) (p at : ℕ) where

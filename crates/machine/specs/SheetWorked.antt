@@ -8,7 +8,7 @@ use lib.ListN.{length}
 use Rattle.model.specs.Refusals.{overflow}
 use Rattle.format.specs.Reader.{Read, got, stopped, Reader, andThen, _>>=_, stop, here}
 use Rattle.format.specs.ReaderLaws.{split}
-use Rattle.machine.specs.Steps.{Step, opcodeOf, takes, leaves}
+use Rattle.machine.specs.Steps.{Step, opcodeOf, takes, heightPast}
 use Rattle.machine.specs.Run.{Answer, gives, refuses, following, Stack, ruleOf, State, afterStep, onStack, step, work, steps}
 use Rattle.machine.specs.Sheet.{placed, stepFrom, workFrom, sheetMore, skimMore}
 use Rattle.machine.specs.SheetSteps.{placed-got, toEnd-end, toEnd-more}
@@ -18,7 +18,7 @@ use Rattle.machine.specs.StepsTook.{ended-or, stepAndMore}
 
 -- ---- heights
 
-pub step-height : (x : Step) (st st₁ : Stack) → step x st ≡ gives st₁ → length st₁ ≡ leaves (opcodeOf x) (length st)
+pub step-height : (x : Step) (st st₁ : Stack) → step x st ≡ gives st₁ → length st₁ ≡ heightPast (opcodeOf x) (length st)
 unfolding step
 step-height x st st₁ e = rw (rule-takes x, lays-one (opcodeOf x)) (ruled-height (ruleOf x) st st₁ e .1)
 
@@ -30,14 +30,14 @@ step-takes x st st₁ e = rw (rule-takes x) (ruled-height (ruleOf x) st st₁ e 
 -- ---- the same answer
 
 -- The same answer, the place aside.
-abbrev pub Same : Answer Stack → Read (State Stack) → Type 0
-Same (gives a) r = (st : State Stack) × (n : ℕ) × (r ≡ got st n) × (st .stack ≡ a)
-Same (refuses k) r = (p : ℕ) × (r ≡ stopped k p)
+abbrev pub SameAnswer : Answer Stack → Read (State Stack) → Type 0
+SameAnswer (gives a) r = (st : State Stack) × (n : ℕ) × (r ≡ got st n) × (st .stack ≡ a)
+SameAnswer (refuses k) r = (p : ℕ) × (r ≡ stopped k p)
 
 -- the rest of a sheet, after a step's rule has answered
 pub same-after : (s : List ℕ) (n : ℕ) (xs : List Step) (st : State Stack) (a : Answer Stack) (p at : ℕ)
-    → ((b : Stack) → a ≡ gives b → Same (steps xs b) (sheetMore s n (afterStep st b) at))
-    → Same (following a (λ b. steps xs b)) (andThen (placed (following a (λ b. gives (afterStep st b))) p at) (λ st₁. sheetMore s n st₁))
+    → ((b : Stack) → a ≡ gives b → SameAnswer (steps xs b) (sheetMore s n (afterStep st b) at))
+    → SameAnswer (following a (λ b. steps xs b)) (andThen (placed (following a (λ b. gives (afterStep st b))) p at) (λ st₁. sheetMore s n st₁))
 same-after s n xs st (gives b) p at k = k b refl
 same-after s n xs st (refuses j) p at k = (p, refl)
 

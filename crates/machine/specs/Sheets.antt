@@ -15,11 +15,11 @@ use Rattle.machine.specs.Run.{Answer, gives, refuses, aside, Stack, Stat
 use Rattle.machine.specs.Sheet.{sheetMore, sheetFrom, skimFrom, outcomeOf, sheetRun, skim}
 use Rattle.machine.specs.WellFormed.{Heights}
 use Rattle.machine.specs.StepsTook.{skim-took}
-use Rattle.machine.specs.SheetWorked.{Same, accepted-skims}
+use Rattle.machine.specs.SheetWorked.{SameAnswer, accepted-skims}
 use Rattle.machine.specs.StepsReads.{written-worked, written-skims}
 use Rattle.machine.specs.StepsWithin.{steps-within}
 
-same-aside : (a : Answer Stack) (r : Read (State Stack)) → Same a r → aside (mapped (λ st. reverse (st .stack)) (outcomeOf r)) ≡ bottomFirst a
+same-aside : (a : Answer Stack) (r : Read (State Stack)) → SameAnswer a r → aside (mapped (λ st. reverse (st .stack)) (outcomeOf r)) ≡ bottomFirst a
 same-aside (gives b) r (st, n, e, w) = rw (e, w)
 same-aside (refuses k) r (p, e) = rw e
 
@@ -33,7 +33,8 @@ pub accepted-steps : (s : List ℕ) → Bytes s → (ts : List Ty) → sheetRun 
 unfolding sheetRun sheetFrom skim skimFrom
 accepted-steps s small ts e = go (sheetMore s maxSteps (fresh []) 0) refl e
   where
-    go : (r : Read (State Stack)) → sheetMore s maxSteps (fresh []) 0 ≡ r → mapped (λ st. reverse (st .stack)) (outcomeOf r) ≡ accepted ts → (xs : List Step) × SheetOf s xs × (steps xs [] ≡ gives (reverse ts))
+    go : (r : Read (State Stack)) → sheetMore s maxSteps (fresh []) 0 ≡ r → mapped (λ st. reverse (st .stack)) (outcomeOf r) ≡ accepted ts
+        → (xs : List Step) × SheetOf s xs × (steps xs [] ≡ gives (reverse ts))
     go (stopped k p) h e = let z : _≡_ {A = ℕ} 0 1 = cc in absurd (omega arith)
     go (got st n) h e =
         let (xs, e₁, e₂) = accepted-skims s maxSteps (fresh []) st 0 n h in

@@ -78,8 +78,8 @@ lays aJoin = 1
 lays aValidating = 1
 
 -- The height that a step leaves of height h.
-abbrev pub leaves : Opcode → ℕ → ℕ
-leaves c h = h - takes c + lays c
+abbrev pub heightPast : Opcode → ℕ → ℕ
+heightPast c h = h - takes c + lays c
 
 -- ---- rules
 

@@ -15,13 +15,14 @@ use Rattle.format.specs.ReaderLaws.{drop-past, reads-give, reads-bind, reads-by
 use Rattle.format.specs.Records.{markBytes, isCount}
 use Rattle.format.specs.WriteRead.{write-read}
 use Rattle.machine.specs.SheetLimits.{maxStack}
-use Rattle.machine.specs.Steps.{Step, put, row, pervading, join, validating, Opcode, aPut, aRow, aPervading, aJoin, aValidating, opcodeOf, markOf, takes, leaves, flagByte, maxFlag, fillsTop, fillsBelow, argumentOf, writeArgument, writeStep, writeSteps, StepWithin}
+use Rattle.machine.specs.Steps.{Step, put, row, pervading, join, validating, Opcode, aPut, aRow, aPervading, aJoin, aValidating, opcodeOf, markOf, takes, heightPast}
+use Rattle.machine.specs.Steps.{flagByte, maxFlag, fillsTop, fillsBelow, argumentOf, writeArgument, writeStep, writeSteps, StepWithin}
 use Rattle.machine.specs.Run.{gives, refuses, Stack, ruleOf, State, afterStep, step, work, steps}
 use Rattle.machine.specs.Sheet.{placed, opcodeFrom, argumentFrom, stepFrom, workFrom, sheetMore, skimMore}
 use Rattle.machine.specs.WellFormed.{Heights}
 use Rattle.machine.specs.Ruled.{rule-takes, lays-one, ruled-lacks, ruled-full}
 use Rattle.machine.specs.Opcodes.{mark-two, takes-few, lays-few}
-use Rattle.machine.specs.SheetWorked.{Same, same-after, step-height, workAndMore}
+use Rattle.machine.specs.SheetWorked.{SameAnswer, same-after, step-height, workAndMore}
 use Rattle.machine.specs.SheetSteps.{toEnd-end, toEnd-more, work-rule}
 use Rattle.machine.specs.StepsTook.{stepAndMore}
 
@@ -56,12 +57,12 @@ module _ (s : List ℕ) where
   reads-argument join p h = reads-give
   reads-argument (validating spec) p h = reads-last _ (write-read s spec h) refl
 
-  reads-step : (x : Step) (h p : ℕ) → StepWithin x → takes (opcodeOf x) ≤ h → leaves (opcodeOf x) h ≤ maxStack → Reads s (stepFrom s h p) (writeStep x) x
+  reads-step : (x : Step) (h p : ℕ) → StepWithin x → takes (opcodeOf x) ≤ h → heightPast (opcodeOf x) h ≤ maxStack → Reads s (stepFrom s h p) (writeStep x) x
   unfolding stepFrom
   reads-step x h p w l r =
       reads-bind _ (reads-opcode (opcodeOf x) p)
       (reads-need (leb (takes (opcodeOf x)) h) underflow p (le-leb (takes (opcodeOf x)) h l)
-      (reads-need (leb (leaves (opcodeOf x) h) maxStack) overflow p (le-leb (leaves (opcodeOf x) h) maxStack r)
+      (reads-need (leb (heightPast (opcodeOf x) h) maxStack) overflow p (le-leb (heightPast (opcodeOf x) h) maxStack r)
       (reads-argument x p w)))
 
 -- ---- the stack
@@ -71,18 +72,18 @@ lacks : (x : Step) (st : Stack) → length st < takes (opcodeOf x) → step x st
 unfolding step
 lacks x st h = ruled-lacks (ruleOf x) st (omega (arith, rule-takes x))
 
-overfull : (x : Step) (st : Stack) → length st ≤ maxStack → takes (opcodeOf x) ≤ length st → maxStack < leaves (opcodeOf x) (length st) → step x st ≡ refuses overflow
+overfull : (x : Step) (st : Stack) → length st ≤ maxStack → takes (opcodeOf x) ≤ length st → maxStack < heightPast (opcodeOf x) (length st) → step x st ≡ refuses overflow
 unfolding step
 overfull x st h k l = ruled-full (ruleOf x) st h (omega (arith, rule-takes x)) (omega (arith, rule-takes x, lays-one (opcodeOf x)))
 
 -- what an accepted step leaves is not too high
 pub step-room : (x : Step) (st st₁ : Stack) → length st ≤ maxStack → step x st ≡ gives st₁ → length st₁ ≤ maxStack
-step-room x st st₁ h e = go (leb (takes (opcodeOf x)) (length st)) (leb (leaves (opcodeOf x) (length st)) maxStack) refl refl
+step-room x st st₁ h e = go (leb (takes (opcodeOf x)) (length st)) (leb (heightPast (opcodeOf x) (length st)) maxStack) refl refl
   where
-    go : (t u : Bool) → leb (takes (opcodeOf x)) (length st) ≡ t → leb (leaves (opcodeOf x) (length st)) maxStack ≡ u → length st₁ ≤ maxStack
+    go : (t u : Bool) → leb (takes (opcodeOf x)) (length st) ≡ t → leb (heightPast (opcodeOf x) (length st)) maxStack ≡ u → length st₁ ≤ maxStack
     go false u a b = let k = lacks x st (leb-false (takes (opcodeOf x)) (length st) a) in let z : _≡_ {A = ℕ} 0 1 = cc in absurd (omega arith)
-    go true false a b = let k = overfull x st h (leb-true (takes (opcodeOf x)) (length st) a) (leb-false (leaves (opcodeOf x) (length st)) maxStack b) in let z : _≡_ {A = ℕ} 0 1 = cc in absurd (omega arith)
-    go true true a b = rw (step-height x st st₁ e) (leb-true (leaves (opcodeOf x) (length st)) maxStack b)
+    go true false a b = let k = overfull x st h (leb-true (takes (opcodeOf x)) (length st) a) (leb-false (heightPast (opcodeOf x) (length st)) maxStack b) in let z : _≡_ {A = ℕ} 0 1 = cc in absurd (omega arith)
+    go true true a b = rw (step-height x st st₁ e) (leb-true (heightPast (opcodeOf x) (length st)) maxStack b)
 
 -- ---- all steps
 
@@ -94,7 +95,7 @@ module _ (s : List ℕ) where
   worked : (st : State Stack) (x : Step) (p at : ℕ) (rest : List ℕ) → length (st .stack) ≤ maxStack → StepWithin x → drop at s ≡ writeStep x ++ rest
       → workFrom s st p at ≡ placed (work x st) p (at + length (writeStep x))
   unfolding workFrom stepFrom
-  worked st x p at rest h w e = go (leb c h₀) (leb (leaves (opcodeOf x) h₀) maxStack) refl refl
+  worked st x p at rest h w e = go (leb c h₀) (leb (heightPast (opcodeOf x) h₀) maxStack) refl refl
     where
       -- what it takes, and the height
       c : ℕ
@@ -106,16 +107,16 @@ module _ (s : List ℕ) where
       e₁ : opcodeFrom s p at ≡ got (opcodeOf x) (at + length (markBytes (markOf (opcodeOf x))))
       e₁ = reads-opcode s (opcodeOf x) p .run at (writeArgument (argumentOf x) ++ rest) (e ∙ append-assoc (markBytes (markOf (opcodeOf x))) (writeArgument (argumentOf x)) rest)
 
-      go : (t u : Bool) → leb c h₀ ≡ t → leb (leaves (opcodeOf x) h₀) maxStack ≡ u → workFrom s st p at ≡ placed (work x st) p (at + length (writeStep x))
+      go : (t u : Bool) → leb c h₀ ≡ t → leb (heightPast (opcodeOf x) h₀) maxStack ≡ u → workFrom s st p at ≡ placed (work x st) p (at + length (writeStep x))
       go false u a b = rw (e₁, a, lacks x (st .stack) (leb-false c h₀ a))
-      go true false a b = rw (e₁, a, b, overfull x (st .stack) h (leb-true c h₀ a) (leb-false (leaves (opcodeOf x) h₀) maxStack b))
+      go true false a b = rw (e₁, a, b, overfull x (st .stack) h (leb-true c h₀ a) (leb-false (heightPast (opcodeOf x) h₀) maxStack b))
       go true true a b =
-          let r = reads-step s x h₀ p w (leb-true c h₀ a) (leb-true (leaves (opcodeOf x) h₀) maxStack b) .run at rest e in
+          let r = reads-step s x h₀ p w (leb-true c h₀ a) (leb-true (heightPast (opcodeOf x) h₀) maxStack b) .run at rest e in
           work-rule s st p at x (at + length (writeStep x)) r
 
   -- The bytes of a list of steps get what the steps get.
   pub written-worked : (xs : List Step) (st : State Stack) (most at : ℕ) → length xs ≤ most → length (st .stack) ≤ maxStack → All StepWithin xs → drop at s ≡ writeSteps xs
-      → Same (steps xs (st .stack)) (sheetMore s most st at)
+      → SameAnswer (steps xs (st .stack)) (sheetMore s most st at)
   unfolding writeSteps steps sheetMore
   written-worked [] st zero at l h w e = (st, at, toEnd-end s st (here (stop overflow)) at (omega (arith, length-drop at s, ap length e)), refl)
   written-worked [] st (suc most) at l h w e = (st, at, toEnd-end s st (workAndMore s most st) at (omega (arith, length-drop at s, ap length e)), refl)
@@ -133,7 +134,7 @@ module _ (s : List ℕ) where
   written-skims [] st (suc most) at l k w e = (at, toEnd-end s [] (stepAndMore s most st) at (omega (arith, length-drop at s, ap length e)))
   written-skims (x ∷ xs) st zero at l k w e = absurd (omega arith)
   written-skims (x ∷ xs) st (suc most) at l k w e =
-      let (n, r) = written-skims xs (afterStep st (leaves (opcodeOf x) (st .stack))) most (at + length (writeStep x)) (omega arith) (k .2) (w .1) (drop-past s at (writeStep x) (writeSteps xs) e) in
+      let (n, r) = written-skims xs (afterStep st (heightPast (opcodeOf x) (st .stack))) most (at + length (writeStep x)) (omega arith) (k .2) (w .1) (drop-past s at (writeStep x) (writeSteps xs) e) in
       (n, toEnd-more s [] (stepAndMore s most st) at (longer x at (writeSteps xs) e) ∙ rw (reads-step s x (st .stack) at (w .0) (k .0) (k .1) .run at (writeSteps xs) e, r))
 
 -- ---- steps are told by their bytes

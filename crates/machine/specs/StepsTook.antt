@@ -16,7 +16,8 @@ use Rattle.format.specs.Records.{Mark, mark, markBytes, isCount, orStop, readTy
 use Rattle.format.specs.ReadWrite.{read-write}
 use Rattle.format.specs.Outcome.{accepted}
 use Rattle.machine.specs.SheetLimits.{maxSteps, maxStack}
-use Rattle.machine.specs.Steps.{Step, Opcode, aPut, aRow, aPervading, aJoin, aValidating, opcodeOf, markOf, opcodes, takes, leaves, flagByte, maxFlag, fillsTop, fillsBelow, argumentOf, writeArgument, writeStep, writeSteps, StepWithin, SheetOf}
+use Rattle.machine.specs.Steps.{Step, Opcode, aPut, aRow, aPervading, aJoin, aValidating, opcodeOf, markOf, opcodes, takes, heightPast, flagByte, maxFlag, fillsTop}
+use Rattle.machine.specs.Steps.{fillsBelow, argumentOf, writeArgument, writeStep, writeSteps, StepWithin, SheetOf}
 use Rattle.machine.specs.Run.{State, fresh, afterStep}
 use Rattle.machine.specs.Sheet.{isMark, opcodeIn, opcodeFrom, argumentFrom, stepFrom, toEnd, skimMore, skimFrom, outcomeOf, skim}
 use Rattle.machine.specs.WellFormed.{Heights}
@@ -57,7 +58,7 @@ pub record Took-step (s : List ℕ) (h at : ℕ) (x : Step) (n : ℕ) : Type 0 w
   pub bytes : Took s at (writeStep x) n
   pub within : StepWithin x
   pub enough : takes (opcodeOf x) ≤ h
-  pub room : leaves (opcodeOf x) h ≤ maxStack
+  pub room : heightPast (opcodeOf x) h ≤ maxStack
 
 module _ (s : List ℕ) (small : Bytes s) where
   took-opcode : (p at : ℕ) (c : Opcode) (n : ℕ) → opcodeFrom s p at ≡ got c n → Took s at (markBytes (markOf c)) n
@@ -93,20 +94,21 @@ module _ (s : List ℕ) (small : Bytes s) where
   took-step h p at x n e =
       split (opcodeFrom s p at) e λ c m e₁ e₂.
       needed (leb (takes c) h) underflow p m _ e₂ λ u e₃.
-      needed (leb (leaves c h) maxStack) overflow p m _ e₃ λ v e₄.
+      needed (leb (heightPast c h) maxStack) overflow p m _ e₃ λ v e₄.
       let (same, took, within) = took-argument c p m x n e₄ in
       let start : Took s at (markBytes (markOf (opcodeOf x))) m = rw same (took-opcode p at c m e₁) in
       record {
         bytes = took-join start took;
         within = within;
         enough = rw same (leb-true (takes c) h u);
-        room = rw same (leb-true (leaves c h) maxStack v);
+        room = rw same (leb-true (heightPast c h) maxStack v);
       }
 
 -- ---- all steps
 
 -- Either the bytes ended, or more was read.
-pub ended-or : {A C : Type 0} (s : List ℕ) (a : A) (more : Reader A) (at : ℕ) {b : A} {n : ℕ} → toEnd s a more at ≡ got b n → (length s ≤ at → a ≡ b → at ≡ n → C) → (at < length s → more at ≡ got b n → C) → C
+pub ended-or : {A C : Type 0} (s : List ℕ) (a : A) (more : Reader A) (at : ℕ) {b : A} {n : ℕ} → toEnd s a more at ≡ got b n
+    → (length s ≤ at → a ≡ b → at ≡ n → C) → (at < length s → more at ≡ got b n → C) → C
 ended-or {A = A} {C = C} s a more at {b} {n} e k l = go (ltb at (length s)) refl e
   where
     go : (t : Bool) → ltb at (length s) ≡ t → cond t (more at) (got a at) ≡ got b n → C
@@ -117,7 +119,7 @@ ended-or {A = A} {C = C} s a more at {b} {n} e k l = go (ltb at (length s)) refl
 abbrev pub stepAndMore : List ℕ → ℕ → State ℕ → Reader (List Step)
 stepAndMore s most st = do
   x ← here (stepFrom s (st .stack))
-  xs ← skimMore s most (afterStep st (leaves (opcodeOf x) (st .stack)))
+  xs ← skimMore s most (afterStep st (heightPast (opcodeOf x) (st .stack)))
   give (x ∷ xs)
 
 -- What is known of steps that were read from height h on to the end.
@@ -126,31 +128,31 @@ pub record Took-steps (s : List ℕ) (most h at : ℕ) (xs : List Step) (n : ℕ
   pub within : All StepWithin xs
   pub heights : Heights xs h
   pub few : length xs ≤ most
-  pub ended : length s ≤ n
+  pub to-end : length s ≤ n
 
 module _ (s : List ℕ) (small : Bytes s) where
   pub took-steps : (most : ℕ) (st : State ℕ) (at : ℕ) (xs : List Step) (n : ℕ) → skimMore s most st at ≡ got xs n → Took-steps s most (st .stack) at xs n
   unfolding skimMore writeSteps
   took-steps zero st at xs n e =
       ended-or s [] (here (stop overflow)) at e
-      (λ end x y. rw (← x, ← y) record { bytes = took-none; within = tt; heights = tt; few = omega arith; ended = end })
+      (λ end x y. rw (← x, ← y) record { bytes = took-none; within = tt; heights = tt; few = omega arith; to-end = end })
       (λ _ e₁. let z : _≡_ {A = ℕ} 0 1 = cc in absurd (omega arith))
   took-steps (suc most) st at xs n e =
       ended-or s [] (stepAndMore s most st) at e
-      (λ end x y. rw (← x, ← y) record { bytes = took-none; within = tt; heights = tt; few = omega arith; ended = end })
+      (λ end x y. rw (← x, ← y) record { bytes = took-none; within = tt; heights = tt; few = omega arith; to-end = end })
       (λ _ e₁.
       split (stepFrom s (st .stack) at at) e₁ λ x m e₂ e₃.
-      split (skimMore s most (afterStep st (leaves (opcodeOf x) (st .stack))) m) e₃ λ ys n′ e₄ e₅.
+      split (skimMore s most (afterStep st (heightPast (opcodeOf x) (st .stack))) m) e₃ λ ys n′ e₄ e₅.
       gave e₅ λ w y.
       let k = took-step s small (st .stack) at at x m e₂ in
-      let r = took-steps most (afterStep st (leaves (opcodeOf x) (st .stack))) m ys n′ e₄ in
+      let r = took-steps most (afterStep st (heightPast (opcodeOf x) (st .stack))) m ys n′ e₄ in
       let few = r .few in
       rw (← w, ← y) record {
         bytes = took-join (k .bytes) (r .bytes);
         within = (k .within, r .within);
         heights = (k .enough, k .room, r .heights);
         few = omega arith;
-        ended = r .ended;
+        to-end = r .to-end;
       })
 
 -- Steps that were read to the end are all of the bytes.
@@ -163,4 +165,4 @@ skim-took s small xs e = go (skimMore s maxSteps (fresh 0) 0) refl e
     go (got ys n) h e =
         let w : ys ≡ xs = cc in
         let t = took-steps s small maxSteps (fresh 0) 0 ys n h in
-        rw (← w) (record { bytes = t .bytes .is ∙ rw (drop-of-length-le s (t .ended), append-nil); within = t .within; few = t .few }, t .heights)
+        rw (← w) (record { bytes = t .bytes .is ∙ rw (drop-of-length-le s (t .to-end), append-nil); within = t .within; few = t .few }, t .heights)

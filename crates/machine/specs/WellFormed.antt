@@ -6,7 +6,7 @@ use mathlib.Core.Path.{_≡_}
 use lib.ListN.{length}
 use Rattle.format.specs.Outcome.{accepted}
 use Rattle.machine.specs.SheetLimits.{maxStack, scratchBytes, resultBytes}
-use Rattle.machine.specs.Steps.{Step, opcodeOf, takes, leaves}
+use Rattle.machine.specs.Steps.{Step, opcodeOf, takes, heightPast}
 use Rattle.machine.specs.Sheet.{skim}
 
 -- The term well-formed, of a sheet's bytes and of the two buffers, with the steps that the reading gives: the reading's own
@@ -19,7 +19,7 @@ pub record WellFormed (s result scratch : List ℕ) (xs : List Step) : Type 0 wh
 -- The height that steps leave of height h; from the empty stack, the number of types left.
 abbrev pub heightAfter : List Step → ℕ → ℕ
 heightAfter [] h = h
-heightAfter (x ∷ xs) h = heightAfter xs (leaves (opcodeOf x) h)
+heightAfter (x ∷ xs) h = heightAfter xs (heightPast (opcodeOf x) h)
 
 abbrev pub typesLeft : List Step → ℕ
 typesLeft xs = heightAfter xs 0
@@ -27,4 +27,4 @@ typesLeft xs = heightAfter xs 0
 -- No step lacks types or lays down one too many, from height h on.
 abbrev pub Heights : List Step → ℕ → Type 0
 Heights [] h = Unit {0}
-Heights (x ∷ xs) h = (takes (opcodeOf x) ≤ h) × (leaves (opcodeOf x) h ≤ maxStack) × Heights xs (leaves (opcodeOf x) h)
+Heights (x ∷ xs) h = (takes (opcodeOf x) ≤ h) × (heightPast (opcodeOf x) h ≤ maxStack) × Heights xs (heightPast (opcodeOf x) h)

@@ -22,8 +22,8 @@ pub data Named : Type 0 where
 pub data Cell : Type 0 where
   cell : Bool → Bool → Named → Cell
 
-abbrev pub named : Cell → Named
-named (cell a b x) = x
+abbrev pub namedIn : Cell → Named
+namedIn (cell a b x) = x
 
 abbrev pub onlyIf : Bool → ℕ → Named
 onlyIf true m = only m
@@ -52,7 +52,7 @@ cellOf (some (static m)) = cellStatic (eqb m 1) m
 -- of a real size
 abbrev pub namedBy : Option ℕ → Named
 namedBy none = unnamed
-namedBy (some m) = named (cellStatic (eqb m 1) m)
+namedBy (some m) = namedIn (cellStatic (eqb m 1) m)
 
 -- ---- laws
 
@@ -113,17 +113,17 @@ joinCell-comm (cell a b x) (cell c d y) = rw (or-comm a c, or-comm b d, joinName
 pub joinCell-assoc : (x y z : Cell) → joinCell (joinCell x y) z ≡ joinCell x (joinCell y z)
 joinCell-assoc (cell a b x) (cell c d y) (cell e i z) = rw (or-assoc a c e, or-assoc b d i, joinNamed-assoc x y z)
 
-pub named-join : (x y : Cell) → named (joinCell x y) ≡ joinNamed (named x) (named y)
+pub named-join : (x y : Cell) → namedIn (joinCell x y) ≡ joinNamed (namedIn x) (namedIn y)
 named-join (cell a b x) (cell c d y) = refl
 
 -- ---- what a cell says
 
 -- One size never differs from itself.
-static-sure : (t : Bool) (m : ℕ) → named (cellStatic t m) ≡ differ → ⊥
+static-sure : (t : Bool) (m : ℕ) → namedIn (cellStatic t m) ≡ differ → ⊥
 static-sure true m h = let w : _≡_ {A = ℕ} 0 1 = cc in omega arith
 static-sure false m h = let w : _≡_ {A = ℕ} 0 1 = cc in omega arith
 
-pub cell-sure : (d : Option Dim) → named (cellOf d) ≡ differ → ⊥
+pub cell-sure : (d : Option Dim) → namedIn (cellOf d) ≡ differ → ⊥
 cell-sure none h = let w : _≡_ {A = ℕ} 0 1 = cc in omega arith
 cell-sure (some unknown) h = let w : _≡_ {A = ℕ} 0 1 = cc in omega arith
 cell-sure (some (static m)) h = static-sure (eqb m 1) m h

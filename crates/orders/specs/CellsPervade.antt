@@ -12,7 +12,7 @@ use Rattle.model.specs.Types.{Dim, static, unknown}
 use Rattle.rules.specs.Pervade.{againstAbsent, together, Pervaded, sizes, clash, thenRest, pervadeDims}
 use Rattle.rules.specs.PervadeLaws.{together-unknown, together-unfilled, together-comm, thenRest-sizes}
 use Rattle.machine.specs.Real.{RealShape, realDim, consBoth, realPervade}
-use Rattle.orders.specs.Cells.{unnamed, differ, cell, named, joinNamed, joinCell, cellStatic, cellOf, namedBy, joinNamed-comm, joinCell-comm}
+use Rattle.orders.specs.Cells.{unnamed, differ, cell, namedIn, joinNamed, joinCell, cellStatic, cellOf, namedBy, joinNamed-comm, joinCell-comm}
 use Rattle.holding.specs.PervadeHolds.{consBoth-some}
 
 -- ---- pervading joins cells
@@ -38,7 +38,8 @@ cell-unknown (static m) = go (eqb m 1)
 cell-statics : (m n : ℕ) (x : Dim) → together false false (static m) (static n) ≡ some x → cellOf (some x) ≡ joinCell (cellOf (some (static m))) (cellOf (some (static n)))
 cell-statics m n x e = go (eqb m 1) (eqb n 1) (eqb m n) refl refl refl (sym (together-unfilled m n) ∙ e)
   where
-    go : (t u v : Bool) → eqb m 1 ≡ t → eqb n 1 ≡ u → eqb m n ≡ v → cond t (some (static n)) (cond u (some (static m)) (cond v (some (static m)) none)) ≡ some x → cellOf (some x) ≡ joinCell (cellStatic t m) (cellStatic u n)
+    go : (t u v : Bool) → eqb m 1 ≡ t → eqb n 1 ≡ u → eqb m n ≡ v → cond t (some (static n)) (cond u (some (static m)) (cond v (some (static m)) none)) ≡ some x
+        → cellOf (some x) ≡ joinCell (cellStatic t m) (cellStatic u n)
     go true true v j k l h = let w : static n ≡ x = cc in rw (← w, k)
     go true false v j k l h = let w : static n ≡ x = cc in rw (← w, k)
     go false true v j k l h = let w : static m ≡ x = cc in rw (← w, j)
@@ -78,16 +79,16 @@ cell-pervade (d ∷ o) (f ∷ p) x e (suc i) =
 
 -- ---- and is refused only where two sizes differ
 
-differ-statics : (m n : ℕ) → together false false (static m) (static n) ≡ none → named (joinCell (cellOf (some (static m))) (cellOf (some (static n)))) ≡ differ
+differ-statics : (m n : ℕ) → together false false (static m) (static n) ≡ none → namedIn (joinCell (cellOf (some (static m))) (cellOf (some (static n)))) ≡ differ
 differ-statics m n e = go (eqb m 1) (eqb n 1) (eqb m n) refl (sym (together-unfilled m n) ∙ e)
   where
-    go : (t u v : Bool) → eqb m n ≡ v → cond t (some (static n)) (cond u (some (static m)) (cond v (some (static m)) none)) ≡ none → named (joinCell (cellStatic t m) (cellStatic u n)) ≡ differ
+    go : (t u v : Bool) → eqb m n ≡ v → cond t (some (static n)) (cond u (some (static m)) (cond v (some (static m)) none)) ≡ none → namedIn (joinCell (cellStatic t m) (cellStatic u n)) ≡ differ
     go true u v l h = let w : _≡_ {A = ℕ} 0 1 = cc in absurd (omega arith)
     go false true v l h = let w : _≡_ {A = ℕ} 0 1 = cc in absurd (omega arith)
     go false false true l h = let w : _≡_ {A = ℕ} 0 1 = cc in absurd (omega arith)
     go false false false l h = rw l
 
-differ-together : (d e : Dim) → together false false d e ≡ none → named (joinCell (cellOf (some d)) (cellOf (some e))) ≡ differ
+differ-together : (d e : Dim) → together false false d e ≡ none → namedIn (joinCell (cellOf (some d)) (cellOf (some e))) ≡ differ
 differ-together unknown e h = let v = together-unknown false false e in let w : _≡_ {A = ℕ} 0 1 = cc in absurd (omega arith)
 differ-together (static m) unknown h =
     let v = together-unknown false false (static m) in
@@ -100,7 +101,7 @@ thenRest-clash none r e k l = k refl (cc)
 thenRest-clash (some d) (sizes y) e k l = let z : _≡_ {A = ℕ} 0 1 = cc in absurd (omega arith)
 thenRest-clash (some d) (clash j) e k l = l j refl (cc)
 
-pub differ-pervade : (o p : List Dim) (i : ℕ) → pervadeDims false false o p ≡ clash i → named (joinCell (cellOf (getElem? o i)) (cellOf (getElem? p i))) ≡ differ
+pub differ-pervade : (o p : List Dim) (i : ℕ) → pervadeDims false false o p ≡ clash i → namedIn (joinCell (cellOf (getElem? o i)) (cellOf (getElem? p i))) ≡ differ
 unfolding pervadeDims
 differ-pervade [] [] i e = let z : _≡_ {A = ℕ} 0 1 = cc in absurd (omega arith)
 differ-pervade [] (d ∷ p) i e =
@@ -121,7 +122,8 @@ differ-pervade (d ∷ o) (f ∷ p) i e =
 named-realDim : (m n z : ℕ) → realDim m n ≡ some z → namedBy (some z) ≡ joinNamed (namedBy (some m)) (namedBy (some n))
 named-realDim m n z h = go (eqb m 1) (eqb n 1) (eqb m n) refl refl refl h
   where
-    go : (t u v : Bool) → eqb m 1 ≡ t → eqb n 1 ≡ u → eqb m n ≡ v → cond t (some n) (cond u (some m) (cond v (some m) none)) ≡ some z → namedBy (some z) ≡ joinNamed (named (cellStatic t m)) (named (cellStatic u n))
+    go : (t u v : Bool) → eqb m 1 ≡ t → eqb n 1 ≡ u → eqb m n ≡ v → cond t (some n) (cond u (some m) (cond v (some m) none)) ≡ some z
+        → namedBy (some z) ≡ joinNamed (namedIn (cellStatic t m)) (namedIn (cellStatic u n))
     go true u v j k l h = let w : n ≡ z = cc in rw (← w, k)
     go false true v j k l h = let w : m ≡ z = cc in rw (← w, j)
     go false false true j k l h = let w : m ≡ z = cc in rw (← w, j, l)
@@ -130,7 +132,7 @@ named-realDim m n z h = go (eqb m 1) (eqb n 1) (eqb m n) refl refl refl h
 differ-realDim : (m n : ℕ) → realDim m n ≡ none → joinNamed (namedBy (some m)) (namedBy (some n)) ≡ differ
 differ-realDim m n h = go (eqb m 1) (eqb n 1) (eqb m n) refl h
   where
-    go : (t u v : Bool) → eqb m n ≡ v → cond t (some n) (cond u (some m) (cond v (some m) none)) ≡ none → joinNamed (named (cellStatic t m)) (named (cellStatic u n)) ≡ differ
+    go : (t u v : Bool) → eqb m n ≡ v → cond t (some n) (cond u (some m) (cond v (some m) none)) ≡ none → joinNamed (namedIn (cellStatic t m)) (namedIn (cellStatic u n)) ≡ differ
     go true u v l h = let w : _≡_ {A = ℕ} 0 1 = cc in absurd (omega arith)
     go false true v l h = let w : _≡_ {A = ℕ} 0 1 = cc in absurd (omega arith)
     go false false true l h = let w : _≡_ {A = ℕ} 0 1 = cc in absurd (omega arith)

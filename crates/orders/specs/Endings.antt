@@ -15,13 +15,13 @@ use Rattle.orders.specs.Asked.{closingOf}
 -- ---- endings
 
 -- Which lists of closing sizes are named: none, this one, two, or more.
-pub data Lists : Type 0 where
-  noList : Lists
-  oneList : Dim → List Dim → Lists
-  twoLists : Lists
-  moreLists : Lists
+pub data ClosingLists : Type 0 where
+  noList : ClosingLists
+  oneList : Dim → List Dim → ClosingLists
+  twoLists : ClosingLists
+  moreLists : ClosingLists
 
-abbrev addLists : Lists → Lists → Lists
+abbrev addLists : ClosingLists → ClosingLists → ClosingLists
 addLists noList y = y
 addLists (oneList d c) noList = oneList d c
 addLists (oneList d c) (oneList e k) = twoLists
@@ -35,7 +35,7 @@ addLists moreLists y = moreLists
 
 -- Whether any is open, and which lists are named.
 pub data Ending : Type 0 where
-  ending : Bool → Lists → Ending
+  ending : Bool → ClosingLists → Ending
 
 abbrev pub addEnding : Ending → Ending → Ending
 addEnding (ending a x) (ending b y) = ending (a || b) (addLists x y)
@@ -43,7 +43,7 @@ addEnding (ending a x) (ending b y) = ending (a || b) (addLists x y)
 abbrev pub noEnding : Ending
 noEnding = ending false noList
 
-abbrev listsIn : Option (List Dim) → Lists
+abbrev listsIn : Option (List Dim) → ClosingLists
 listsIn none = noList
 listsIn (some []) = noList
 listsIn (some (d ∷ c)) = oneList d c
@@ -52,7 +52,7 @@ abbrev pub endingOf : Shape → Ending
 endingOf s = ending (isOpen (closingOf s)) (listsIn (closingOf s))
 
 -- the closing sizes that an ending tells
-abbrev closeLists : Lists → Bool → Option (List Dim)
+abbrev closeLists : ClosingLists → Bool → Option (List Dim)
 closeLists noList false = none
 closeLists noList true = some []
 closeLists (oneList d c) a = some (d ∷ c)
@@ -64,7 +64,7 @@ close (ending a x) = closeLists x a
 
 -- ---- laws
 
-lists-comm : (x y : Lists) → addLists x y ≡ addLists y x
+lists-comm : (x y : ClosingLists) → addLists x y ≡ addLists y x
 lists-comm noList noList = refl
 lists-comm noList (oneList e k) = refl
 lists-comm noList twoLists = refl
@@ -83,13 +83,13 @@ lists-comm moreLists twoLists = refl
 lists-comm moreLists moreLists = refl
 
 -- two or more, and one more
-lists-full : (x : Lists) (d : Dim) (c : List Dim) → addLists twoLists (addLists (oneList d c) x) ≡ moreLists
+lists-full : (x : ClosingLists) (d : Dim) (c : List Dim) → addLists twoLists (addLists (oneList d c) x) ≡ moreLists
 lists-full noList d c = refl
 lists-full (oneList e k) d c = refl
 lists-full twoLists d c = refl
 lists-full moreLists d c = refl
 
-lists-assoc : (x y z : Lists) → addLists (addLists x y) z ≡ addLists x (addLists y z)
+lists-assoc : (x y z : ClosingLists) → addLists (addLists x y) z ≡ addLists x (addLists y z)
 lists-assoc noList y z = refl
 lists-assoc (oneList d c) noList z = refl
 lists-assoc (oneList d c) (oneList e k) noList = refl
@@ -124,7 +124,7 @@ ending-commutes = record { unital = ending-unital; comm = ending-comm; assoc = e
 
 -- ---- how many lists are named, counted up to three
 
-abbrev howMany : Lists → ℕ
+abbrev howMany : ClosingLists → ℕ
 howMany noList = 0
 howMany (oneList d c) = 1
 howMany twoLists = 2
@@ -133,7 +133,7 @@ howMany moreLists = 3
 abbrev pub endings : Ending → ℕ
 endings (ending a x) = howMany x
 
-many-add : (x y : Lists) → howMany (addLists x y) ≡ min 3 (howMany x + howMany y)
+many-add : (x y : ClosingLists) → howMany (addLists x y) ≡ min 3 (howMany x + howMany y)
 many-add noList noList = refl
 many-add noList (oneList e k) = refl
 many-add noList twoLists = refl
@@ -158,7 +158,7 @@ close-of none = refl
 close-of (some []) = refl
 close-of (some (d ∷ c)) = refl
 
-close-lists : (x y : Lists) (a b : Bool) → howMany (addLists x y) ≤ 2 → pervadeClosing (closeLists x a) (closeLists y b) ≡ closeLists (addLists x y) (a || b)
+close-lists : (x y : ClosingLists) (a b : Bool) → howMany (addLists x y) ≤ 2 → pervadeClosing (closeLists x a) (closeLists y b) ≡ closeLists (addLists x y) (a || b)
 unfolding pervadeClosing
 close-lists noList noList false b h = refl
 close-lists noList noList true false h = refl

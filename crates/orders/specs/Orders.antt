@@ -13,11 +13,11 @@ use Rattle.rules.specs.OrderLaws.{compare-refl, compare-same}
 use Rattle.machine.specs.Steps.{Step}
 use Rattle.machine.specs.Run.{gives, refuses, steps}
 use Rattle.machine.specs.Conditions.{namesClosing, puts, isSame, sameType, SamePuts, countClosing}
-use Rattle.orders.specs.Cells.{named, cells-same}
-use Rattle.orders.specs.Play.{Commutes, gather, laid}
+use Rattle.orders.specs.Cells.{namedIn, cells-same}
+use Rattle.orders.specs.Play.{Commutes, gather, laidDown}
 use Rattle.orders.specs.PlaySteps.{moves, laid-moves}
 use Rattle.orders.specs.Asked.{cell-commutes, openingOf, closingOf, cellAt, said, asked, asked-said}
-use Rattle.orders.specs.Verdicts.{Pervadings, Checked, agrees, differs, checked, agreed}
+use Rattle.orders.specs.Verdicts.{Pervadings, Gathered, agrees, differs, gathered, agreed}
 use Rattle.orders.specs.Endings.{endingOf, close, ending-commutes, endings, endings-add}
 use Rattle.orders.specs.EndingsPlay.{endingsOf, closing-told}
 use Rattle.orders.specs.Counting.{gather-counts}
@@ -39,7 +39,8 @@ gather-map : {A B M : Type 0} (unit : M) (plus : M → M → M) (value : B → M
 gather-map unit plus value f [] = refl
 gather-map unit plus value f (a ∷ l) = ap (plus (value (f a))) (gather-map unit plus value f l)
 
-pub gather-puts : {M : Type 0} {unit : M} {plus : M → M → M} (laws : Commutes unit plus) (value : Shape → M) (xs ys : List Step) → SamePuts xs ys → gather unit plus value (laid (moves xs)) ≡ gather unit plus value (laid (moves ys))
+pub gather-puts : {M : Type 0} {unit : M} {plus : M → M → M} (laws : Commutes unit plus) (value : Shape → M) (xs ys : List Step) → SamePuts xs ys
+    → gather unit plus value (laidDown (moves xs)) ≡ gather unit plus value (laidDown (moves ys))
 gather-puts {unit = unit} {plus = plus} laws value xs ys h =
     rw (laid-moves xs, laid-moves ys, gather-map unit plus value shapeOf (puts xs), gather-map unit plus value shapeOf (puts ys))
     (gather-counts sameType sameType-refl sameType-true laws (λ t. value (shapeOf t)) (puts xs) (puts ys) h)
@@ -47,16 +48,16 @@ gather-puts {unit = unit} {plus = plus} laws value xs ys h =
 -- ---- the same verdict
 
 module _ (xs ys : List Step) (same-puts : SamePuts xs ys) where
-  said-same : (i : ℕ) → said i (laid (moves xs)) ≡ said i (laid (moves ys))
+  said-same : (i : ℕ) → said i (laidDown (moves xs)) ≡ said i (laidDown (moves ys))
   said-same i = gather-puts cell-commutes (cellAt i) xs ys same-puts
 
-  pub asked-same : (i : ℕ) → asked i (laid (moves xs)) ≡ asked i (laid (moves ys))
-  asked-same i = asked-said i (laid (moves xs)) ∙ ap named (said-same i) ∙ sym (asked-said i (laid (moves ys)))
+  pub asked-same : (i : ℕ) → asked i (laidDown (moves xs)) ≡ asked i (laidDown (moves ys))
+  asked-same i = asked-said i (laidDown (moves xs)) ∙ ap namedIn (said-same i) ∙ sym (asked-said i (laidDown (moves ys)))
 
   pub order-mismatch : Pervadings xs → Pervadings ys → steps xs [] ≡ refuses unpervaded → steps ys [] ≡ refuses unpervaded
-  order-mismatch p q e = go (checked xs p) (checked ys q)
+  order-mismatch p q e = go (gathered xs p) (gathered ys q)
     where
-      go : Checked xs → Checked ys → steps ys [] ≡ refuses unpervaded
+      go : Gathered xs → Gathered ys → steps ys [] ≡ refuses unpervaded
       go (agrees t f a w) c = let z : _≡_ {A = ℕ} 0 1 = cc in absurd (omega arith)
       go (differs i f w) (differs j g v) = g
       go (differs i f w) (agrees u g b v) = absurd (agreed ys u v i (sym (asked-same i) ∙ w))
@@ -79,16 +80,17 @@ few-endings (t ∷ l) =
 shape-parts : (s t : Shape) → openingOf s ≡ openingOf t → closingOf s ≡ closingOf t → s ≡ t
 shape-parts (shape o c) (shape p d) e f = rw (e, f)
 
-pub order-shape : (xs ys : List Step) → SamePuts xs ys → Pervadings xs → Pervadings ys → countClosing (puts xs) ≤ 2 → (t u : Ty) → steps xs [] ≡ gives (t ∷ []) → steps ys [] ≡ gives (u ∷ []) → shapeOf t ≡ shapeOf u
-order-shape xs ys h p q n t u e f = go (checked xs p) (checked ys q)
+pub order-shape : (xs ys : List Step) → SamePuts xs ys → Pervadings xs → Pervadings ys → countClosing (puts xs) ≤ 2 → (t u : Ty) → steps xs [] ≡ gives (t ∷ [])
+    → steps ys [] ≡ gives (u ∷ []) → shapeOf t ≡ shapeOf u
+order-shape xs ys h p q n t u e f = go (gathered xs p) (gathered ys q)
   where
-    same-endings : endingsOf (laid (moves xs)) ≡ endingsOf (laid (moves ys))
+    same-endings : endingsOf (laidDown (moves xs)) ≡ endingsOf (laidDown (moves ys))
     same-endings = gather-puts ending-commutes endingOf xs ys h
 
-    few : endings (endingsOf (laid (moves xs))) ≤ 2
+    few : endings (endingsOf (laidDown (moves xs))) ≤ 2
     few = rw (laid-moves xs) (omega (arith, few-endings (puts xs)))
 
-    go : Checked xs → Checked ys → shapeOf t ≡ shapeOf u
+    go : Gathered xs → Gathered ys → shapeOf t ≡ shapeOf u
     go (differs i e′ w) c = let z : _≡_ {A = ℕ} 0 1 = cc in absurd (omega arith)
     go (agrees t′ e′ a w) (differs i f′ v) = let z : _≡_ {A = ℕ} 0 1 = cc in absurd (omega arith)
     go (agrees t′ e′ a w) (agrees u′ f′ b v) =

@@ -12,10 +12,10 @@ pub data Move (A : Type 0) : Type 0 where
   lay : A → Move A
   mix : Move A
 
-abbrev pub laid : {A : Type 0} → List (Move A) → List A
-laid [] = []
-laid (lay a ∷ ms) = a ∷ laid ms
-laid (mix ∷ ms) = laid ms
+abbrev pub laidDown : {A : Type 0} → List (Move A) → List A
+laidDown [] = []
+laidDown (lay a ∷ ms) = a ∷ laidDown ms
+laidDown (mix ∷ ms) = laidDown ms
 
 -- the height is enough for each move, and the height left
 abbrev pub Enough : {A : Type 0} → List (Move A) → ℕ → Type 0
@@ -70,15 +70,16 @@ module _ {A M : Type 0} {unit : M} {plus : M → M → M} (laws : Commutes unit 
   pub past-first : (x y z : M) → plus (plus x y) z ≡ plus y (plus x z)
   past-first x y z = ap (λ w. plus w z) (laws .comm x y) ∙ laws .assoc y x z
 
-  pub gather-play : (rule : A → A → Option A) → ((a b c : A) → rule a b ≡ some c → value c ≡ plus (value a) (value b)) → (ms : List (Move A)) (st z : List A) → play rule ms st ≡ some z → all z ≡ plus (all st) (all (laid ms))
+  pub gather-play : (rule : A → A → Option A) → ((a b c : A) → rule a b ≡ some c → value c ≡ plus (value a) (value b)) → (ms : List (Move A)) (st z : List A)
+      → play rule ms st ≡ some z → all z ≡ plus (all st) (all (laidDown ms))
   unfolding play
   gather-play rule joins [] st z e = let w : st ≡ z = cc in rw (← w) (sym (laws .comm (all st) unit ∙ laws .unital (all st)))
-  gather-play rule joins (lay a ∷ ms) st z e = gather-play rule joins ms (a ∷ st) z e ∙ past-first (value a) (all st) (all (laid ms))
+  gather-play rule joins (lay a ∷ ms) st z e = gather-play rule joins ms (a ∷ st) z e ∙ past-first (value a) (all st) (all (laidDown ms))
   gather-play rule joins (mix ∷ ms) [] z e = let z : _≡_ {A = ℕ} 0 1 = cc in absurd (omega arith)
   gather-play rule joins (mix ∷ ms) (a ∷ []) z e = let z : _≡_ {A = ℕ} 0 1 = cc in absurd (omega arith)
   gather-play rule joins (mix ∷ ms) (a ∷ b ∷ st) z e =
       mixed-some rule (rule a b) e λ c e₁ e₂.
-      gather-play rule joins ms (c ∷ st) z e₂ ∙ ap (λ w. plus w (all (laid ms))) (rw (joins a b c e₁) (laws .assoc (value a) (value b) (all st)))
+      gather-play rule joins ms (c ∷ st) z e₂ ∙ ap (λ w. plus w (all (laidDown ms))) (rw (joins a b c e₁) (laws .assoc (value a) (value b) (all st)))
 
 -- A rule whose value at each index is gathered from the two, and that refuses only where they gather to what absorbs all.
 pub record Joins {A M : Type 0} (plus : M → M → M) (value : ℕ → A → M) (bad : M) (rule : A → A → Option A) : Type 0 where
@@ -90,44 +91,48 @@ module _ {A M : Type 0} {unit : M} {plus : M → M → M} (laws : Commutes unit 
   abbrev at-index : ℕ → List A → M
   at-index i l = gather unit plus (value i) l
 
-  pub play-none : (ms : List (Move A)) (st : List A) → Enough ms (length st) → play rule ms st ≡ none → (i : ℕ) × (plus (at-index i st) (at-index i (laid ms)) ≡ bad)
+  pub play-none : (ms : List (Move A)) (st : List A) → Enough ms (length st) → play rule ms st ≡ none → (i : ℕ) × (plus (at-index i st) (at-index i (laidDown ms)) ≡ bad)
   unfolding play
   play-none [] st h e = let z : _≡_ {A = ℕ} 0 1 = cc in absurd (omega arith)
   play-none (lay a ∷ ms) st h e =
       let (i, w) = play-none ms (a ∷ st) h e in
-      (i, sym (past-first laws (value i) (value i a) (at-index i st) (at-index i (laid ms))) ∙ w)
+      (i, sym (past-first laws (value i) (value i a) (at-index i st) (at-index i (laidDown ms))) ∙ w)
   play-none (mix ∷ ms) [] h e = absurd (omega (arith, h .0))
   play-none (mix ∷ ms) (a ∷ []) h e = absurd (omega (arith, h .0))
   play-none (mix ∷ ms) (a ∷ b ∷ st) h e = go (rule a b) refl e (λ c k. play-none ms (c ∷ st) k)
     where
       -- gathered from these on top
-      Found : M → ℕ → Type 0
-      Found x i = plus x (at-index i (laid ms)) ≡ bad
+      Spoilt : M → ℕ → Type 0
+      Spoilt x i = plus x (at-index i (laidDown ms)) ≡ bad
 
       regroup : (i : ℕ) → plus (value i a) (plus (value i b) (at-index i st)) ≡ plus (plus (value i a) (value i b)) (at-index i st)
       regroup i = sym (laws .assoc (value i a) (value i b) (at-index i st))
 
-      go : (o : Option A) → rule a b ≡ o → mixed rule o (λ c. play rule ms (c ∷ st)) ≡ none → ((c : A) → Enough ms (suc (length st)) → play rule ms (c ∷ st) ≡ none → (i : ℕ) × Found (plus (value i c) (at-index i st)) i) → (i : ℕ) × Found (plus (value i a) (plus (value i b) (at-index i st))) i
+      go : (o : Option A) → rule a b ≡ o → mixed rule o (λ c. play rule ms (c ∷ st)) ≡ none
+          → ((c : A) → Enough ms (suc (length st)) → play rule ms (c ∷ st) ≡ none → (i : ℕ) × Spoilt (plus (value i c) (at-index i st)) i)
+          → (i : ℕ) × Spoilt (plus (value i a) (plus (value i b) (at-index i st))) i
       go none o e k =
           let (i, w) = r .refuses a b o in
-          (i, rw (regroup i, w, r .absorbs (at-index i st)) (r .absorbs (at-index i (laid ms))))
+          (i, rw (regroup i, w, r .absorbs (at-index i st)) (r .absorbs (at-index i (laidDown ms))))
       go (some c) o e k = onward (k c (rw n at (h .1)) e)
         where
           n : suc (suc (length st)) - 1 ≡ suc (length st)
           n = omega arith
 
-          onward : (i : ℕ) × Found (plus (value i c) (at-index i st)) i → (i : ℕ) × Found (plus (value i a) (plus (value i b) (at-index i st))) i
+          onward : (i : ℕ) × Spoilt (plus (value i c) (at-index i st)) i → (i : ℕ) × Spoilt (plus (value i a) (plus (value i b) (at-index i st))) i
           onward (i, w) = (i, rw (regroup i, ← r .joins i a b c o) w)
 
   -- Moves that leave one value: refused, and what absorbs all was gathered somewhere; or that value is what was gathered.
-  pub play-one : {C : Type 0} (ms : List (Move A)) → Enough ms 0 → heightLeft ms 0 ≡ 1 → (play rule ms [] ≡ none → (i : ℕ) × (at-index i (laid ms) ≡ bad) → C) → ((a : A) → play rule ms [] ≡ some (a ∷ []) → ((i : ℕ) → value i a ≡ at-index i (laid ms)) → C) → C
+  pub play-one : {C : Type 0} (ms : List (Move A)) → Enough ms 0 → heightLeft ms 0 ≡ 1
+      → (play rule ms [] ≡ none → (i : ℕ) × (at-index i (laidDown ms) ≡ bad) → C)
+      → ((a : A) → play rule ms [] ≡ some (a ∷ []) → ((i : ℕ) → value i a ≡ at-index i (laidDown ms)) → C) → C
   play-one {C = C} ms h n k l = go (play rule ms []) refl
     where
       left : (z : List A) → length z ≡ 1 → play rule ms [] ≡ some z → C
       left [] n e = absurd (omega arith)
       left (a ∷ b ∷ z) n e = absurd (omega arith)
-      left (a ∷ []) n e = l a e (λ i. sym (laws .comm (value i a) unit ∙ laws .unital (value i a)) ∙ gather-play laws (value i) rule (r .joins i) ms [] (a ∷ []) e ∙ laws .unital (at-index i (laid ms)))
+      left (a ∷ []) n e = l a e (λ i. sym (laws .comm (value i a) unit ∙ laws .unital (value i a)) ∙ gather-play laws (value i) rule (r .joins i) ms [] (a ∷ []) e ∙ laws .unital (at-index i (laidDown ms)))
 
       go : (o : Option (List A)) → play rule ms [] ≡ o → C
-      go none e = let (i, w) = play-none ms [] h e in k e (i, sym (laws .unital (at-index i (laid ms))) ∙ w)
+      go none e = let (i, w) = play-none ms [] h e in k e (i, sym (laws .unital (at-index i (laidDown ms))) ∙ w)
       go (some z) e = left z (play-length rule ms [] z e ∙ n) e

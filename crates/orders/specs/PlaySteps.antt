@@ -17,7 +17,7 @@ use Rattle.machine.specs.Run.{Answer, gives, refuses, following, orRefuses, Sta
 use Rattle.machine.specs.WellFormed.{heightAfter, Heights}
 use Rattle.machine.specs.Real.{RealShape, realPervade, FeedOf, Feeds, realStep, ontoReal, goesOn, realRun}
 use Rattle.machine.specs.Conditions.{PutOrPervade, withPut, puts}
-use Rattle.orders.specs.Play.{Move, lay, mix, laid, Enough, heightLeft, mixed, play}
+use Rattle.orders.specs.Play.{Move, lay, mix, laidDown, Enough, heightLeft, mixed, play}
 use Rattle.machine.specs.RunLaws.{unfilled, step-put, pervadeTypes-is, step-pervading}
 
 -- A put or an unfilled pervading is one of these two.
@@ -39,11 +39,11 @@ abbrev pub moves : List Step → List (Move Shape)
 moves [] = []
 moves (x ∷ xs) = moveOf (putBy x) ∷ moves xs
 
-pub laid-moves : (xs : List Step) → laid (moves xs) ≡ map shapeOf (puts xs)
+pub laid-moves : (xs : List Step) → laidDown (moves xs) ≡ map shapeOf (puts xs)
 laid-moves [] = refl
 laid-moves (x ∷ xs) = go (putBy x) (laid-moves xs)
   where
-    go : (o : Option Ty) → laid (moves xs) ≡ map shapeOf (puts xs) → laid (moveOf o ∷ moves xs) ≡ map shapeOf (withPut o (puts xs))
+    go : (o : Option Ty) → laidDown (moves xs) ≡ map shapeOf (puts xs) → laidDown (moveOf o ∷ moves xs) ≡ map shapeOf (withPut o (puts xs))
     go none e = e
     go (some t) e = ap (λ l. shapeOf t ∷ l) e
 
@@ -51,13 +51,13 @@ abbrev pub shapes : Answer Stack → Answer (List Shape)
 shapes (gives st) = gives (map shapeOf st)
 shapes (refuses k) = refuses k
 
-abbrev pub verdict : Option (List Shape) → Answer (List Shape)
-verdict none = refuses unpervaded
-verdict (some l) = gives l
+abbrev pub playedOut : Option (List Shape) → Answer (List Shape)
+playedOut none = refuses unpervaded
+playedOut (some l) = gives l
 
 -- what the steps make of the shapes on the stack is the play
 abbrev Plays : List Step → Stack → Type 0
-Plays xs st = shapes (steps xs st) ≡ verdict (play (pervade false false) (moves xs) (map shapeOf st))
+Plays xs st = shapes (steps xs st) ≡ playedOut (play (pervade false false) (moves xs) (map shapeOf st))
 
 pervading-plays : (xs : List Step) (st : Stack) → 2 ≤ length st
     → ((x : Shape) (k : Scalar) (rest : Stack) → length st ≡ suc (suc (length rest)) → Plays xs (ty x k ∷ rest))
@@ -70,7 +70,7 @@ pervading-plays xs (ty s k ∷ ty t l ∷ st) h i =
   where
     go : (r : Option Shape) → ((x : Shape) → Plays xs (ty x (union k l) ∷ st))
         → shapes (following (onto st (following (orRefuses r unpervaded) (λ x. gives (ty x (union k l))))) (λ st₁. steps xs st₁))
-        ≡ verdict (mixed (pervade false false) r (λ x. play (pervade false false) (moves xs) (x ∷ map shapeOf st)))
+        ≡ playedOut (mixed (pervade false false) r (λ x. play (pervade false false) (moves xs) (x ∷ map shapeOf st)))
     go none i = refl
     go (some x) i = i x
 
@@ -91,34 +91,34 @@ steps-play (x ∷ xs) st p h =
 -- ---- heights, of any moves that go with the steps
 
 -- The moves lay down and mix as the steps put and pervade.
-abbrev Beside : {A : Type 0} → Option Ty → Move A → Type 0
-Beside none mix = Unit {0}
-Beside none (lay a) = ⊥
-Beside (some t) mix = ⊥
-Beside (some t) (lay a) = Unit {0}
+abbrev SameMove : {A : Type 0} → Option Ty → Move A → Type 0
+SameMove none mix = Unit {0}
+SameMove none (lay a) = ⊥
+SameMove (some t) mix = ⊥
+SameMove (some t) (lay a) = Unit {0}
 
-abbrev AllBeside : {A : Type 0} → List Step → List (Move A) → Type 0
-AllBeside [] [] = Unit {0}
-AllBeside [] (m ∷ ms) = ⊥
-AllBeside (x ∷ xs) [] = ⊥
-AllBeside (x ∷ xs) (m ∷ ms) = Beside (putBy x) m × AllBeside xs ms
+abbrev SameMoves : {A : Type 0} → List Step → List (Move A) → Type 0
+SameMoves [] [] = Unit {0}
+SameMoves [] (m ∷ ms) = ⊥
+SameMoves (x ∷ xs) [] = ⊥
+SameMoves (x ∷ xs) (m ∷ ms) = SameMove (putBy x) m × SameMoves xs ms
 
-enough-beside : {A : Type 0} (xs : List Step) (ms : List (Move A)) (h : ℕ) → AllBeside xs ms → All PutOrPervade xs → Heights xs h → Enough ms h × (heightLeft ms h ≡ heightAfter xs h)
-enough-beside [] [] h b p k = (tt, refl)
-enough-beside [] (m ∷ ms) h b p k = absurd b
-enough-beside (x ∷ xs) [] h b p k = absurd b
-enough-beside {A} (x ∷ xs) (m ∷ ms) h b p k =
-    put-or-pervade (λ y. Beside (putBy y) m → Heights (y ∷ xs) h → Enough (m ∷ ms) h × (heightLeft (m ∷ ms) h ≡ heightAfter (y ∷ xs) h))
-    (λ t c k₁. laying t m c k₁ λ k₂. enough-beside xs ms (suc h) (b .1) (p .1) k₂)
-    (λ c k₁. mixing m c k₁ λ k₂. enough-beside xs ms (h - 1) (b .1) (p .1) k₂)
+enough-same : {A : Type 0} (xs : List Step) (ms : List (Move A)) (h : ℕ) → SameMoves xs ms → All PutOrPervade xs → Heights xs h → Enough ms h × (heightLeft ms h ≡ heightAfter xs h)
+enough-same [] [] h b p k = (tt, refl)
+enough-same [] (m ∷ ms) h b p k = absurd b
+enough-same (x ∷ xs) [] h b p k = absurd b
+enough-same {A} (x ∷ xs) (m ∷ ms) h b p k =
+    put-or-pervade (λ y. SameMove (putBy y) m → Heights (y ∷ xs) h → Enough (m ∷ ms) h × (heightLeft (m ∷ ms) h ≡ heightAfter (y ∷ xs) h))
+    (λ t c k₁. laying t m c k₁ λ k₂. enough-same xs ms (suc h) (b .1) (p .1) k₂)
+    (λ c k₁. mixing m c k₁ λ k₂. enough-same xs ms (h - 1) (b .1) (p .1) k₂)
     x (p .0) (b .0) k
   where
-    laying : (t : Ty) (m : Move A) → Beside (some t) m → Heights (put t ∷ xs) h → (Heights xs (suc h) → Enough ms (suc h) × (heightLeft ms (suc h) ≡ heightAfter xs (suc h)))
+    laying : (t : Ty) (m : Move A) → SameMove (some t) m → Heights (put t ∷ xs) h → (Heights xs (suc h) → Enough ms (suc h) × (heightLeft ms (suc h) ≡ heightAfter xs (suc h)))
         → Enough (m ∷ ms) h × (heightLeft (m ∷ ms) h ≡ heightAfter (put t ∷ xs) h)
     laying t mix c k r = absurd c
     laying t (lay a) c k r = let n : h - 0 + 1 ≡ suc h = omega arith in rw n (r (rw n at (k .2)))
 
-    mixing : (m : Move A) → Beside none m → Heights (pervading false false ∷ xs) h → (Heights xs (h - 1) → Enough ms (h - 1) × (heightLeft ms (h - 1) ≡ heightAfter xs (h - 1)))
+    mixing : (m : Move A) → SameMove none m → Heights (pervading false false ∷ xs) h → (Heights xs (h - 1) → Enough ms (h - 1) × (heightLeft ms (h - 1) ≡ heightAfter xs (h - 1)))
         → Enough (m ∷ ms) h × (heightLeft (m ∷ ms) h ≡ heightAfter (pervading false false ∷ xs) h)
     mixing (lay a) c k r = absurd c
     mixing mix c k r =
@@ -127,16 +127,16 @@ enough-beside {A} (x ∷ xs) (m ∷ ms) h b p k =
         let (a, b) = r (rw n at (k .2)) in
         ((l, a), rw n b)
 
-beside-moves : (xs : List Step) → AllBeside xs (moves xs)
-beside-moves [] = tt
-beside-moves (x ∷ xs) = (go (putBy x), beside-moves xs)
+same-moves : (xs : List Step) → SameMoves xs (moves xs)
+same-moves [] = tt
+same-moves (x ∷ xs) = (go (putBy x), same-moves xs)
   where
-    go : (o : Option Ty) → Beside o (moveOf o)
+    go : (o : Option Ty) → SameMove o (moveOf o)
     go none = tt
     go (some t) = tt
 
 pub enough-moves : (xs : List Step) (h : ℕ) → All PutOrPervade xs → Heights xs h → Enough (moves xs) h × (heightLeft (moves xs) h ≡ heightAfter xs h)
-enough-moves xs h p k = enough-beside xs (moves xs) h (beside-moves xs) p k
+enough-moves xs h p k = enough-same xs (moves xs) h (same-moves xs) p k
 
 -- ---- real shapes
 
@@ -167,13 +167,13 @@ real-play (x ∷ xs) f rs p =
         go none = refl
         go (some z) = i z rs
 
-beside-feeds : (xs : List Step) (f : Feeds xs) → AllBeside xs (feedMoves xs f)
-beside-feeds [] f = tt
-beside-feeds (x ∷ xs) f = (go (putBy x) (isA aJoin x) (f .0), beside-feeds xs (f .1))
+same-feeds : (xs : List Step) (f : Feeds xs) → SameMoves xs (feedMoves xs f)
+same-feeds [] f = tt
+same-feeds (x ∷ xs) f = (go (putBy x) (isA aJoin x) (f .0), same-feeds xs (f .1))
   where
-    go : (o : Option Ty) (b : Bool) (a : FeedOf o b) → Beside o (feedMove o b a)
+    go : (o : Option Ty) (b : Bool) (a : FeedOf o b) → SameMove o (feedMove o b a)
     go none b a = tt
     go (some t) b a = tt
 
 pub enough-feeds : (xs : List Step) (f : Feeds xs) (h : ℕ) → All PutOrPervade xs → Heights xs h → Enough (feedMoves xs f) h × (heightLeft (feedMoves xs f) h ≡ heightAfter xs h)
-enough-feeds xs f h p k = enough-beside xs (feedMoves xs f) h (beside-feeds xs f) p k
+enough-feeds xs f h p k = enough-same xs (feedMoves xs f) h (same-feeds xs f) p k

@@ -13,8 +13,8 @@ use Rattle.model.specs.Types.{Dim, static, unknown, Shape, shape, Ty, shapeOf}
 use Rattle.machine.specs.Steps.{Step, aJoin, isA, putBy}
 use Rattle.machine.specs.Real.{RealShape, fits, theTop, FeedOf, Feeds, FitsFeed, FitsPuts}
 use Rattle.holding.specs.Fitting.{FitAll, Follows, Fits, of-fits}
-use Rattle.orders.specs.Cells.{unnamed, differ, named, cellOf, joinNamed-comm, real-sure}
-use Rattle.orders.specs.Play.{laid}
+use Rattle.orders.specs.Cells.{unnamed, differ, namedIn, cellOf, joinNamed-comm, real-sure}
+use Rattle.orders.specs.Play.{laidDown}
 use Rattle.orders.specs.PlaySteps.{moveOf, moves, feedMove, feedMoves}
 use Rattle.orders.specs.Asked.{openingOf, namedAt, asked, realAt, realAsked}
 
@@ -53,12 +53,12 @@ abbrev pub witness : (xs : List Step) → ℕ → Feeds xs
 witness [] b = tt
 witness (x ∷ xs) b = (feedFor (putBy x) (isA aJoin x) b, witness xs (nextOf (putBy x) b))
 
-laid-witness : (xs : List Step) (b : ℕ) → laid (feedMoves xs (witness xs b)) ≡ realsFor (laid (moves xs)) b
+laid-witness : (xs : List Step) (b : ℕ) → laidDown (feedMoves xs (witness xs b)) ≡ realsFor (laidDown (moves xs)) b
 laid-witness [] b = refl
 laid-witness (x ∷ xs) b = go (putBy x) (isA aJoin x) (laid-witness xs (nextOf (putBy x) b))
   where
-    go : (o : Option Ty) (j : Bool) → laid (feedMoves xs (witness xs (nextOf o b))) ≡ realsFor (laid (moves xs)) (nextOf o b)
-        → laid (feedMove o j (feedFor o j b) ∷ feedMoves xs (witness xs (nextOf o b))) ≡ realsFor (laid (moveOf o ∷ moves xs)) b
+    go : (o : Option Ty) (j : Bool) → laidDown (feedMoves xs (witness xs (nextOf o b))) ≡ realsFor (laidDown (moves xs)) (nextOf o b)
+        → laidDown (feedMove o j (feedFor o j b) ∷ feedMoves xs (witness xs (nextOf o b))) ≡ realsFor (laidDown (moveOf o ∷ moves xs)) b
     go none j e = e
     go (some t) j e = rw e
 
@@ -88,7 +88,7 @@ fits-witness (x ∷ xs) b = (go (putBy x) (isA aJoin x), fits-witness xs (nextOf
 
 -- ---- below index b a real shape asks for what its shape asks for
 
-sizes-at : (o : List Dim) (i : ℕ) → realAt i (sizesFor o) ≡ named (cellOf (getElem? o i))
+sizes-at : (o : List Dim) (i : ℕ) → realAt i (sizesFor o) ≡ namedIn (cellOf (getElem? o i))
 sizes-at [] i = refl
 sizes-at (unknown ∷ o) zero = refl
 sizes-at (static m ∷ o) zero = refl
@@ -99,7 +99,7 @@ ones-at zero i c h = absurd (omega arith)
 ones-at (suc n) zero c h = refl
 ones-at (suc n) (suc i) c h = ones-at n i c (omega arith)
 
-before-closing : (o c : List Dim) (k i : ℕ) → i < length o + k → realAt i (sizesFor o ++ (replicate k 1 ++ sizesFor c)) ≡ named (cellOf (getElem? o i))
+before-closing : (o c : List Dim) (k i : ℕ) → i < length o + k → realAt i (sizesFor o ++ (replicate k 1 ++ sizesFor c)) ≡ namedIn (cellOf (getElem? o i))
 before-closing [] c k i h = ones-at k i c (omega arith)
 before-closing (unknown ∷ o) c k zero h = refl
 before-closing (static m ∷ o) c k zero h = refl
@@ -126,24 +126,24 @@ next-up (shape o (some c)) b = omega arith
 
 -- ---- all of them
 
-abbrev pub bound : List Shape → ℕ
-bound [] = 0
-bound (s ∷ l) = max (length (openingOf s)) (bound l)
+abbrev pub longest : List Shape → ℕ
+longest [] = 0
+longest (s ∷ l) = max (length (openingOf s)) (longest l)
 
-all-low : (l : List Shape) (b i : ℕ) → bound l ≤ b → i < b → realAsked i (realsFor l b) ≡ asked i l
+all-low : (l : List Shape) (b i : ℕ) → longest l ≤ b → i < b → realAsked i (realsFor l b) ≡ asked i l
 all-low [] b i h k = refl
 all-low (s ∷ l) b i h k = rw (low s b i (omega arith) k, all-low l (nextFor s b) i (omega (arith, next-up s b)) (omega (arith, next-up s b)))
 
-none-at : (o : List Dim) (i : ℕ) → length o ≤ i → named (cellOf (getElem? o i)) ≡ unnamed
+none-at : (o : List Dim) (i : ℕ) → length o ≤ i → namedIn (cellOf (getElem? o i)) ≡ unnamed
 none-at [] i h = refl
 none-at (d ∷ o) zero h = absurd (omega arith)
 none-at (d ∷ o) (suc i) h = none-at o i (omega arith)
 
-all-none : (l : List Shape) (i : ℕ) → bound l ≤ i → asked i l ≡ unnamed
+all-none : (l : List Shape) (i : ℕ) → longest l ≤ i → asked i l ≡ unnamed
 all-none [] i h = refl
 all-none (s ∷ l) i h = rw (none-at (openingOf s) i (omega arith), all-none l i (omega arith))
 
-all-high : (l : List Shape) (b i : ℕ) → bound l ≤ b → b ≤ i → realAsked i (realsFor l b) ≡ differ → ⊥
+all-high : (l : List Shape) (b i : ℕ) → longest l ≤ b → b ≤ i → realAsked i (realsFor l b) ≡ differ → ⊥
 all-high [] b i h k e = let z : _≡_ {A = ℕ} 0 1 = cc in omega arith
 all-high (s ∷ l) b i h k e = go (ltb i (nextFor s b)) refl (λ j. all-high l (nextFor s b) i (omega (arith, next-up s b)) j)
   where
@@ -156,9 +156,10 @@ all-high (s ∷ l) b i h k e = go (ltb i (nextFor s b)) refl (λ j. all-high l (
         p (ltb-false i (nextFor s b) j) (rw w at e)
 
 -- Where the puts ask for different sizes nowhere, neither do these real shapes.
-pub witness-agrees : (xs : List Step) → ((i : ℕ) → asked i (laid (moves xs)) ≡ differ → ⊥) → (i : ℕ) → realAsked i (laid (feedMoves xs (witness xs (bound (laid (moves xs)))))) ≡ differ → ⊥
-witness-agrees xs sure i e = go (ltb i (bound (laid (moves xs)))) refl (rw (laid-witness xs (bound (laid (moves xs)))) at e)
+pub witness-agrees : (xs : List Step) → ((i : ℕ) → asked i (laidDown (moves xs)) ≡ differ → ⊥) → (i : ℕ)
+    → realAsked i (laidDown (feedMoves xs (witness xs (longest (laidDown (moves xs)))))) ≡ differ → ⊥
+witness-agrees xs sure i e = go (ltb i (longest (laidDown (moves xs)))) refl (rw (laid-witness xs (longest (laidDown (moves xs)))) at e)
   where
-    go : (t : Bool) → ltb i (bound (laid (moves xs))) ≡ t → realAsked i (realsFor (laid (moves xs)) (bound (laid (moves xs)))) ≡ differ → ⊥
-    go true j e = sure i (sym (all-low (laid (moves xs)) (bound (laid (moves xs))) i (omega arith) (ltb-true i (bound (laid (moves xs))) j)) ∙ e)
-    go false j e = all-high (laid (moves xs)) (bound (laid (moves xs))) i (omega arith) (ltb-false i (bound (laid (moves xs))) j) e
+    go : (t : Bool) → ltb i (longest (laidDown (moves xs))) ≡ t → realAsked i (realsFor (laidDown (moves xs)) (longest (laidDown (moves xs)))) ≡ differ → ⊥
+    go true j e = sure i (sym (all-low (laidDown (moves xs)) (longest (laidDown (moves xs))) i (omega arith) (ltb-true i (longest (laidDown (moves xs))) j)) ∙ e)
+    go false j e = all-high (laidDown (moves xs)) (longest (laidDown (moves xs))) i (omega arith) (ltb-false i (longest (laidDown (moves xs))) j) e

@@ -7,7 +7,7 @@ use mathlib.Core.Path.{_≡_, refl, sym, _∙_, ap}
 use lib.ListN.{length, take, drop}
 use lib.Seq.{take-at, take-append-seam}
 use lib.Dec.{leb, ltb}
-use borrow.Author.Tests.{le-leb, le-ltb}
+use borrow.Author.Tests.{le-ltb}
 use Rattle.model.specs.Refusals.{tooShort, unpervaded}
 use Rattle.model.specs.Types.{Ty}
 use Rattle.model.specs.Within.{All, Within}
@@ -18,6 +18,7 @@ use Rattle.machine.specs.Run.{gives, refuses, aside, steps, bottomFirst}
 use Rattle.machine.specs.Sheet.{sheetRun}
 use Rattle.machine.specs.Call.{Tally, tally, Called, called, writeTypes, zeroed, atFront, handOver, sheetCall}
 use Rattle.demand.specs.Claims.{Check, answerTo, IsAccepted, Leaves, Mismatched, MakesAccepted}
+use Rattle.machine.specs.CallLaws.{handOver-left}
 use Rattle.machine.specs.StepsWithin.{writeTypes-suffices, writeTypes-same}
 use Rattle.machine.specs.Sheets.{sheet-steps, left-within}
 
@@ -99,8 +100,7 @@ aside-refused (refused j p) k e f = let w : j ≡ k = cc in f p (rw w)
 
 module _ (c : Check) (enough : scratchBytes ≤ length (c .scratch)) where
   pub run-leaves : (ts : List Ty) → sheetRun (c .sheet) ≡ accepted ts → All Within ts → length (writeTypes ts) ≤ length (c .result) → Leaves c ts
-  unfolding handOver
-  run-leaves ts e within room = record { within = within; outcome = call-run c enough ∙ rw (e, le-leb (length (writeTypes ts)) (length (c .result)) room) }
+  run-leaves ts e within room = record { within = within; outcome = call-run c enough ∙ rw e (handOver-left (length (c .sheet)) ts (c .result) (zeroed (c .scratch)) room) }
 
   pub run-mismatched : (p : ℕ) → sheetRun (c .sheet) ≡ refused unpervaded p → Mismatched c
   unfolding handOver

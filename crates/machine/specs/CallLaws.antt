@@ -25,6 +25,14 @@ use Rattle.machine.specs.StepsWithin.{writeTypes-suffices}
 use Rattle.machine.specs.StepsReads.{step-room}
 use Rattle.machine.specs.Sheets.{accepted-steps, left-within}
 
+-- ---- what is handed over
+
+-- With room for them, the types left are answered by their number and that of their bytes, which stand in front in the result.
+pub handOver-left : (size : ℕ) (ts : List Ty) (result scratch : List ℕ) → length (writeTypes ts) ≤ length result
+    → handOver size (accepted ts) result scratch ≡ called (accepted (tally (length ts) (length (writeTypes ts)))) (atFront (writeTypes ts) result) scratch
+unfolding handOver
+handOver-left size ts result scratch room = rw (le-leb (length (writeTypes ts)) (length result) room)
+
 -- ---- no more types are left than the stack has places
 
 steps-few : (xs : List Step) (st st₁ : Stack) → length st ≤ maxStack → steps xs st ≡ gives st₁ → length st₁ ≤ maxStack
@@ -94,7 +102,7 @@ module _ (s result scratch : List ℕ) where
       go : (o : Outcome (List Ty)) → sheetRun s ≡ o → called (refused k p) out after ≡ handOver (length s) o result (zeroed scratch) → sheetRun s ≡ refused k p
       go (refused j q) r h = let a : j ≡ k = cc in let b : q ≡ p = cc in r ∙ rw (a, b)
       go (accepted ts) r h =
-          let fits : length (writeTypes ts) ≤ length result = omega (arith, run-few s small ts r .suffices) in
-          let h₁ : called (refused k p) out after ≡ called (accepted (tally (length ts) (length (writeTypes ts)))) (atFront (writeTypes ts) result) (zeroed scratch) = h ∙ rw (le-leb (length (writeTypes ts)) (length result) fits) in
+          let room : length (writeTypes ts) ≤ length result = omega (arith, run-few s small ts r .suffices) in
+          let h₁ = h ∙ handOver-left (length s) ts result (zeroed scratch) room in
           let z : _≡_ {A = ℕ} 0 1 = cc in
           absurd (omega arith)

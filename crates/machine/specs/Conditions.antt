@@ -30,15 +30,15 @@ abbrev pub NamesNoClosing : Step → Type 0
 NamesNoClosing x = ArgumentNamesNoClosing (argumentOf x)
 
 -- "fills nothing", or unfilled: flag byte 0.
-abbrev pub Unfilled : Argument → Type 0
-Unfilled noArgument = Unit {0}
-Unfilled (aType t) = Unit {0}
-Unfilled (flags f g) = flagByte f g ≡ 0
+abbrev pub ArgumentFillsNothing : Argument → Type 0
+ArgumentFillsNothing noArgument = Unit {0}
+ArgumentFillsNothing (aType t) = Unit {0}
+ArgumentFillsNothing (flags f g) = flagByte f g ≡ 0
 
 abbrev pub FillsNothing : Step → Type 0
-FillsNothing x = Unfilled (argumentOf x)
+FillsNothing x = ArgumentFillsNothing (argumentOf x)
 
--- what is asked only where a test says yes; and what is asked there, while nothing passes where it says no
+-- Asked only where a test says yes; and asked there, while nothing passes where it says no.
 abbrev pub Where : Bool → Type 0 → Type 0
 Where true P = P
 Where false P = Unit {0}

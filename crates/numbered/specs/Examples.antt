@@ -25,21 +25,21 @@ use Rattle.number.specs.Examples.{half, one, eightOnes}
 use Rattle.ty.specs.Calls.{deliverBoxes}
 use Rattle.val.specs.Values.{valueSpec, numsScalar, valueAsDim, valueAsDims}
 use Rattle.velgrodis.specs.Answers.{no, deliverSizes}
-use Rattle.numbered.specs.Calls.{Call, vg-dim-cmp, vg-read, vg-shape-record, vg-as-boxes, vg-pervade, vg-check-shape, vg-validate, vg-val-spec, vg-as-dim, vg-as-dims, vg-nums-scalar, vg-check-sheet, answerOf}
+use Rattle.numbered.specs.Calls.{Call, vg-dim-cmp, vg-read, vg-shape-record, vg-as-boxes, vg-pervade, vg-check-shape, vg-validate, vg-val-spec, vg-as-dim, vg-as-dims, vg-nums-scalar, vg-check-sheet, replyTo}
 
 -- a call, with the number and the place that it is refused with
 pub data Example : Type 0 where
   theRefusal : Call → ℕ → ℕ → Example
 
-abbrev pub Holds : Example → Type 0
-Holds (theRefusal c k p) = answerOf c ≡ no k p
+abbrev pub Shown : Example → Type 0
+Shown (theRefusal c k p) = replyTo c ≡ no k p
 
 -- a kind under [], and under [n]
-abbrev scalar : ℕ → List ℕ
-scalar kind = 0x53 ∷ 0x48 ∷ 0 ∷ 255 ∷ 0x53 ∷ 0x43 ∷ kind ∷ []
+abbrev atom : ℕ → List ℕ
+atom kind = 0x53 ∷ 0x48 ∷ 0 ∷ 255 ∷ 0x53 ∷ 0x43 ∷ kind ∷ []
 
-abbrev sized : ℕ → ℕ → List ℕ
-sized n kind = 0x53 ∷ 0x48 ∷ 1 ∷ 255 ∷ n ∷ 0 ∷ 0 ∷ 0 ∷ 0 ∷ 0 ∷ 0 ∷ 0 ∷ 0x53 ∷ 0x43 ∷ kind ∷ []
+abbrev vector : ℕ → ℕ → List ℕ
+vector n kind = 0x53 ∷ 0x48 ∷ 1 ∷ 255 ∷ n ∷ 0 ∷ 0 ∷ 0 ∷ 0 ∷ 0 ∷ 0 ∷ 0 ∷ 0x53 ∷ 0x43 ∷ kind ∷ []
 
 -- n times [] of an All box, and nothing in the last
 abbrev boxes : ℕ → List ℕ
@@ -56,17 +56,17 @@ examples =
     ∷ theRefusal (vg-read (0x53 ∷ 0x48 ∷ 9 ∷ [])) outOfRange 0
     ∷ theRefusal (vg-read (0x53 ∷ 0x48 ∷ 1 ∷ 255 ∷ 0 ∷ 0 ∷ 0 ∷ 0 ∷ 0 ∷ 0 ∷ 0 ∷ 0x10 ∷ [])) oversized 0
     ∷ theRefusal (vg-read (boxes 8)) tooMany 80
-    ∷ theRefusal (vg-read (scalar 3 ++ (0 ∷ []))) trailing 7
+    ∷ theRefusal (vg-read (atom 3 ++ (0 ∷ []))) trailing 7
     -- a result too short; a 32nd copy
-    ∷ theRefusal (vg-shape-record (scalar 3) (0 ∷ 0 ∷ 0 ∷ [])) tooShort 0
+    ∷ theRefusal (vg-shape-record (atom 3) (0 ∷ 0 ∷ 0 ∷ [])) tooShort 0
     ∷ theRefusal (vg-as-boxes (0x53 ∷ 0x48 ∷ 1 ∷ 255 ∷ 32 ∷ 0 ∷ 0 ∷ 0 ∷ 0 ∷ 0 ∷ 0 ∷ 0 ∷ 0x53 ∷ 0x43 ∷ 8 ∷ 0x42 ∷ 0x58 ∷ 0 ∷ []) []) tooMany 0
     -- a flag and a side that are none, before anything is read; [3] with [4]; [2] on [3]; Num on Char
     ∷ theRefusal (vg-pervade 4 [] [] []) outOfRange 0
-    ∷ theRefusal (vg-pervade 0 (sized 3 3) (sized 4 3) []) unpervaded 0
+    ∷ theRefusal (vg-pervade 0 (vector 3 3) (vector 4 3) []) unpervaded 0
     ∷ theRefusal (vg-check-shape 3 [] [] []) outOfRange 0
-    ∷ theRefusal (vg-check-shape 0 (sized 2 3) (sized 3 3) []) wrongShape 0
-    ∷ theRefusal (vg-validate 0 (scalar 3) (scalar 6) []) wrongScalar 0
-    ∷ theRefusal (vg-validate 0 (sized 2 3) (sized 3 3) []) wrongShape 0
+    ∷ theRefusal (vg-check-shape 0 (vector 2 3) (vector 3 3) []) wrongShape 0
+    ∷ theRefusal (vg-validate 0 (atom 3) (atom 6) []) wrongScalar 0
+    ∷ theRefusal (vg-validate 0 (vector 2 3) (vector 3 3) []) wrongShape 0
     -- a kind of value that is none; a fraction as a size; more than eight numbers; a NaN among them; no room for their sizes
     ∷ theRefusal (vg-as-dim 3 half [] []) outOfRange 0
     ∷ theRefusal (vg-as-dim 0 half [] []) notASize 0
@@ -79,9 +79,9 @@ examples =
     ∷ theRefusal (vg-check-sheet [] [] []) tooShort 0
     ∷ []
 
-pub examples-hold : All Holds examples
-unfolding examples answerOf lone deliver readTy shapeFrom scalarFrom boxFrom readMark readDims readDim judged byte number bytesOf code kindOf writeShape writeScalar
+pub examples-shown : All Shown examples
+unfolding examples replyTo lone deliver readTy shapeFrom scalarFrom boxFrom readMark readDims readDim judged byte number bytesOf code kindOf writeShape writeScalar
     cmpDim compatible isAny rowCount codeOf supersetCodes supersetOf together pervadeDims pervadeClosing pervade whollyAny copiesFor asBoxes agree
     mismatch shapeMismatch checkShape checkScalar validate checkShapeOnly sheetCall sizesFrom deliverBoxes valueSpec numsScalar valueAsDim valueAsDims
     deliverSizes inside below
-examples-hold = (refl, (refl, (refl, (refl, (refl, (refl, (refl, (refl, (refl, (refl, (refl, (refl, (refl, (refl, (refl, (refl, (refl, (refl, (refl, (refl, (refl, (refl, (refl, tt)))))))))))))))))))))))
+examples-shown = (refl, (refl, (refl, (refl, (refl, (refl, (refl, (refl, (refl, (refl, (refl, (refl, (refl, (refl, (refl, (refl, (refl, (refl, (refl, (refl, (refl, (refl, (refl, tt)))))))))))))))))))))))

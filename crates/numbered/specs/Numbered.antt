@@ -36,46 +36,46 @@ use Rattle.velgrodis.specs.Answers.{orNothing, numbered, counted, told, tested,
 use Rattle.velgrodis.specs.Codes.{pervadeFlagged, sideFor, sided, handedIn}
 use Rattle.demand.specs.Numbers.{ofLone, ofSheetCall, RefusedWith}
 use Rattle.demand.specs.Numbered.{among-more, accepted-with, refused-with, lone-numbered, mapped-numbered, call-numbered}
-use Rattle.numbered.specs.Calls.{Call, answerOf, ofSizes, ofWritten, ofPervaded, ofShapeChecked, ofValidated, ofSize, ofSizesWritten, ofResult, numbersOf, Told}
+use Rattle.numbered.specs.Calls.{Call, replyTo, ofSizes, ofWritten, ofPervaded, ofShapeChecked, ofValidated, ofSize, ofSizesWritten, ofResult, numbersOf, KeepsTo}
 use Rattle.numbered.specs.Calls.{vg-dim-cmp, vg-dim-cmp-defined, vg-dim-max, vg-dim-join, vg-dim-compatible, vg-dim-row-compatible, vg-merge, vg-join-shapes, vg-compatible-shapes, vg-row-shape, vg-shape-is-any}
 use Rattle.numbered.specs.Calls.{vg-shape-is-scalar, vg-row-count, vg-rank, vg-pervade, vg-union, vg-unrefine, vg-superset, vg-compatible-scalars, vg-compatible-with-boxes, vg-compare, vg-read, vg-shape-record}
 use Rattle.numbered.specs.Calls.{vg-scalar-record, vg-row, vg-first-row, vg-last-row, vg-unboxed, vg-as-boxes, vg-nth-row, vg-field, vg-join, vg-validate, vg-check-shape, vg-check-scalar, vg-val-ty, vg-val-spec}
 use Rattle.numbered.specs.Calls.{vg-val-scalar, vg-as-dims, vg-val-row-count, vg-val-rank, vg-as-dim, vg-val-row, vg-val-first-row, vg-val-last-row, vg-nums-scalar, vg-check-sheet}
-use Rattle.numbered.specs.CallLaws.{more-numbered, either-numbered, bound-numbered, both-numbered, Given, answered-told, written-told, boxes-told, sizes-told, row-told, sheet-told}
+use Rattle.numbered.specs.CallLaws.{more-numbered, either-numbered, bound-numbered, both-numbered, NotRefused, answered-keeps, written-keeps, boxes-keeps, sizes-keeps, row-keeps, sheet-keeps}
 use Rattle.numbered.specs.ValueLaws.{ty-with, row-count-with, spec-with, as-dim-with, as-dims-with, handed-with}
 
 -- ---- answers alone are no refusals
 
-ordered-given : (o : Order) → Given (ordered o)
-ordered-given less = λ e. absurd (omega arith)
-ordered-given same = λ e. absurd (omega arith)
-ordered-given more = λ e. absurd (omega arith)
+ordered-not-refused : (o : Order) → NotRefused (ordered o)
+ordered-not-refused less = λ e. absurd (omega arith)
+ordered-not-refused same = λ e. absurd (omega arith)
+ordered-not-refused more = λ e. absurd (omega arith)
 
-orNothing-given : {A : Type 0} (f : A → Answer) → ((a : A) → Given (f a)) → (o : Option A) → Given (orNothing f o)
-orNothing-given f g none = λ e. absurd (omega arith)
-orNothing-given f g (some a) = g a
+orNothing-not-refused : {A : Type 0} (f : A → Answer) → ((a : A) → NotRefused (f a)) → (o : Option A) → NotRefused (orNothing f o)
+orNothing-not-refused f g none = λ e. absurd (omega arith)
+orNothing-not-refused f g (some a) = g a
 
-stretched-given : (s : Stretch) → Given (stretched s)
-stretched-given (stretch start length) = λ e. absurd (omega arith)
+stretched-not-refused : (s : Stretch) → NotRefused (stretched s)
+stretched-not-refused (stretch start length) = λ e. absurd (omega arith)
 
 module _ (ns : List ℕ) where
-  counted-told : (o : Outcome ℕ) → RefusedWith ns o → Told ns (counted o)
-  counted-told o h = answered-told ns numbered (λ n e. absurd (omega arith)) o h
+  counted-keeps : (o : Outcome ℕ) → RefusedWith ns o → KeepsTo ns (counted o)
+  counted-keeps o h = answered-keeps ns numbered (λ n e. absurd (omega arith)) o h
 
-  tested-told : (o : Outcome Bool) → RefusedWith ns o → Told ns (tested o)
-  tested-told o h = answered-told ns told (λ t e. absurd (omega arith)) o h
+  tested-keeps : (o : Outcome Bool) → RefusedWith ns o → KeepsTo ns (tested o)
+  tested-keeps o h = answered-keeps ns told (λ t e. absurd (omega arith)) o h
 
-  sized-told : (o : Outcome Dim) → RefusedWith ns o → Told ns (sized o)
-  sized-told o h = answered-told ns dimmed (λ d e. absurd (omega arith)) o h
+  sized-keeps : (o : Outcome Dim) → RefusedWith ns o → KeepsTo ns (sized o)
+  sized-keeps o h = answered-keeps ns dimmed (λ d e. absurd (omega arith)) o h
 
-  sizedOrNone-told : (o : Outcome (Option Dim)) → RefusedWith ns o → Told ns (sizedOrNone o)
-  sizedOrNone-told o h = answered-told ns (orNothing dimmed) (orNothing-given dimmed (λ d e. absurd (omega arith))) o h
+  sizedOrNone-keeps : (o : Outcome (Option Dim)) → RefusedWith ns o → KeepsTo ns (sizedOrNone o)
+  sizedOrNone-keeps o h = answered-keeps ns (orNothing dimmed) (orNothing-not-refused dimmed (λ d e. absurd (omega arith))) o h
 
-  compared-told : (o : Outcome Order) → RefusedWith ns o → Told ns (compared o)
-  compared-told o h = answered-told ns ordered ordered-given o h
+  compared-keeps : (o : Outcome Order) → RefusedWith ns o → KeepsTo ns (compared o)
+  compared-keeps o h = answered-keeps ns ordered ordered-not-refused o h
 
-  found-told : (o : Outcome (Option Stretch)) → RefusedWith ns o → Told ns (found o)
-  found-told o h = answered-told ns (orNothing stretched) (orNothing-given stretched stretched-given) o h
+  found-keeps : (o : Outcome (Option Stretch)) → RefusedWith ns o → KeepsTo ns (found o)
+  found-keeps o h = answered-keeps ns (orNothing stretched) (orNothing-not-refused stretched stretched-not-refused) o h
 
 -- ---- the numbers of a type that is read are among those of each call on types
 
@@ -184,81 +184,81 @@ shape-with side (ty s k) (ty t l) = mapped-numbered (λ u. ty u l) (checkShape s
 -- ---- every call
 
 -- "Gets its result or one of thirteen numbered refusals": each call, one of its own.
-pub call-told : (c : Call) → Told (numbersOf c) (answerOf c)
-unfolding answerOf
-call-told (vg-dim-cmp a b) = compared-told ofSizes (cmpCall a b) (sizes-with cmpDim a b)
-call-told (vg-dim-cmp-defined a b) = compared-told ofSizes (cmpDefinedCall a b) (sizes-with cmpDefined a b)
-call-told (vg-dim-max a b) = sized-told ofSizes (maxCall a b) (sizes-with larger a b)
-call-told (vg-dim-join a b) = sized-told ofSizes (joinSizesCall a b) (sizes-with joinDim a b)
-call-told (vg-dim-compatible a b) = tested-told ofSizes (compatibleCall a b) (sizes-with compatible a b)
-call-told (vg-dim-row-compatible a b) = tested-told ofSizes (rowCompatibleCall a b) (sizes-with rowCompatible a b)
-call-told (vg-merge a b result) = written-told ofWritten refl (mergeCall a b) result (of-shapes lone-written (λ s t. writeShape (mergeFrom s t)) a b)
-call-told (vg-join-shapes a b result) = written-told ofWritten refl (joinCall a b) result (of-shapes lone-written (λ s t. writeShape (joinShapes s t)) a b)
-call-told (vg-compatible-shapes a b) = tested-told ofLone (compatibleShapesCall a b) (of-shapes lone-lone compatibleShapes a b)
-call-told (vg-row-shape t result) = written-told ofWritten refl (rowCall t) result (of-shape lone-written (λ s. writeShape (rowShape s)) t)
-call-told (vg-shape-is-any t) = tested-told ofLone (isAnyCall t) (of-shape lone-lone isAny t)
-call-told (vg-shape-is-scalar t) = tested-told ofLone (isScalarCall t) (of-shape lone-lone isScalar t)
-call-told (vg-row-count t) = sized-told ofLone (rowCountCall t) (of-shape lone-lone rowCount t)
-call-told (vg-rank t) = counted-told ofLone (rankCall t) (of-shape lone-lone rank t)
-call-told (vg-pervade flag a b result) = written-told ofPervaded refl (pervadeFlagged flag a b) result (flagged-with flag a b)
-call-told (vg-union a b result) =
-    written-told ofWritten refl (ofScalars (λ k l. writeScalar (union k l)) a b) result
+pub call-keeps : (c : Call) → KeepsTo (numbersOf c) (replyTo c)
+unfolding replyTo
+call-keeps (vg-dim-cmp a b) = compared-keeps ofSizes (cmpCall a b) (sizes-with cmpDim a b)
+call-keeps (vg-dim-cmp-defined a b) = compared-keeps ofSizes (cmpDefinedCall a b) (sizes-with cmpDefined a b)
+call-keeps (vg-dim-max a b) = sized-keeps ofSizes (maxCall a b) (sizes-with larger a b)
+call-keeps (vg-dim-join a b) = sized-keeps ofSizes (joinSizesCall a b) (sizes-with joinDim a b)
+call-keeps (vg-dim-compatible a b) = tested-keeps ofSizes (compatibleCall a b) (sizes-with compatible a b)
+call-keeps (vg-dim-row-compatible a b) = tested-keeps ofSizes (rowCompatibleCall a b) (sizes-with rowCompatible a b)
+call-keeps (vg-merge a b result) = written-keeps ofWritten refl (mergeCall a b) result (of-shapes lone-written (λ s t. writeShape (mergeFrom s t)) a b)
+call-keeps (vg-join-shapes a b result) = written-keeps ofWritten refl (joinCall a b) result (of-shapes lone-written (λ s t. writeShape (joinShapes s t)) a b)
+call-keeps (vg-compatible-shapes a b) = tested-keeps ofLone (compatibleShapesCall a b) (of-shapes lone-lone compatibleShapes a b)
+call-keeps (vg-row-shape t result) = written-keeps ofWritten refl (rowCall t) result (of-shape lone-written (λ s. writeShape (rowShape s)) t)
+call-keeps (vg-shape-is-any t) = tested-keeps ofLone (isAnyCall t) (of-shape lone-lone isAny t)
+call-keeps (vg-shape-is-scalar t) = tested-keeps ofLone (isScalarCall t) (of-shape lone-lone isScalar t)
+call-keeps (vg-row-count t) = sized-keeps ofLone (rowCountCall t) (of-shape lone-lone rowCount t)
+call-keeps (vg-rank t) = counted-keeps ofLone (rankCall t) (of-shape lone-lone rank t)
+call-keeps (vg-pervade flag a b result) = written-keeps ofPervaded refl (pervadeFlagged flag a b) result (flagged-with flag a b)
+call-keeps (vg-union a b result) =
+    written-keeps ofWritten refl (ofScalars (λ k l. writeScalar (union k l)) a b) result
     (of-types lone-written (λ t u. writeScalar (union (scalarOf t) (scalarOf u))) a b)
-call-told (vg-unrefine t result) = written-told ofWritten refl (ofScalar (λ k. writeScalar (unrefine k)) t) result (of-one lone-written (λ u. writeScalar (unrefine (scalarOf u))) t)
-call-told (vg-superset a b) = tested-told ofLone (ofScalars supersetOf a b) (of-types lone-lone (λ t u. supersetOf (scalarOf t) (scalarOf u)) a b)
-call-told (vg-compatible-scalars a b) = tested-told ofLone (ofScalars compatibleScalars a b) (of-types lone-lone (λ t u. compatibleScalars (scalarOf t) (scalarOf u)) a b)
-call-told (vg-compatible-with-boxes a b) = tested-told ofLone (ofScalars compatibleWithBoxes a b) (of-types lone-lone (λ t u. compatibleWithBoxes (scalarOf t) (scalarOf u)) a b)
-call-told (vg-compare a b) = compared-told ofLone (ofTypes compare a b) (of-types lone-lone compare a b)
-call-told (vg-read t) = counted-told ofLone (mapped nothing (lone t)) (of-one lone-lone nothing t)
-call-told (vg-shape-record t result) = written-told ofWritten refl (mapped shapeRecord (lone t)) result (of-one lone-written shapeRecord t)
-call-told (vg-scalar-record t result) = written-told ofWritten refl (mapped scalarRecord (lone t)) result (of-one lone-written scalarRecord t)
-call-told (vg-row t result) = written-told ofWritten refl (mapped (λ u. writeTy (intoRow u)) (lone t)) result (of-one lone-written (λ u. writeTy (intoRow u)) t)
-call-told (vg-first-row t result) = written-told ofWritten refl (mapped (λ u. writeTy (intoFirstRow u)) (lone t)) result (of-one lone-written (λ u. writeTy (intoFirstRow u)) t)
-call-told (vg-last-row t result) = written-told ofWritten refl (mapped (λ u. writeTy (intoLastRow u)) (lone t)) result (of-one lone-written (λ u. writeTy (intoLastRow u)) t)
-call-told (vg-nth-row t n result) = written-told ofWritten refl (mapped (λ u. writeTy (intoNthRow n u)) (lone t)) result (of-one lone-written (λ u. writeTy (intoNthRow n u)) t)
-call-told (vg-unboxed t result) = written-told ofWritten refl (mapped (λ u. writeTy (unboxed u)) (lone t)) result (of-one lone-written (λ u. writeTy (unboxed u)) t)
-call-told (vg-as-boxes t result) = boxes-told ofWritten refl (bound asBoxes (lone t)) result (from-one lone-written asBoxes boxes-with t)
-call-told (vg-field t n) = found-told ofLone (mapped (fieldPlace n) (lone t)) (of-one lone-lone (fieldPlace n) t)
-call-told (vg-join a b result) = written-told ofWritten refl (joinTypesCall a b) result (of-types lone-written (λ t u. writeTy (joinTypes t u)) a b)
-call-told (vg-validate side spec t result) = written-told ofValidated refl (sided validate side spec t) result (sided-with lone-validated validate validate-with side spec t)
-call-told (vg-check-shape side spec t result) =
-    written-told ofShapeChecked refl (sided checkShapeOnly side spec t) result
+call-keeps (vg-unrefine t result) = written-keeps ofWritten refl (ofScalar (λ k. writeScalar (unrefine k)) t) result (of-one lone-written (λ u. writeScalar (unrefine (scalarOf u))) t)
+call-keeps (vg-superset a b) = tested-keeps ofLone (ofScalars supersetOf a b) (of-types lone-lone (λ t u. supersetOf (scalarOf t) (scalarOf u)) a b)
+call-keeps (vg-compatible-scalars a b) = tested-keeps ofLone (ofScalars compatibleScalars a b) (of-types lone-lone (λ t u. compatibleScalars (scalarOf t) (scalarOf u)) a b)
+call-keeps (vg-compatible-with-boxes a b) = tested-keeps ofLone (ofScalars compatibleWithBoxes a b) (of-types lone-lone (λ t u. compatibleWithBoxes (scalarOf t) (scalarOf u)) a b)
+call-keeps (vg-compare a b) = compared-keeps ofLone (ofTypes compare a b) (of-types lone-lone compare a b)
+call-keeps (vg-read t) = counted-keeps ofLone (mapped nothing (lone t)) (of-one lone-lone nothing t)
+call-keeps (vg-shape-record t result) = written-keeps ofWritten refl (mapped shapeRecord (lone t)) result (of-one lone-written shapeRecord t)
+call-keeps (vg-scalar-record t result) = written-keeps ofWritten refl (mapped scalarRecord (lone t)) result (of-one lone-written scalarRecord t)
+call-keeps (vg-row t result) = written-keeps ofWritten refl (mapped (λ u. writeTy (intoRow u)) (lone t)) result (of-one lone-written (λ u. writeTy (intoRow u)) t)
+call-keeps (vg-first-row t result) = written-keeps ofWritten refl (mapped (λ u. writeTy (intoFirstRow u)) (lone t)) result (of-one lone-written (λ u. writeTy (intoFirstRow u)) t)
+call-keeps (vg-last-row t result) = written-keeps ofWritten refl (mapped (λ u. writeTy (intoLastRow u)) (lone t)) result (of-one lone-written (λ u. writeTy (intoLastRow u)) t)
+call-keeps (vg-nth-row t n result) = written-keeps ofWritten refl (mapped (λ u. writeTy (intoNthRow n u)) (lone t)) result (of-one lone-written (λ u. writeTy (intoNthRow n u)) t)
+call-keeps (vg-unboxed t result) = written-keeps ofWritten refl (mapped (λ u. writeTy (unboxed u)) (lone t)) result (of-one lone-written (λ u. writeTy (unboxed u)) t)
+call-keeps (vg-as-boxes t result) = boxes-keeps ofWritten refl (bound asBoxes (lone t)) result (from-one lone-written asBoxes boxes-with t)
+call-keeps (vg-field t n) = found-keeps ofLone (mapped (fieldPlace n) (lone t)) (of-one lone-lone (fieldPlace n) t)
+call-keeps (vg-join a b result) = written-keeps ofWritten refl (joinTypesCall a b) result (of-types lone-written (λ t u. writeTy (joinTypes t u)) a b)
+call-keeps (vg-validate side spec t result) = written-keeps ofValidated refl (sided validate side spec t) result (sided-with lone-validated validate validate-with side spec t)
+call-keeps (vg-check-shape side spec t result) =
+    written-keeps ofShapeChecked refl (sided checkShapeOnly side spec t) result
     (sided-with lone-shape-checked checkShapeOnly shape-with side spec t)
-call-told (vg-check-scalar spec t result) =
-    written-told ofValidated refl (both (λ s u. mapped writeTy (checkScalarOnly s u)) (lone spec) (lone t)) result
+call-keeps (vg-check-scalar spec t result) =
+    written-keeps ofValidated refl (both (λ s u. mapped writeTy (checkScalarOnly s u)) (lone spec) (lone t)) result
     (from-two lone-validated (λ s u. mapped writeTy (checkScalarOnly s u)) scalar-with spec t)
-call-told (vg-val-ty kind x list t result) =
-    written-told ofWritten refl (mapped writeTy (bound valueTy (handedIn kind x list t))) result
+call-keeps (vg-val-ty kind x list t result) =
+    written-keeps ofWritten refl (mapped writeTy (bound valueTy (handedIn kind x list t))) result
     (mapped-numbered writeTy (bound valueTy (handedIn kind x list t)) (bound-numbered valueTy (handedIn kind x list t) (handed-with lone-written kind x list t) (ty-with refl)))
-call-told (vg-val-spec kind x list t result) =
-    written-told ofSizesWritten refl (mapped writeTy (bound valueSpec (handedIn kind x list t))) result
+call-keeps (vg-val-spec kind x list t result) =
+    written-keeps ofSizesWritten refl (mapped writeTy (bound valueSpec (handedIn kind x list t))) result
     (mapped-numbered writeTy (bound valueSpec (handedIn kind x list t)) (bound-numbered valueSpec (handedIn kind x list t) (handed-with lone-sizes-written kind x list t) (spec-with (refl, (refl, (refl, tt))))))
-call-told (vg-val-scalar kind x list t result) =
-    written-told ofWritten refl (mapped writeScalar (mapped valueScalar (handedIn kind x list t))) result
+call-keeps (vg-val-scalar kind x list t result) =
+    written-keeps ofWritten refl (mapped writeScalar (mapped valueScalar (handedIn kind x list t))) result
     (mapped-numbered writeScalar (mapped valueScalar (handedIn kind x list t)) (mapped-numbered valueScalar (handedIn kind x list t) (handed-with lone-written kind x list t)))
-call-told (vg-nums-scalar list result) = written-told ofResult refl (accepted (writeScalar (numsScalar list))) result accepted-with
-call-told (vg-val-row-count kind x list t) =
-    sized-told ofLone (bound valueRowCount (handedIn kind x list t))
+call-keeps (vg-nums-scalar list result) = written-keeps ofResult refl (accepted (writeScalar (numsScalar list))) result accepted-with
+call-keeps (vg-val-row-count kind x list t) =
+    sized-keeps ofLone (bound valueRowCount (handedIn kind x list t))
     (bound-numbered valueRowCount (handedIn kind x list t) (handed-with lone-lone kind x list t) (row-count-with refl))
-call-told (vg-val-rank kind x list t) =
-    counted-told ofLone (mapped valueRank (handedIn kind x list t))
+call-keeps (vg-val-rank kind x list t) =
+    counted-keeps ofLone (mapped valueRank (handedIn kind x list t))
     (mapped-numbered valueRank (handedIn kind x list t) (handed-with lone-lone kind x list t))
-call-told (vg-val-row kind x list t before result) =
-    row-told ofWritten refl before (mapped valueRow (handedIn kind x list t)) result
+call-keeps (vg-val-row kind x list t before result) =
+    row-keeps ofWritten refl before (mapped valueRow (handedIn kind x list t)) result
     (mapped-numbered valueRow (handedIn kind x list t) (handed-with lone-written kind x list t))
-call-told (vg-val-first-row kind x list t before result) =
-    row-told ofWritten refl before (mapped valueFirstRow (handedIn kind x list t)) result
+call-keeps (vg-val-first-row kind x list t before result) =
+    row-keeps ofWritten refl before (mapped valueFirstRow (handedIn kind x list t)) result
     (mapped-numbered valueFirstRow (handedIn kind x list t) (handed-with lone-written kind x list t))
-call-told (vg-val-last-row kind x list t before result) =
-    row-told ofWritten refl before (mapped valueLastRow (handedIn kind x list t)) result
+call-keeps (vg-val-last-row kind x list t before result) =
+    row-keeps ofWritten refl before (mapped valueLastRow (handedIn kind x list t)) result
     (mapped-numbered valueLastRow (handedIn kind x list t) (handed-with lone-written kind x list t))
-call-told (vg-as-dim kind x list t) =
-    sizedOrNone-told ofSize (bound valueAsDim (handedIn kind x list t))
+call-keeps (vg-as-dim kind x list t) =
+    sizedOrNone-keeps ofSize (bound valueAsDim (handedIn kind x list t))
     (bound-numbered valueAsDim (handedIn kind x list t) (handed-with lone-size kind x list t) (as-dim-with (refl, (refl, tt))))
-call-told (vg-as-dims kind x list t sizes) =
-    sizes-told ofSizesWritten refl (bound valueAsDims (handedIn kind x list t)) sizes
+call-keeps (vg-as-dims kind x list t sizes) =
+    sizes-keeps ofSizesWritten refl (bound valueAsDims (handedIn kind x list t)) sizes
     (bound-numbered valueAsDims (handedIn kind x list t) (handed-with lone-sizes-written kind x list t) (as-dims-with (refl, (refl, (refl, tt)))))
-call-told (vg-check-sheet sheet result scratch) = sheet-told ofSheetCall (sheetCall sheet result scratch) (call-numbered sheet result scratch)
+call-keeps (vg-check-sheet sheet result scratch) = sheet-keeps ofSheetCall (sheetCall sheet result scratch) (call-numbered sheet result scratch)
 
 -- ---- the lists are of the thirteen
 
@@ -342,5 +342,5 @@ numbers-thirteen (vg-as-dims kind x list t sizes) = sizes-written-thirteen
 numbers-thirteen (vg-check-sheet sheet result scratch) = sheet-call-thirteen
 
 -- "One of thirteen."
-pub call-thirteen : (c : Call) → Told thirteen (answerOf c)
-call-thirteen c = λ e. among-more (numbersOf c) thirteen (numbers-thirteen c) (answerOf c .number) (call-told c e)
+pub call-thirteen : (c : Call) → KeepsTo thirteen (replyTo c)
+call-thirteen c = λ e. among-more (numbersOf c) thirteen (numbers-thirteen c) (replyTo c .number) (call-keeps c e)

@@ -1,8 +1,10 @@
 // The order of two types: scalar first, then shape.
+mod kinds;
 mod names;
 mod shapes;
 mod types;
 
+pub use kinds::kind_place;
 pub use types::compare;
 pub use types::compare_types;
 

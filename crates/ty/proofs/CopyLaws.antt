@@ -13,7 +13,7 @@ use Rattle.model.specs.Refusals.{tooMany}
 use Rattle.format.specs.Records.{absent, dimOf}
 use Rattle.format.specs.Outcome.{accepted, refused}
 use Rattle.lent.specs.Over.{over, over-over}
-use Rattle.ty.specs.Copies.{repeated, listed, listedFor}
+use Rattle.ty.specs.Copies.{repeated, copyBytes, copyBytesFor}
 
 module _ (w : List ℕ) where
   pub length-repeated : (n : ℕ) → length (repeated n w) ≡ n * length w
@@ -59,8 +59,8 @@ module _ (out : List ℕ) (start : ℕ) (w : List ℕ) where
       ∙ over-over out start (repeated i w) (omega (arith, one-more w i n l)) w
       ∙ ap (over out start) (sym (repeated-end w i))
 
-pub length-listed : (n : ℕ) (w : List ℕ) → length (listed n w) ≡ 2 + n * length w
-unfolding listed
+pub length-listed : (n : ℕ) (w : List ℕ) → length (copyBytes n w) ≡ 2 + n * length w
+unfolding copyBytes
 length-listed n w = omega (arith, length-repeated w n)
 
 -- a list of copies is no longer than so many of the longest type
@@ -68,8 +68,8 @@ pub copies-fit : (n : ℕ) (w : List ℕ) → n ≤ maxFields → length w ≤ m
 copies-fit n w h l = mul-le-mul h l
 
 -- the two first bytes, then the copies
-pub lay-listed : (out : List ℕ) (n : ℕ) (w : List ℕ) {after : List ℕ} → length (listed n w) ≤ length out → after ≡ over (set (set out 0 absent) 1 n) 2 (repeated n w) → after ≡ over out 0 (listed n w)
-unfolding listed
+pub lay-listed : (out : List ℕ) (n : ℕ) (w : List ℕ) {after : List ℕ} → length (copyBytes n w) ≤ length out → after ≡ over (set (set out 0 absent) 1 n) 2 (repeated n w) → after ≡ over out 0 (copyBytes n w)
+unfolding copyBytes
 lay-listed out n w fits laid =
     laid
     ∙ ap (λ x. over x 2 (repeated n w)) (sets-eq (absent ∷ n ∷ []) out 0 (omega arith))
@@ -78,14 +78,14 @@ lay-listed out n w fits laid =
 -- ---- as many as there are rows
 
 module _ (rows : ℕ) (w : List ℕ) where
-  pub listed-unknown : rows ≡ ones → listedFor (dimOf rows) w ≡ accepted (listed 1 w)
-  unfolding listedFor
+  pub listed-unknown : rows ≡ ones → copyBytesFor (dimOf rows) w ≡ accepted (copyBytes 1 w)
+  unfolding copyBytesFor
   listed-unknown e = rw (eq-eqb rows ones e)
 
-  pub listed-over : (rows ≡ ones → ⊥) → maxFields < rows → listedFor (dimOf rows) w ≡ refused tooMany 0
-  unfolding listedFor
+  pub listed-over : (rows ≡ ones → ⊥) → maxFields < rows → copyBytesFor (dimOf rows) w ≡ refused tooMany 0
+  unfolding copyBytesFor
   listed-over e l = rw (ne-eqb rows ones e, lt-leb rows maxFields l)
 
-  pub listed-some : (rows ≡ ones → ⊥) → rows ≤ maxFields → listedFor (dimOf rows) w ≡ accepted (listed rows w)
-  unfolding listedFor
+  pub listed-some : (rows ≡ ones → ⊥) → rows ≤ maxFields → copyBytesFor (dimOf rows) w ≡ accepted (copyBytes rows w)
+  unfolding copyBytesFor
   listed-some e l = rw (ne-eqb rows ones e, le-leb rows maxFields l)

@@ -8,11 +8,13 @@ use mathlib.Core.Path.{_≡_, refl, sym, _∙_, ap}
 use lib.ListN.{length, take, drop, length-append}
 use lib.Dec.{ltb}
 use borrow.Author.Tests.{eq-eqb, ne-eqb, lt-ltb, le-ltb, ltb-true, ltb-false}
+use Rattle.model.specs.Refusals.{tooShort}
 use Rattle.model.specs.Types.{Shape, Scalar, plain, boxAny, boxAll, boxDef, Fields, noFields, field, Ty, ty, boxOf, shapeOf, fieldCount}
 use Rattle.format.specs.Reader.{Bytes}
 use Rattle.format.specs.Records.{boxStart, writeShape, writeScalar, writeTy}
-use Rattle.format.specs.Outcome.{Outcome, accepted, refused, mapped, lone, scalarRecord}
+use Rattle.format.specs.Outcome.{Outcome, accepted, refused, mapped, lone, scalarRecord, delivery, deliver}
 use Rattle.format.specs.Views.{rest-is}
+use Rattle.lent.specs.Delivers.{deliver-short, deliver-wrote}
 use Rattle.lent.specs.Over.{over, over-over}
 use Rattle.record.specs.Answers.{nothing}
 use Rattle.rules.specs.Shapes.{rank, rowShape}
@@ -29,10 +31,10 @@ use Rattle.ty.proofs.ContentLaws.{anyBytes, any-bytes, first-is, field-
 -- ---- three stretches, one after the other
 
 module _ (u v w : List ℕ) {i j n : ℕ} (first : i ≡ length u) (second : j ≡ i + length v) (third : n ≡ j + length w) where
-  pub parts-length : n ≡ length (u ++ (v ++ w))
+  parts-length : n ≡ length (u ++ (v ++ w))
   parts-length = simp length-append (omega arith)
 
-  pub lay-parts : (out : List ℕ) {one two three : List ℕ} → n ≤ length out → one ≡ over out 0 u → two ≡ over one i v → three ≡ over two j w → three ≡ over out 0 (u ++ (v ++ w))
+  lay-parts : (out : List ℕ) {one two three : List ℕ} → n ≤ length out → one ≡ over out 0 u → two ≡ over one i v → three ≡ over two j w → three ≡ over out 0 (u ++ (v ++ w))
   lay-parts out {one} {two} {three} fits e f g =
       let start : i ≡ 0 + length u = omega arith in
       let end : j ≡ 0 + length (u ++ v) = omega (arith, length-append u v) in
@@ -41,6 +43,13 @@ module _ (u v w : List ℕ) {i j n : ℕ} (first : i ≡ length u) (second : j �
       ∙ ap (λ k. over (over out 0 (u ++ v)) k w) end
       ∙ over-over out 0 (u ++ v) (omega (arith, length-append u v)) w
       ∙ ap (over out 0) (append-assoc u v w)
+
+  module _ (out : List ℕ) where
+    pub parts-short : length out < n → delivery (refused tooShort 0) out ≡ deliver (accepted (u ++ (v ++ w))) out
+    parts-short h = sym (deliver-short out refl (omega (arith, parts-length)))
+
+    pub parts-wrote : {one two three : List ℕ} → n ≤ length out → one ≡ over out 0 u → two ≡ over one i v → three ≡ over two j w → delivery (accepted n) three ≡ deliver (accepted (u ++ (v ++ w))) out
+    parts-wrote fits e f g = deliver-wrote out refl (omega (arith, parts-length)) parts-length (lay-parts out fits e f g)
 
 -- ---- the field that is chosen
 

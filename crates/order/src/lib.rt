@@ -9,7 +9,7 @@ pub use types::compare;
 pub use types::compare_types;
 
 // How two records compare; where they are the same, the place after the first.
-pub enum Compared {
+pub enum Ranking {
     Less,
     Same(usize),
     More,

@@ -5,29 +5,29 @@ use native.Mathlib.Numerals.{add-one}
 use mathlib.Core.Bool.{true, false}
 use mathlib.Core.List.{List}
 use mathlib.Core.Option.{Option, none, some}
-use mathlib.Core.Path.{_≡_, sym, _∙_, ap}
+use mathlib.Core.Path.{_≡_, refl, sym, _∙_, ap}
 use lib.ListN.{length, take, drop, getD, length-drop}
 use lib.Seq.{length-take-le, getD-take, getD-drop}
 use Rattle.model.specs.Types.{unknown}
-use Rattle.format.specs.Records.{absent, listOf, dimOf}
+use Rattle.format.specs.Records.{listOf, dimOf}
 use Rattle.record.specs.Answers.{dimsOf, closingFor, shapeFor}
 use Rattle.record.specs.declared.Dims.{Dims}
 use Rattle.record.specs.declared.DynShape.{DynShape}
 use Rattle.record.proofs.ByValue.{size-at}
 use Rattle.rules.specs.Sizes.{Order, less, same, more, cmpNumber, cmpDim}
 use Rattle.rules.specs.Order.{thenBy, cmpList, cmpOption, cmpShape, cmpName}
-use Rattle.walk.specs.At.{NameAt}
-use Rattle.walk.specs.AtLaws.{name-count, name-bytes, is-unnamed, is-named}
+use Rattle.known.specs.Known.{isNamed, NameIs}
+use Rattle.known.specs.declared.Name.{Name}
 use Rattle.rules.specs.SizesLaws.{cmpNumber-less, cmpNumber-more, cmpNumber-refl}
 use Rattle.rules.specs.OrderSteps.{cmpList-step, cmpList-less, cmpList-more, cmpList-end}
 
 -- ---- lists, index by index: the first i elements are the same
 
 module _ {A : Type 0} (cmp : A → A → Order) (x y : List A) (z : A) where
-  abbrev pub Walked : ℕ → Type 0
-  Walked i = cmpList cmp x y ≡ cmpList cmp (drop i x) (drop i y)
+  abbrev pub AlikeUpTo : ℕ → Type 0
+  AlikeUpTo i = cmpList cmp x y ≡ cmpList cmp (drop i x) (drop i y)
 
-  module _ (i : ℕ) (w : Walked i) where
+  module _ (i : ℕ) (w : AlikeUpTo i) where
     pub walk-less : length x ≤ i → i < length y → cmpList cmp x y ≡ less
     walk-less h k = w ∙ cmpList-less cmp i x y z h k
 
@@ -47,19 +47,19 @@ module _ {A : Type 0} (cmp : A → A → Order) (x y : List A) (z : A) where
       pub differs-more : o ≡ more → cmpList cmp x y ≡ more
       differs-more f = step ∙ rw f
 
-      pub agrees : o ≡ same → Walked (i + 1)
+      pub agrees : o ≡ same → AlikeUpTo (i + 1)
       agrees f = step ∙ rw (f, add-one)
 
 -- ---- sizes by value
 
 module _ (a b : Dims) where
-  abbrev pub Sized : ℕ → Type 0
-  Sized i = Walked cmpDim (dimsOf a) (dimsOf b) unknown i
+  abbrev pub SizesAlike : ℕ → Type 0
+  SizesAlike i = AlikeUpTo cmpDim (dimsOf a) (dimsOf b) unknown i
 
   abbrev pub cmpDims : Order
   cmpDims = cmpList cmpDim (dimsOf a) (dimsOf b)
 
-  module _ (i : ℕ) (w : Sized i) where
+  module _ (i : ℕ) (w : SizesAlike i) where
     pub sizes-less : length (dimsOf a) ≤ i → i < length (dimsOf b) → cmpDims ≡ less
     sizes-less h k = walk-less cmpDim (dimsOf a) (dimsOf b) unknown i w h k
 
@@ -79,7 +79,7 @@ module _ (a b : Dims) where
       pub size-more : o ≡ more → cmpDims ≡ more
       size-more f = differs-more cmpDim (dimsOf a) (dimsOf b) unknown i w h k there f
 
-      pub size-same : o ≡ same → Sized (i + 1)
+      pub size-same : o ≡ same → SizesAlike (i + 1)
       size-same f = agrees cmpDim (dimsOf a) (dimsOf b) unknown i w h k there f
 
 -- ---- stretches of bytes
@@ -100,10 +100,10 @@ module _ (a : List ℕ) (i m : ℕ) (b : List ℕ) (j n : ℕ) (first : i + m �
   right-length : length right ≡ n
   right-length = length-take-le n (drop j b) (omega (arith, length-drop j b))
 
-  abbrev pub Same-bytes : ℕ → Type 0
-  Same-bytes k = Walked cmpNumber left right 0 k
+  abbrev pub BytesAlike : ℕ → Type 0
+  BytesAlike k = AlikeUpTo cmpNumber left right 0 k
 
-  module _ (k : ℕ) (w : Same-bytes k) where
+  module _ (k : ℕ) (w : BytesAlike k) where
     pub bytes-less : m ≤ k → k < n → cmpList cmpNumber left right ≡ less
     bytes-less h l = walk-less cmpNumber left right 0 k w (omega (arith, left-length)) (omega (arith, right-length))
 
@@ -123,45 +123,35 @@ module _ (a : List ℕ) (i m : ℕ) (b : List ℕ) (j n : ℕ) (first : i + m �
       pub byte-more : getD b (j + k) 0 < getD a (i + k) 0 → cmpList cmpNumber left right ≡ more
       byte-more f = differs-more cmpNumber left right 0 k w (omega (arith, left-length)) (omega (arith, right-length)) byte (cmpNumber-more (getD a (i + k) 0) (getD b (j + k) 0) f)
 
-      pub byte-same : getD b (j + k) 0 ≤ getD a (i + k) 0 → getD a (i + k) 0 ≤ getD b (j + k) 0 → Same-bytes (k + 1)
+      pub byte-same : getD b (j + k) 0 ≤ getD a (i + k) 0 → getD a (i + k) 0 ≤ getD b (j + k) 0 → BytesAlike (k + 1)
       byte-same f g = agrees cmpNumber left right 0 k w (omega (arith, left-length)) (omega (arith, right-length)) byte (number-same (getD a (i + k) 0) (getD b (j + k) 0) (omega arith))
 
--- ---- names behind their lengths
+-- ---- names
 
-module _ (a : List ℕ) (i : ℕ) (b : List ℕ) (j : ℕ) {x y : ℕ} (count : x ≡ getD a i 0) (count′ : y ≡ getD b j 0) (m n : Option (List ℕ)) (first : NameAt a i m) (second : NameAt b j n) where
-  unnamed : x ≡ absent → m ≡ none
-  unnamed e = is-unnamed m (first .records) (sym (count ∙ name-count a i m first) ∙ e)
+is-none : (n : Option (List ℕ)) → isNamed n ≡ false → n ≡ none
+is-none none e = refl
+is-none (some l) e = let z : _≡_ {A = ℕ} 0 1 = cc in absurd (omega arith)
 
-  unnamed′ : y ≡ absent → n ≡ none
-  unnamed′ e = is-unnamed n (second .records) (sym (count′ ∙ name-count b j n second) ∙ e)
+is-some : (n : Option (List ℕ)) → isNamed n ≡ true → n ≡ some (listOf n)
+is-some none e = let z : _≡_ {A = ℕ} 0 1 = cc in absurd (omega arith)
+is-some (some l) e = refl
 
-  named : {C : Type 0} → (x ≡ absent → ⊥) → ((l : List ℕ) → m ≡ some l → C) → C
-  named e f = is-named m (λ g. e (count ∙ name-count a i m first ∙ g)) f
-
-  named′ : {C : Type 0} → (y ≡ absent → ⊥) → ((l : List ℕ) → n ≡ some l → C) → C
-  named′ e f = is-named n (λ g. e (count′ ∙ name-count b j n second ∙ g)) f
-
-  pub names-none : x ≡ absent → y ≡ absent → cmpName m n ≡ same
+module _ (a : List ℕ) (i : ℕ) (b : List ℕ) (j : ℕ) (x y : Name) (m n : Option (List ℕ)) (first : NameIs a i m x) (second : NameIs b j n y) where
+  pub names-none : x .named ≡ false → y .named ≡ false → cmpName m n ≡ same
   unfolding cmpName
-  names-none e f = rw (unnamed e, unnamed′ f)
+  names-none e f = rw (is-none m (sym (first .known) ∙ e), is-none n (sym (second .known) ∙ f))
 
-  pub names-less : x ≡ absent → (y ≡ absent → ⊥) → cmpName m n ≡ less
+  pub names-less : x .named ≡ false → y .named ≡ true → cmpName m n ≡ less
   unfolding cmpName
-  names-less e f = named′ f λ l g. rw (unnamed e, g)
+  names-less e f = rw (is-none m (sym (first .known) ∙ e), is-some n (sym (second .known) ∙ f))
 
-  pub names-more : (x ≡ absent → ⊥) → y ≡ absent → cmpName m n ≡ more
+  pub names-more : x .named ≡ true → y .named ≡ false → cmpName m n ≡ more
   unfolding cmpName
-  names-more e f = named e λ l g. rw (unnamed′ f, g)
+  names-more e f = rw (is-some m (sym (first .known) ∙ e), is-none n (sym (second .known) ∙ f))
 
-  pub names-both : (x ≡ absent → ⊥) → (y ≡ absent → ⊥) → cmpName m n ≡ cmpList cmpNumber (take x (drop (i + 1) a)) (take y (drop (j + 1) b))
+  pub names-both : x .named ≡ true → y .named ≡ true → cmpName m n ≡ cmpList cmpNumber (take (x .end - x .start) (drop (x .start) a)) (take (y .end - y .start) (drop (y .start) b))
   unfolding cmpName
-  names-both e f =
-      named e λ l g. named′ f λ k h.
-      let u : x ≡ length (listOf m) = count ∙ name-count a i m first ∙ rw g in
-      let v : y ≡ length (listOf n) = count′ ∙ name-count b j n second ∙ rw h in
-      let p : take x (drop (i + 1) a) ≡ l = ap (λ c. take c (drop (i + 1) a)) u ∙ name-bytes a i m first ∙ rw g in
-      let q : take y (drop (j + 1) b) ≡ k = ap (λ c. take c (drop (j + 1) b)) v ∙ name-bytes b j n second ∙ rw h in
-      rw (g, h, p, q)
+  names-both e f = rw (first .bytes, second .bytes) (ap (λ m. cmpOption (cmpList cmpNumber) m n) (is-some m (sym (first .known) ∙ e)) ∙ ap (cmpOption (cmpList cmpNumber) (some (listOf m))) (is-some n (sym (second .known) ∙ f)))
 
 -- ---- shapes
 

@@ -1,7 +1,6 @@
 // The order of names in their bytes: by the first difference, then length.
-use limits::ABSENT;
+use known::name_at;
 use shape::Order;
-use walk::count_at;
 ghost use mathlib.Core.Path.{_≡_};
 ghost use mathlib.Core.List.{List};
 ghost use mathlib.Core.Option.{Option};
@@ -10,25 +9,27 @@ ghost use lib.ListN.{length, take, drop};
 ghost use Rattle.rules.specs.Sizes.{cmpNumber};
 ghost use Rattle.rules.specs.Order.{cmpList, cmpName};
 ghost use Rattle.shape.specs.Answers.{orderOf};
-ghost use Rattle.walk.specs.At.{NameAt, HasName};
+ghost use Rattle.known.specs.Known.{NameAt, HasName};
 
 // No name before a name. Both stand behind their lengths.
 pub fn cmp_names(a: &[u8], i: usize, b: &[u8], j: usize) -> Order
     requires { ⌜ HasName (now a) i × HasName (now b) j ⌝ }
     ensures { λ r. ⌜ ((m n : Option (List ℕ)) → NameAt (now (a .entry)) i m → NameAt (now (b .entry)) j n → orderOf r ≡ cmpName m n) ⌝ }
 {
-    let m = count_at(a, i);
-    let n = count_at(b, j);
-    if m == ABSENT {
-        if n == ABSENT {
-            return Order::Same;
+    let first = name_at(a, i);
+    let second = name_at(b, j);
+    if first.named {
+        if second.named {
+            let m = first.end - first.start;
+            let n = second.end - second.start;
+            return cmp_bytes(a, first.start, m, b, second.start, n);
         }
-        return Order::Less;
-    }
-    if n == ABSENT {
         return Order::More;
     }
-    cmp_bytes(a, i + 1, m as usize, b, j + 1, n as usize)
+    if second.named {
+        return Order::Less;
+    }
+    Order::Same
 }
 
 // m bytes from i on against n bytes from j on.

@@ -85,11 +85,11 @@ abbrev pub cut : Option Stretch → List ℕ → Option (List ℕ)
 cut none w = none
 cut (some (stretch at n)) w = some (take n (drop at w))
 
-abbrev pub written : Option Ty → Option (List ℕ)
-written none = none
-written (some t) = some (writeTy t)
+abbrev pub optionBytes : Option Ty → Option (List ℕ)
+optionBytes none = none
+optionBytes (some t) = some (writeTy t)
 
-stretch-bytes : (at n : ℕ) (f : Fields) (w : List ℕ) → drop at w ≡ writeFields f → cut (stretchIn at n f) w ≡ written (fieldIn n f)
+stretch-bytes : (at n : ℕ) (f : Fields) (w : List ℕ) → drop at w ≡ writeFields f → cut (stretchIn at n f) w ≡ optionBytes (fieldIn n f)
 unfolding stretchIn fieldIn writeFields writeTy
 stretch-bytes at n noFields w h = refl
 stretch-bytes at zero (field s k f) w h = ap some (rw h (take-append-seam (writeShape s ++ writeScalar k) (writeFields f)))
@@ -102,7 +102,7 @@ unfolding writeScalar
 def-bytes s m f = simp append-assoc
 
 -- Field n's stretch of the type's bytes is what is written for field n, and there is none where there is no such field.
-pub field-bytes : (n : ℕ) (t : Ty) → cut (fieldPlace n t) (writeTy t) ≡ written (fieldAt n t)
+pub field-bytes : (n : ℕ) (t : Ty) → cut (fieldPlace n t) (writeTy t) ≡ optionBytes (fieldAt n t)
 unfolding fieldPlace fieldAt writeTy
 field-bytes n (ty s (plain k)) = refl
 field-bytes n (ty s boxAny) = refl

@@ -14,6 +14,15 @@ codeOf boxAny = boxCode
 codeOf (boxAll s k) = boxCode
 codeOf (boxDef n f) = boxCode
 
+-- The place of a kind in the paper's order, by its code: the codes stand in that order. A kind that gets a later code than its
+-- place (document 02's Multivector: code 10, between Complex and Ascii) changes this function alone.
+unfoldable pub kindPlace : ℕ → ℕ
+kindPlace c = c
+
+-- Two kinds by their places.
+abbrev pub cmpKind : ℕ → ℕ → Order
+cmpKind c d = cmpNumber (kindPlace c) (kindPlace d)
+
 -- the first difference decides
 abbrev pub thenBy : Order → Order → Order
 thenBy less x = less
@@ -39,17 +48,19 @@ unfoldable pub cmpName : Option (List ℕ) → Option (List ℕ) → Order
 cmpName m n = cmpOption (cmpList cmpNumber) m n
 
 unfoldable mutual
+  unfolding kindPlace
+
   pub cmpScalar : Scalar → Scalar → Order
-  cmpScalar (plain k) l = cmpNumber (code k) (codeOf l)
-  cmpScalar boxAny (plain l) = cmpNumber boxCode (code l)
+  cmpScalar (plain k) l = cmpKind (code k) (codeOf l)
+  cmpScalar boxAny (plain l) = cmpKind boxCode (code l)
   cmpScalar boxAny boxAny = same
   cmpScalar boxAny (boxAll t l) = less
   cmpScalar boxAny (boxDef n g) = less
-  cmpScalar (boxAll s k) (plain l) = cmpNumber boxCode (code l)
+  cmpScalar (boxAll s k) (plain l) = cmpKind boxCode (code l)
   cmpScalar (boxAll s k) boxAny = more
   cmpScalar (boxAll s k) (boxAll t l) = thenBy (cmpScalar k l) (cmpShape s t)
   cmpScalar (boxAll s k) (boxDef n g) = less
-  cmpScalar (boxDef m f) (plain l) = cmpNumber boxCode (code l)
+  cmpScalar (boxDef m f) (plain l) = cmpKind boxCode (code l)
   cmpScalar (boxDef m f) boxAny = more
   cmpScalar (boxDef m f) (boxAll t l) = more
   cmpScalar (boxDef m f) (boxDef n g) = thenBy (cmpName m n) (cmpFields f g)

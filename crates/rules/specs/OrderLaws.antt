@@ -8,7 +8,7 @@ use Rattle.model.specs.Types.{Shape, shape, Kind, Scalar, plain, boxAny, boxAll
 use Rattle.format.specs.Records.{code, kindOf, boxCode}
 use Rattle.format.specs.WriteRead.{kind-code}
 use Rattle.rules.specs.Sizes.{Order, less, same, more, cmpNumber, cmpDim}
-use Rattle.rules.specs.Order.{codeOf, thenBy, cmpList, cmpOption, cmpShape, cmpName, cmpScalar, cmpFields, compare}
+use Rattle.rules.specs.Order.{codeOf, kindPlace, cmpKind, thenBy, cmpList, cmpOption, cmpShape, cmpName, cmpScalar, cmpFields, compare}
 use Rattle.rules.specs.SizesLaws.{cmpNumber-refl, cmpNumber-same, cmpDim-refl, cmpDim-same}
 
 -- ---- codes
@@ -23,6 +23,17 @@ code-box k h =
     let a = kind-code k in
     let b : kindOf boxCode ≡ none = refl in
     let z : _≡_ {A = ℕ} 0 1 = cc in omega arith
+
+-- no two kinds have one place
+pub kindPlace-same : (c d : ℕ) → kindPlace c ≡ kindPlace d → c ≡ d
+unfolding kindPlace
+kindPlace-same c d h = h
+
+pub cmpKind-refl : (c : ℕ) → cmpKind c c ≡ same
+cmpKind-refl c = cmpNumber-refl (kindPlace c)
+
+pub cmpKind-same : (c d : ℕ) → cmpKind c d ≡ same → c ≡ d
+cmpKind-same c d h = kindPlace-same c d (cmpNumber-same (kindPlace c) (kindPlace d) h)
 
 -- ---- the first difference decides
 
@@ -80,7 +91,7 @@ mutual
   unfolding codeOf cmpScalar
 
   pub cmpScalar-refl : (k : Scalar) → cmpScalar k k ≡ same
-  cmpScalar-refl (plain k) = cmpNumber-refl (code k)
+  cmpScalar-refl (plain k) = cmpKind-refl (code k)
   cmpScalar-refl boxAny = refl
   cmpScalar-refl (boxAll s k) = rw (cmpScalar-refl k) (cmpShape-refl s)
   cmpScalar-refl (boxDef n f) = rw (cmpName-refl n) (cmpFields-refl f)
@@ -94,17 +105,17 @@ unfolding compare
 compare-refl (ty s k) = rw (cmpScalar-refl k) (cmpShape-refl s)
 
 -- a kind and a box are never the same
-apart : {C : Type 0} (k : Kind) → cmpNumber (code k) boxCode ≡ same → C
-apart k h = absurd (code-box k (cmpNumber-same (code k) boxCode h))
+apart : {C : Type 0} (k : Kind) → cmpKind (code k) boxCode ≡ same → C
+apart k h = absurd (code-box k (cmpKind-same (code k) boxCode h))
 
-apart′ : {C : Type 0} (k : Kind) → cmpNumber boxCode (code k) ≡ same → C
-apart′ k h = absurd (code-box k (sym (cmpNumber-same boxCode (code k) h)))
+apart′ : {C : Type 0} (k : Kind) → cmpKind boxCode (code k) ≡ same → C
+apart′ k h = absurd (code-box k (sym (cmpKind-same boxCode (code k) h)))
 
 mutual
   unfolding codeOf cmpScalar
 
   pub cmpScalar-same : (k l : Scalar) → cmpScalar k l ≡ same → k ≡ l
-  cmpScalar-same (plain k) (plain l) h = ap plain (code-same k l (cmpNumber-same (code k) (code l) h))
+  cmpScalar-same (plain k) (plain l) h = ap plain (code-same k l (cmpKind-same (code k) (code l) h))
   cmpScalar-same (plain k) boxAny h = apart k h
   cmpScalar-same (plain k) (boxAll t l) h = apart k h
   cmpScalar-same (plain k) (boxDef n g) h = apart k h

@@ -1,5 +1,5 @@
 -- Scalars (document 01, "scalar.rs"): `superset_of`, `compatible_with`, `compatible_with_boxes`, `union` and `unrefine`.
--- What goes by kinds alone goes by their codes, in which the kinds stand in the paper's order.
+-- What goes by kinds alone goes by their codes and, where it goes by the paper's order, by the places of these.
 use Prim.Native.Nat.{ℕ}
 use mathlib.Core.Bool.{Bool, _&&_, _||_, cond}
 use lib.Dec.{eqb, leb}
@@ -7,13 +7,18 @@ use Rattle.model.specs.Types.{Kind, bool, nat, int, num, complex, ascii, char, 
 use Rattle.format.specs.Records.{code, boxCode}
 use Rattle.rules.specs.Sizes.{laterBy}
 use Rattle.rules.specs.Shapes.{compatibleShapes}
-use Rattle.rules.specs.Order.{codeOf, compare}
+use Rattle.rules.specs.Order.{codeOf, kindPlace, compare}
 
 -- ---- kinds, by their codes
 
+-- of two kinds up to Complex in the order, the later is over the earlier
+abbrev pub overNumber : ℕ → ℕ → Bool
+overNumber k l = leb (kindPlace k) (kindPlace (code complex)) && leb (kindPlace l) (kindPlace k)
+
 -- Any over all; Complex, Num, Int, Nat, Bool each over the later ones; Char over Ascii; each over its own kind.
 unfoldable pub supersetCodes : ℕ → ℕ → Bool
-supersetCodes k l = eqb k (code any) || (leb k (code complex) && leb l k) || (eqb k (code char) && eqb l (code ascii)) || eqb k l
+unfolding kindPlace
+supersetCodes k l = eqb k (code any) || overNumber k l || (eqb k (code char) && eqb l (code ascii)) || eqb k l
 
 abbrev pub streamOrBox : ℕ → Bool
 streamOrBox k = eqb k (code stream) || eqb k boxCode

@@ -20,13 +20,13 @@ use Rattle.rules.specs.FieldsLaws.{EachField, fields-within, fields-amon
 -- ---- `unboxed`
 
 -- of what may come out of a box
-abbrev Content : (Ty → Type 0) → Scalar → Type 0
-Content P (plain k) = Unit {0}
-Content P boxAny = P anyTy
-Content P (boxAll s k) = P (ty s k)
-Content P (boxDef n f) = EachField P f × P anyTy
+abbrev EachInside : (Ty → Type 0) → Scalar → Type 0
+EachInside P (plain k) = Unit {0}
+EachInside P boxAny = P anyTy
+EachInside P (boxAll s k) = P (ty s k)
+EachInside P (boxDef n f) = EachField P f × P anyTy
 
-unboxed-either : (P : Ty → Type 0) (s : Shape) (k : Scalar) → P (ty s k) → Content P k → P (unboxed (ty s k))
+unboxed-either : (P : Ty → Type 0) (s : Shape) (k : Scalar) → P (ty s k) → EachInside P k → P (unboxed (ty s k))
 unfolding unboxed
 unboxed-either P s (plain k) p c = p
 unboxed-either P s boxAny p c = go (isScalar s)
@@ -45,20 +45,20 @@ unboxed-either P s (boxDef n f) p c = go (isScalar s)
     go true = first-chooses P f (c .0) (c .1)
     go false = p
 
-content-records : (k : Scalar) → ScalarWithin k → Content RecordsWithin k
+content-records : (k : Scalar) → ScalarWithin k → EachInside RecordsWithin k
 content-records (plain k) h = tt
 content-records boxAny h = anyTy-within
 content-records (boxAll s k) h = h
 content-records (boxDef n f) h = (fields-within f (h .2), anyTy-within)
 
-content-types : (n : ℕ) (k : Scalar) → suc (inside k) ≤ n → Content (λ t. types t ≤ n) k
+content-types : (n : ℕ) (k : Scalar) → suc (inside k) ≤ n → EachInside (λ t. types t ≤ n) k
 unfolding inside
 content-types n (plain k) h = tt
 content-types n boxAny h = h
 content-types n (boxAll s k) h = omega arith
 content-types n (boxDef m f) h = (fields-among n f (omega arith), omega arith)
 
-content-depth : (d : ℕ) (k : Scalar) → suc (below k) ≤ d → Content (λ t. depth t ≤ d) k
+content-depth : (d : ℕ) (k : Scalar) → suc (below k) ≤ d → EachInside (λ t. depth t ≤ d) k
 unfolding below
 content-depth d (plain k) h = tt
 content-depth d boxAny h = h

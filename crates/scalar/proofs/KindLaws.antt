@@ -2,36 +2,51 @@
 use Prim.Native.Nat.{ℕ, _≤_, _<_}
 use native.Mathlib.Omega.{arith}
 use mathlib.Core.Bool.{Bool, true, false, _&&_, _||_}
-use mathlib.Core.Path.{_≡_, refl}
+use mathlib.Core.Path.{_≡_, refl, ap}
 use lib.Dec.{eqb, leb}
 use borrow.Author.Tests.{eq-eqb, ne-eqb, le-leb, lt-leb, eqb-true, leb-false}
+use Rattle.model.specs.Types.{complex, ascii, char, any}
 use Rattle.format.specs.Records.{code}
+use Rattle.rules.specs.Order.{kindPlace}
 use Rattle.rules.specs.Scalars.{supersetCodes, streamOrBox, compatibleCodes}
 
+-- no kind up to Complex in the order is Char
+number-char : (k : ℕ) → kindPlace k ≤ kindPlace (code complex) → k ≡ code char → ⊥
+unfolding kindPlace code
+number-char k h e = omega arith
+
 module _ (k l : ℕ) where
-  pub superset-any : k ≡ 9 → supersetCodes k l ≡ true
-  unfolding supersetCodes code
-  superset-any e = rw (eq-eqb k 9 e)
+  pub superset-any : k ≡ code any → supersetCodes k l ≡ true
+  unfolding supersetCodes
+  superset-any e = rw (eq-eqb k (code any) e)
 
-  pub superset-number : (k ≡ 9 → ⊥) → k ≤ 4 → supersetCodes k l ≡ leb l k
-  unfolding supersetCodes code
-  superset-number e h = rw (ne-eqb k 9 e, le-leb k 4 h, ne-eqb k 6 (λ x. omega arith)) (go (leb l k) refl)
-    where
-      go : (t : Bool) → leb l k ≡ t → (t || false || eqb k l) ≡ t
-      go true f = refl
-      go false f = let g = leb-false l k f in ne-eqb k l (λ x. omega arith)
+  -- p is the place of k, q that of Complex
+  module _ (e : k ≡ code any → ⊥) {p q : ℕ} (place : p ≡ kindPlace k) (last : q ≡ kindPlace (code complex)) where
+    pub superset-number : p ≤ q → {r : ℕ} → r ≡ kindPlace l → supersetCodes k l ≡ leb r p
+    unfolding supersetCodes
+    superset-number h {r} other =
+        let low : kindPlace k ≤ kindPlace (code complex) = omega arith in
+        rw (place, other, ne-eqb k (code any) e, le-leb (kindPlace k) (kindPlace (code complex)) low, ne-eqb k (code char) (number-char k low)) (go (leb (kindPlace l) (kindPlace k)) refl)
+      where
+        go : (t : Bool) → leb (kindPlace l) (kindPlace k) ≡ t → (t || false || eqb k l) ≡ t
+        go true f = refl
+        go false f = let g = leb-false (kindPlace l) (kindPlace k) f in ne-eqb k l (λ x. let y = ap kindPlace x in omega arith)
 
-  pub superset-char : (k ≡ 9 → ⊥) → 4 < k → k ≡ 6 → l ≡ 5 → supersetCodes k l ≡ true
-  unfolding supersetCodes code
-  superset-char e h f g = rw (ne-eqb k 9 e, lt-leb k 4 h, eq-eqb k 6 f, eq-eqb l 5 g)
+    module _ (h : q < p) where
+      high : kindPlace (code complex) < kindPlace k
+      high = omega arith
 
-  pub superset-other : (k ≡ 9 → ⊥) → 4 < k → (k ≡ 6 → l ≡ 5 → ⊥) → supersetCodes k l ≡ eqb k l
-  unfolding supersetCodes code
-  superset-other e h f = rw (ne-eqb k 9 e, lt-leb k 4 h) (go (eqb k 6) refl)
-    where
-      go : (t : Bool) → eqb k 6 ≡ t → ((t && eqb l 5) || eqb k l) ≡ eqb k l
-      go true g = rw (ne-eqb l 5 (f (eqb-true k 6 g)))
-      go false g = refl
+      pub superset-char : k ≡ code char → l ≡ code ascii → supersetCodes k l ≡ true
+      unfolding supersetCodes
+      superset-char f g = rw (ne-eqb k (code any) e, lt-leb (kindPlace k) (kindPlace (code complex)) high, eq-eqb k (code char) f, eq-eqb l (code ascii) g)
+
+      pub superset-other : (k ≡ code char → l ≡ code ascii → ⊥) → supersetCodes k l ≡ eqb k l
+      unfolding supersetCodes
+      superset-other f = rw (ne-eqb k (code any) e, lt-leb (kindPlace k) (kindPlace (code complex)) high) (go (eqb k (code char)) refl)
+        where
+          go : (t : Bool) → eqb k (code char) ≡ t → ((t && eqb l (code ascii)) || eqb k l) ≡ eqb k l
+          go true g = rw (ne-eqb l (code ascii) (f (eqb-true k (code char) g)))
+          go false g = refl
 
   module _ {t : Bool} (x : t ≡ supersetCodes k l) where
     pub compatible-over : t ≡ true → compatibleCodes k l ≡ true

@@ -5,6 +5,7 @@ use limits::BOX;
 use limits::CHAR;
 use limits::COMPLEX;
 use limits::STREAM;
+use order::kind_place;
 ghost use mathlib.Core.Path.{_≡_};
 ghost use Rattle.rules.specs.Scalars.{supersetCodes, streamOrBox, compatibleCodes};
 
@@ -15,8 +16,9 @@ pub fn superset_codes(k: u64, l: u64) -> bool
     if k == ANY {
         return true;
     }
-    if k <= COMPLEX {
-        return l <= k;
+    let place = kind_place(k);
+    if place <= kind_place(COMPLEX) {
+        return kind_place(l) <= place;
     }
     if k == CHAR {
         if l == ASCII {

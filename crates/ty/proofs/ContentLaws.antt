@@ -6,25 +6,23 @@ use mathlib.Core.List.{List, [], _∷_, _++_}
 use mathlib.Core.Option.{Option, none, some}
 use mathlib.Core.Path.{_≡_, refl, sym, _∙_, ap}
 use lib.ListN.{length, take, drop, length-drop}
-use lib.Seq.{drop-drop}
 use Rattle.model.specs.Limits.{maxBytes}
 use Rattle.model.specs.Types.{Shape, Scalar, plain, boxAny, boxAll, boxDef, Fields, noFields, field, Ty, ty, shapeOf}
 use Rattle.format.specs.Reader.{Bytes}
 use Rattle.format.specs.Records.{code, writeShape, writeScalar, writeFields, writeTy}
 use Rattle.format.specs.Outcome.{Outcome, accepted, refused, mapped, lone}
-use Rattle.format.specs.ReadWrite.{lone-parts, lone-write}
+use Rattle.format.specs.ReadWrite.{lone-write}
 use Rattle.format.specs.Suffices.{suffices}
 use Rattle.format.specs.Views.{rest-is, Stands, stands-first, stands-second, stands-within}
 use Rattle.record.specs.Answers.{nothing}
 use Rattle.record.proofs.LoneLaws.{passed-accepted}
 use Rattle.rules.specs.Shapes.{isScalar}
 use Rattle.rules.specs.Types.{anyTy, fieldIn, firstField, orElse, stretch, stretchIn, fieldAt, fieldPlace, unboxed}
-use Rattle.rules.specs.FieldsLaws.{cut, written, field-bytes}
+use Rattle.rules.specs.FieldsLaws.{cut, optionBytes, field-bytes}
 use Rattle.rules.specs.Views.{type-least}
-use Rattle.ty.specs.Parts.{heldBy, contentOf}
-use Rattle.ty.specs.declared.parts.Held.the-variants.{Plain, BoxAny, BoxAll, BoxDef}
-use Rattle.ty.proofs.PartLaws.{View, view, view-plain, view-any, view-all}
-use Rattle.ty.proofs.FieldLaws.{Def, fields}
+use Rattle.known.specs.declared.View.the-variants.{Plain, BoxAny}
+use Rattle.ty.specs.Parts.{LoneDef, contentOf}
+use Rattle.ty.proofs.PartLaws.{LoneAll, Inside, in-plain, in-any}
 
 -- ---- parts of a slice
 
@@ -50,32 +48,13 @@ lone-short s small accepts = passed-accepted (lone s) accepts λ t e.
 
 -- ---- the content of an All
 
--- an All, and its content, which reaches to the end
-pub record All (s : List ℕ) (start : ℕ) (o t : Shape) (k : Scalar) : Type 0 where
-  pub is : lone s ≡ accepted (ty o (boxAll t k))
-  pub within : start ≤ length s
-  pub bytes : drop start s ≡ writeTy (ty t k)
+module _ (s : List ℕ) where
+  abbrev pub ContentBytes : Outcome (List ℕ)
+  ContentBytes = mapped (λ t. writeTy (contentOf t)) (lone s)
 
-module _ (s : List ℕ) (small : Bytes s) {start : ℕ} (held : mapped heldBy (lone s) ≡ accepted (BoxAll start)) where
-  pub content : {C : Type 0} → ((o t : Shape) (k : Scalar) → All s start o t k → C) → C
-  unfolding writeTy writeScalar
-  content {C} f = go (view s held)
-    where
-      go : View s (BoxAll start) → C
-      go (view-all o t k e place) =
-          let rest : drop (length (writeShape o)) s ≡ writeScalar (boxAll t k) = lone-parts s small o (boxAll t k) e .1 in
-          f o t k (record {
-            is = e;
-            within = omega (arith, length-drop (length (writeShape o)) s, ap length rest);
-            bytes = rw (← place) (sym (drop-drop 6 (length (writeShape o)) s) ∙ ap (drop 6) rest);
-          })
-
-  pub all-there : start ≤ length s
-  all-there = content λ o t k h. h .within
-
-  pub content-all : mapped (λ t. writeTy (contentOf t)) (lone s) ≡ accepted (drop start s)
+  pub content-all : {start : ℕ} → LoneAll s start → ContentBytes ≡ accepted (take (length s - start) (drop start s))
   unfolding contentOf
-  content-all = content λ o t k h. rw (h .is) (ap accepted (sym (h .bytes)))
+  content-all {start} a = rw (a .is) (ap accepted (sym (rest-is s start ∙ a .bytes)))
 
 -- ---- the fields of a Def
 
@@ -90,37 +69,39 @@ stretch-within s at zero (field o k f) {a} {l} h e =
 stretch-within s at (suc n) (field o k f) h e = stretch-within s (at + length (writeShape o ++ writeScalar k)) n f (stands-second s at (writeShape o ++ writeScalar k) (writeFields f) h) e
 
 -- the bytes of a field, or those of [..] of Any
-bytes-some : (r : Option Ty) {w : List ℕ} → some w ≡ written r → writeTy (orElse r anyTy) ≡ w
+bytes-some : (r : Option Ty) {w : List ℕ} → some w ≡ optionBytes r → writeTy (orElse r anyTy) ≡ w
 bytes-some none e = let z : _≡_ {A = ℕ} 0 1 = cc in absurd (omega arith)
 bytes-some (some t) e = cc
 
-bytes-none : (r : Option Ty) → none ≡ written r → orElse r anyTy ≡ anyTy
+bytes-none : (r : Option Ty) → none ≡ optionBytes r → orElse r anyTy ≡ anyTy
 bytes-none none e = refl
 bytes-none (some t) e = let z : _≡_ {A = ℕ} 0 1 = cc in absurd (omega arith)
 
-module _ (s : List ℕ) (small : Bytes s) {start count : ℕ} (held : mapped heldBy (lone s) ≡ accepted (BoxDef start count)) (n : ℕ) where
-  cut-bytes : (o : Shape) (m : Option (List ℕ)) (f : Fields) → lone s ≡ accepted (ty o (boxDef m f)) → cut (fieldPlace n (ty o (boxDef m f))) s ≡ written (fieldIn n f)
-  unfolding fieldAt
-  cut-bytes o m f e = rw (lone-write s small (ty o (boxDef m f)) e .0) at (field-bytes n (ty o (boxDef m f)))
+module _ (s : List ℕ) (small : Bytes s) {start count : ℕ} (def : LoneDef s start count) (n : ℕ) where
+  abbrev whole : Ty
+  whole = ty (def .shape) (boxDef (def .name) (def .fields))
 
+  cut-bytes : cut (fieldPlace n whole) s ≡ optionBytes (fieldIn n (def .fields))
+  unfolding fieldAt
+  cut-bytes = rw (lone-write s small whole (def .is) .0) at (field-bytes n whole)
+
+  -- field n is that stretch of the bytes
   module _ {a l : ℕ} (found : mapped (fieldPlace n) (lone s) ≡ accepted (some (stretch a l))) where
-    placed : (o : Shape) (m : Option (List ℕ)) (f : Fields) → lone s ≡ accepted (ty o (boxDef m f)) → fieldPlace n (ty o (boxDef m f)) ≡ some (stretch a l)
-    placed o m f e = let x : accepted (fieldPlace n (ty o (boxDef m f))) ≡ accepted (some (stretch a l)) = sym (ap (mapped (fieldPlace n)) e) ∙ found in cc
+    placed : fieldPlace n whole ≡ some (stretch a l)
+    placed = let x : accepted (fieldPlace n whole) ≡ accepted (some (stretch a l)) = sym (ap (mapped (fieldPlace n)) (def .is)) ∙ found in cc
 
     pub field-there : a + l ≤ length s
     unfolding fieldPlace
-    field-there = fields s small start count held λ o m f h. stretch-within s start n f (h .stands) (rw (h .place) at (placed o m f (h .is)))
+    field-there = stretch-within s start n (def .fields) (def .there .stands) (rw (def .place) at placed)
 
-    -- the field is that stretch of the bytes
-    pub field-found : {C : Type 0} → ((o : Shape) (m : Option (List ℕ)) (f : Fields) → Def s start count o m f → writeTy (orElse (fieldIn n f) anyTy) ≡ take l (drop a s) → C) → C
-    field-found c = fields s small start count held λ o m f h. c o m f h (bytes-some (fieldIn n f) (sym (ap (λ p. cut p s) (placed o m f (h .is))) ∙ cut-bytes o m f (h .is)))
+    pub field-found : writeTy (orElse (fieldIn n (def .fields)) anyTy) ≡ take (a + l - a) (drop a s)
+    field-found = bytes-some (fieldIn n (def .fields)) (sym (ap (λ p. cut p s) placed) ∙ cut-bytes) ∙ sym (stretch-is s a l)
 
-  module _ (lacks : mapped (fieldPlace n) (lone s) ≡ accepted none) where
-    pub field-lacks : {C : Type 0} → ((o : Shape) (m : Option (List ℕ)) (f : Fields) → Def s start count o m f → orElse (fieldIn n f) anyTy ≡ anyTy → C) → C
-    field-lacks c = fields s small start count held λ o m f h.
-        let x : accepted (fieldPlace n (ty o (boxDef m f))) ≡ accepted none = sym (ap (mapped (fieldPlace n)) (h .is)) ∙ lacks in
-        let y : fieldPlace n (ty o (boxDef m f)) ≡ none = cc in
-        c o m f h (bytes-none (fieldIn n f) (sym (ap (λ p. cut p s) y) ∙ cut-bytes o m f (h .is)))
+  pub field-lacks : mapped (fieldPlace n) (lone s) ≡ accepted none → orElse (fieldIn n (def .fields)) anyTy ≡ anyTy
+  field-lacks lacks =
+      let x : accepted (fieldPlace n whole) ≡ accepted none = sym (ap (mapped (fieldPlace n)) (def .is)) ∙ lacks in
+      let y : fieldPlace n whole ≡ none = cc in
+      bytes-none (fieldIn n (def .fields)) (sym (ap (λ p. cut p s) y) ∙ cut-bytes)
 
 -- ---- the content of any box
 
@@ -130,28 +111,22 @@ first-is noFields = refl
 first-is (field s k f) = refl
 
 module _ (s : List ℕ) (small : Bytes s) where
-  pub content-plain : mapped heldBy (lone s) ≡ accepted Plain → mapped (λ t. writeTy (contentOf t)) (lone s) ≡ accepted s
+  pub content-plain : {c end : ℕ} → Inside s (Plain c end) → ContentBytes s ≡ accepted s
   unfolding contentOf
-  content-plain held = go (view s held)
-    where
-      go : View s Plain → mapped (λ t. writeTy (contentOf t)) (lone s) ≡ accepted s
-      go (view-plain o k e) = rw e (ap accepted (lone-write s small (ty o (plain k)) e .0))
+  content-plain (in-plain o k e) = rw e (ap accepted (lone-write s small (ty o (plain k)) e .0))
 
-  pub content-any : mapped heldBy (lone s) ≡ accepted BoxAny → mapped (λ t. writeTy (contentOf t)) (lone s) ≡ accepted anyBytes
+  pub content-any : {end : ℕ} → Inside s (BoxAny end) → ContentBytes s ≡ accepted anyBytes
   unfolding contentOf
-  content-any held = go (view s held)
-    where
-      go : View s BoxAny → mapped (λ t. writeTy (contentOf t)) (lone s) ≡ accepted anyBytes
-      go (view-any o e) = rw e (ap accepted any-bytes)
+  content-any (in-any o e) = rw e (ap accepted any-bytes)
 
-  module _ {start count : ℕ} (held : mapped heldBy (lone s) ≡ accepted (BoxDef start count)) where
-    pub content-first : {a l : ℕ} → mapped (fieldPlace 0) (lone s) ≡ accepted (some (stretch a l)) → mapped (λ t. writeTy (contentOf t)) (lone s) ≡ accepted (take l (drop a s))
+  module _ {start count : ℕ} (def : LoneDef s start count) where
+    pub content-first : {a l : ℕ} → mapped (fieldPlace 0) (lone s) ≡ accepted (some (stretch a l)) → ContentBytes s ≡ accepted (take (a + l - a) (drop a s))
     unfolding contentOf
-    content-first found = field-found s small held 0 found λ o m f h bytes. rw (h .is, first-is f) (ap accepted bytes)
+    content-first found = rw (def .is, first-is (def .fields)) (ap accepted (field-found s small def 0 found))
 
-    pub content-none : mapped (fieldPlace 0) (lone s) ≡ accepted none → mapped (λ t. writeTy (contentOf t)) (lone s) ≡ accepted anyBytes
+    pub content-none : mapped (fieldPlace 0) (lone s) ≡ accepted none → ContentBytes s ≡ accepted anyBytes
     unfolding contentOf
-    content-none lacks = field-lacks s small held 0 lacks λ o m f h none. rw (h .is, first-is f, none) (ap accepted any-bytes)
+    content-none lacks = rw (def .is, first-is (def .fields), field-lacks s small def 0 lacks) (ap accepted any-bytes)
 
 -- ---- `unboxed`
 

@@ -4,16 +4,17 @@ use native.Mathlib.Omega.{arith}
 use native.Mathlib.Numerals.{add-one}
 use native.Mathlib.Nat.{suc-mul, mul-le-mul}
 use mathlib.Core.List.{List, [], _∷_, _++_, append-assoc, append-nil}
-use mathlib.Core.Path.{_≡_, sym, _∙_, ap}
+use mathlib.Core.Path.{_≡_, refl, sym, _∙_, ap}
 use lib.ListN.{length, set, length-append}
 use lib.Seq.{sets-eq, paste-zero}
 use borrow.Author.Tests.{eq-eqb, ne-eqb, le-leb, lt-leb}
 use Rattle.model.specs.Limits.{ones, maxFields, maxBytes}
-use Rattle.model.specs.Refusals.{tooMany}
+use Rattle.model.specs.Refusals.{tooMany, tooShort}
 use Rattle.format.specs.Records.{absent, dimOf}
-use Rattle.format.specs.Outcome.{accepted, refused}
+use Rattle.format.specs.Outcome.{accepted, refused, delivery, deliver}
+use Rattle.lent.specs.Delivers.{deliver-short, deliver-wrote}
 use Rattle.lent.specs.Over.{over, over-over}
-use Rattle.ty.specs.Copies.{repeated, listed, listedFor}
+use Rattle.ty.specs.Copies.{repeated, copyBytes, copyBytesFor}
 
 module _ (w : List ℕ) where
   pub length-repeated : (n : ℕ) → length (repeated n w) ≡ n * length w
@@ -44,14 +45,14 @@ module _ (w : List ℕ) where
   one-more (suc i) (suc n) h = omega (arith, length-append w (repeated i w), length-append w (repeated n w), one-more i n (omega arith))
 
 module _ (out : List ℕ) (start : ℕ) (w : List ℕ) where
-  abbrev pub Laid : List ℕ → ℕ → Type 0
-  Laid now i = now ≡ over out start (repeated i w)
+  abbrev pub CopiesLaid : List ℕ → ℕ → Type 0
+  CopiesLaid now i = now ≡ over out start (repeated i w)
 
-  pub lay-none : Laid out 0
+  pub lay-none : CopiesLaid out 0
   unfolding repeated
   lay-none = paste-zero out start []
 
-  pub lay-more : {now then : List ℕ} {at : ℕ} (i n : ℕ) → i < n → start + length (repeated n w) ≤ length out → at ≡ start + length (repeated i w) → Laid now i → then ≡ over now at w → Laid then (i + 1)
+  pub lay-more : {now then : List ℕ} {at : ℕ} (i n : ℕ) → i < n → start + length (repeated n w) ≤ length out → at ≡ start + length (repeated i w) → CopiesLaid now i → then ≡ over now at w → CopiesLaid then (i + 1)
   lay-more {now} {then} {at} i n l fits place laid more =
       more
       ∙ ap (λ x. over x at w) laid
@@ -59,33 +60,42 @@ module _ (out : List ℕ) (start : ℕ) (w : List ℕ) where
       ∙ over-over out start (repeated i w) (omega (arith, one-more w i n l)) w
       ∙ ap (over out start) (sym (repeated-end w i))
 
-pub length-listed : (n : ℕ) (w : List ℕ) → length (listed n w) ≡ 2 + n * length w
-unfolding listed
-length-listed n w = omega (arith, length-repeated w n)
+pub length-copyBytes : (n : ℕ) (w : List ℕ) → length (copyBytes n w) ≡ 2 + n * length w
+unfolding copyBytes
+length-copyBytes n w = omega (arith, length-repeated w n)
 
 -- a list of copies is no longer than so many of the longest type
 pub copies-fit : (n : ℕ) (w : List ℕ) → n ≤ maxFields → length w ≤ maxBytes → n * length w ≤ maxFields * maxBytes
 copies-fit n w h l = mul-le-mul h l
 
 -- the two first bytes, then the copies
-pub lay-listed : (out : List ℕ) (n : ℕ) (w : List ℕ) {after : List ℕ} → length (listed n w) ≤ length out → after ≡ over (set (set out 0 absent) 1 n) 2 (repeated n w) → after ≡ over out 0 (listed n w)
-unfolding listed
-lay-listed out n w fits laid =
+lay-copies : (out : List ℕ) (n : ℕ) (w : List ℕ) {after : List ℕ} → length (copyBytes n w) ≤ length out → after ≡ over (set (set out 0 absent) 1 n) 2 (repeated n w) → after ≡ over out 0 (copyBytes n w)
+unfolding copyBytes
+lay-copies out n w fits laid =
     laid
     ∙ ap (λ x. over x 2 (repeated n w)) (sets-eq (absent ∷ n ∷ []) out 0 (omega arith))
     ∙ over-over out 0 (absent ∷ n ∷ []) (omega arith) (repeated n w)
 
+module _ (out : List ℕ) (n : ℕ) (w : List ℕ) where
+  pub list-short : length out < 2 + n * length w → delivery (refused tooShort 0) out ≡ deliver (accepted (copyBytes n w)) out
+  list-short h = sym (deliver-short out refl (omega (arith, length-copyBytes n w)))
+
+  pub list-wrote : {after : List ℕ} → 2 + n * length w ≤ length out → after ≡ over (set (set out 0 absent) 1 n) 2 (repeated n w) → delivery (accepted (2 + n * length w)) after ≡ deliver (accepted (copyBytes n w)) out
+  list-wrote h laid =
+      let fits : length (copyBytes n w) ≤ length out = omega (arith, length-copyBytes n w) in
+      deliver-wrote out refl fits (sym (length-copyBytes n w)) (lay-copies out n w fits laid)
+
 -- ---- as many as there are rows
 
 module _ (rows : ℕ) (w : List ℕ) where
-  pub listed-unknown : rows ≡ ones → listedFor (dimOf rows) w ≡ accepted (listed 1 w)
-  unfolding listedFor
-  listed-unknown e = rw (eq-eqb rows ones e)
+  pub rows-unknown : rows ≡ ones → copyBytesFor (dimOf rows) w ≡ accepted (copyBytes 1 w)
+  unfolding copyBytesFor
+  rows-unknown e = rw (eq-eqb rows ones e)
 
-  pub listed-over : (rows ≡ ones → ⊥) → maxFields < rows → listedFor (dimOf rows) w ≡ refused tooMany 0
-  unfolding listedFor
-  listed-over e l = rw (ne-eqb rows ones e, lt-leb rows maxFields l)
+  pub rows-over : (rows ≡ ones → ⊥) → maxFields < rows → copyBytesFor (dimOf rows) w ≡ refused tooMany 0
+  unfolding copyBytesFor
+  rows-over e l = rw (ne-eqb rows ones e, lt-leb rows maxFields l)
 
-  pub listed-some : (rows ≡ ones → ⊥) → rows ≤ maxFields → listedFor (dimOf rows) w ≡ accepted (listed rows w)
-  unfolding listedFor
-  listed-some e l = rw (ne-eqb rows ones e, le-leb rows maxFields l)
+  pub rows-some : (rows ≡ ones → ⊥) → rows ≤ maxFields → copyBytesFor (dimOf rows) w ≡ accepted (copyBytes rows w)
+  unfolding copyBytesFor
+  rows-some e l = rw (ne-eqb rows ones e, le-leb rows maxFields l)

@@ -1,152 +1,121 @@
--- What the scalar of a lone type holds, and where: one law for each way out of `look_inside`, and which type it is by what it holds.
-use Prim.Native.Nat.{ℕ, _+_, _≤_}
+-- Lone types that were read: their parts, and what their scalars are.
+use Prim.Native.Nat.{ℕ, _+_, _-_, _≤_}
 use native.Mathlib.Omega.{arith}
-use native.Mathlib.Nat.{zero-add}
-use mathlib.Core.Path.{_≡_, refl, sym, _∙_, ap}
-use mathlib.Core.List.{List, [], _∷_, _++_}
-use mathlib.Core.Option.{Option, some}
-use lib.ListN.{length, getD, drop, length-append, length-drop}
-use lib.Dec.{lit<}
-use Rattle.model.specs.Limits.{maxName}
-use Rattle.model.specs.Types.{Shape, Kind, Scalar, plain, boxAny, boxAll, boxDef, Fields, Ty, ty, fieldCount}
-use Rattle.model.specs.Within.{Within}
+use mathlib.Core.Bool.{Bool}
+use mathlib.Core.List.{List}
+use mathlib.Core.Path.{_≡_, sym, _∙_, ap, subst}
+use lib.ListN.{length, drop, length-append}
+use lib.Seq.{drop-drop}
+use Rattle.model.specs.Limits.{maxDepth}
+use Rattle.model.specs.Types.{Shape, Kind, Scalar, plain, boxAny, boxAll, boxDef, Ty, ty, shapeOf, scalarOf}
 use Rattle.format.specs.Reader.{Bytes}
-use Rattle.format.specs.Records.{boxCode, countOf, listOf, listCount, writeShape, writeScalar, writeFields, writeTy}
-use Rattle.format.specs.Outcome.{Outcome, accepted, refused, mapped, lone, scalarRecord}
-use Rattle.format.specs.WriteRead.{listCount-ok}
-use Rattle.format.specs.ReadWrite.{lone-write}
-use Rattle.format.specs.Suffices.{name-most}
-use Rattle.format.specs.Views.{Stands, stands-all, stands-second, stands-byte, stands-within}
-use Rattle.rules.specs.Order.{codeOf}
-use Rattle.rules.specs.Types.{beforeFields}
-use Rattle.rules.specs.Views.{formOf, afterForm, kind-within, kind-byte, form-within, form-byte, after-form, is-plain, is-box-any, is-box-all, is-box-def, is-box-def-else}
-use Rattle.ty.specs.Parts.{heldBy}
-use Rattle.ty.specs.declared.parts.Held.{Held}
-use Rattle.ty.specs.declared.parts.Held.the-variants.{Plain, BoxAny, BoxAll, BoxDef}
+use Rattle.format.specs.Records.{writeScalar, writeTy}
+use Rattle.format.specs.Outcome.{Outcome, accepted, mapped, lone, scalarRecord, Delivery, deliver}
+use Rattle.record.specs.Answers.{nothing}
+use Rattle.record.proofs.LoneLaws.{passed-accepted}
+use Rattle.rules.specs.Types.{beforeFields, boxes, writeBoxes}
+use Rattle.known.specs.Known.{TypeAt, ScalarAt, HasType, HasScalar, SeenAll, SeenDef, Seen}
+use Rattle.known.specs.KnownLaws.{type-within, name-within, fields-deeper, has-scalar}
+use Rattle.known.specs.WholeLaws.{type-there, has-type, Begins, record-there, scalar-there}
+use Rattle.known.specs.declared.View.{View}
+use Rattle.known.specs.declared.View.the-variants.{Plain, BoxAny, BoxAll, BoxDef}
+use Rattle.ty.specs.Parts.{LoneDef}
 
--- ---- the bytes of a lone type
+-- what a call delivers, said of other bytes that are the same
+pub delivers : (buffer : List ℕ) {d : Delivery} {o p : Outcome (List ℕ)} → d ≡ deliver o buffer → p ≡ o → d ≡ deliver p buffer
+delivers buffer e f = e ∙ ap (λ x. deliver x buffer) (sym f)
 
--- a type and where its scalar stands, by continuation
-pub record Opened (s : List ℕ) (at : ℕ) (o : Shape) (k : Scalar) : Type 0 where
-  pub is : lone s ≡ accepted (ty o k)
-  pub place : at ≡ length (writeShape o)
-  pub stands : Stands s at (writeScalar k)
-  pub within : Within (ty o k)
+-- ---- the shape, and the scalar's record, which begins at `at`
 
--- what stands after a Def's form: the count of its name's bytes, its name, the count of its fields, its fields
-pub record Named (s : List ℕ) (at : ℕ) (n : Option (List ℕ)) (f : Fields) : Type 0 where
-  pub count : getD s (at + 6) 0 ≡ countOf n
-  pub whole : at + 7 + length (listOf n) + 1 ≤ length s
-  pub fields : getD s (at + 7 + length (listOf n)) 0 ≡ fieldCount f
-  pub stands : Stands s (at + 7 + length (listOf n) + 1) (writeFields f)
+module _ (s : List ℕ) (small : Bytes s) (good : mapped nothing (lone s) ≡ accepted 0) where
+  pub type-known : (d : ℕ) × HasType s 0 d
+  type-known = (maxDepth, has-type s small good)
 
-module _ (s : List ℕ) where
-  pub named : (at : ℕ) (n : Option (List ℕ)) (f : Fields) → Stands s (at + 6) (countOf n ∷ (listOf n ++ (fieldCount f ∷ writeFields f))) → Named s at n f
-  named at n f stands =
-      let seven : at + 6 + 1 ≡ at + 7 = omega arith in
-      let name : Stands s (at + 7) (listOf n ++ (fieldCount f ∷ writeFields f)) = rw seven at (stands-second s (at + 6) (countOf n ∷ []) (listOf n ++ (fieldCount f ∷ writeFields f)) stands) in
-      let rest : Stands s (at + 7 + length (listOf n)) (fieldCount f ∷ writeFields f) = stands-second s (at + 7) (listOf n) (fieldCount f ∷ writeFields f) name in
-      let there : at + 7 + length (listOf n) + length (fieldCount f ∷ writeFields f) ≤ length s = stands-within s _ (fieldCount f ∷ writeFields f) (omega arith) rest in
-      record {
-        count = stands-byte s (at + 6) (countOf n) _ stands;
-        whole = omega arith;
-        fields = stands-byte s _ (fieldCount f) (writeFields f) rest;
-        stands = stands-second s _ (fieldCount f ∷ []) (writeFields f) rest;
-      }
+  pub lone-shape : {x : Shape} → ((d : ℕ) (t : Ty) → TypeAt s 0 d t → x ≡ shapeOf t) → mapped shapeOf (lone s) ≡ accepted x
+  lone-shape is = passed-accepted (lone s) good λ t e. rw e (ap accepted (sym (is maxDepth t (type-there s small t e))))
 
-module _ (s : List ℕ) (small : Bytes s) where
-  pub open-lone : (o : Shape) (k : Scalar) → lone s ≡ accepted (ty o k) → Opened s (length (writeShape o)) o k
-  unfolding writeTy
-  open-lone o k e =
-      let (bytes, within) = lone-write s small (ty o k) e in
-      record {
-        is = e;
-        place = refl;
-        stands = rw zero-add at (stands-second s 0 (writeShape o) (writeScalar k) (stands-all s (writeShape o ++ writeScalar k) bytes));
-        within = within;
-      }
+  module _ {at : ℕ} (begins : Begins s at) where
+    pub scalar-known : (d : ℕ) × HasScalar s at d
+    scalar-known = (maxDepth - 1, has-scalar s 0 begins maxDepth (has-type s small good))
 
-module _ (s : List ℕ) (small : Bytes s) (at : ℕ) (scalar : mapped scalarRecord (lone s) ≡ accepted (drop at s)) (inner : at ≤ length s) where
-  opened : {C : Type 0} → ((o : Shape) (k : Scalar) → Opened s at o k → C) → C
-  unfolding writeTy
-  opened {C} f = go (lone s) refl
+    pub lone-scalar : mapped scalarRecord (lone s) ≡ accepted (drop at s)
+    lone-scalar = passed-accepted (lone s) good go
+      where
+        go : (t : Ty) → lone s ≡ accepted t → mapped scalarRecord (lone s) ≡ accepted (drop at s)
+        go (ty o k) e = rw e (ap accepted (sym (record-there s small begins (ty o k) e)))
+
+-- ---- what the scalar is
+
+-- a lone All, whose content begins at `start` and reaches to the end
+pub record LoneAll (s : List ℕ) (start : ℕ) : Type 0 where
+  pub shape : Shape
+  pub held-shape : Shape
+  pub held-scalar : Scalar
+  pub is : lone s ≡ accepted (ty shape (boxAll held-shape held-scalar))
+  pub within : start ≤ length s
+  pub bytes : drop start s ≡ writeTy (ty held-shape held-scalar)
+
+pub data Inside (s : List ℕ) : View → Type 0 where
+  in-plain : {c end : ℕ} (o : Shape) (k : Kind) → lone s ≡ accepted (ty o (plain k)) → Inside s (Plain c end)
+  in-any : {end : ℕ} (o : Shape) → lone s ≡ accepted (ty o boxAny) → Inside s (BoxAny end)
+  in-all : {start : ℕ} → LoneAll s start → Inside s (BoxAll start)
+  in-def : {name start count : ℕ} {named : Bool} (d : LoneDef s start count) → name ≤ length s → drop name s ≡ writeBoxes (boxes (d .name) (d .fields)) → Inside s (BoxDef name named start count)
+
+module _ (s : List ℕ) (small : Bytes s) {at : ℕ} (begins : Begins s at) (o : Shape) (k : Scalar) (is : lone s ≡ accepted (ty o k)) where
+  told-as : {l : Scalar} → k ≡ l → lone s ≡ accepted (ty o l)
+  told-as e = is ∙ ap (λ l. accepted (ty o l)) e
+
+  rest : {l : Scalar} → k ≡ l → drop at s ≡ writeScalar l
+  rest e = record-there s small begins (ty o k) is ∙ ap writeScalar e
+
+  inside-all : {start : ℕ} → SeenAll s at (maxDepth - 1) k start → Inside s (BoxAll start)
+  unfolding writeScalar writeTy
+  inside-all {start} x = in-all {start = start} (record {
+    shape = o;
+    held-shape = x .shape;
+    held-scalar = x .scalar;
+    is = told-as (x .is);
+    within = omega (arith, type-within s start (maxDepth - 1) (ty (x .shape) (x .scalar)) (x .there));
+    bytes = ap (λ p. drop p s) (x .place) ∙ (sym (drop-drop 6 at s) ∙ ap (drop 6) (rest (x .is)));
+  })
+
+  inside-def : {name start count : ℕ} {named : Bool} → SeenDef s at (maxDepth - 1) k name named start count → Inside s (BoxDef name named start count)
+  unfolding writeScalar writeBoxes
+  inside-def {name} {start} x =
+      let place : length (beforeFields o (x .label) (x .held)) ≡ start = simp length-append (omega (arith, x .place, x .behind, begins maxDepth (ty o k) (type-there s small (ty o k) is))) in
+      let deep : maxDepth - 1 ≤ maxDepth = omega arith in
+      in-def {name = name} (record {
+        shape = o;
+        name = x .label;
+        fields = x .held;
+        is = told-as (x .is);
+        place = place;
+        counted = sym (x .counted);
+        there = fields-deeper s start (maxDepth - 1) deep (x .there);
+      }) (omega (arith, name-within s name (x .label) (x .titled)))
+      (ap (λ p. drop p s) (x .place) ∙ (sym (drop-drop 6 at s) ∙ ap (drop 6) (rest (x .is))))
+
+module _ (s : List ℕ) (small : Bytes s) (good : mapped nothing (lone s) ≡ accepted 0) {at : ℕ} (begins : Begins s at) where
+  pub inside : {v w : View} → ((d : ℕ) (k : Scalar) → ScalarAt s at d k → Seen s at d k v) → v ≡ w → Inside s w
+  inside {v} {w} seen e = passed-accepted (lone s) good λ t is. go w t is (subst (Seen s at (maxDepth - 1) (scalarOf t)) e (seen (maxDepth - 1) (scalarOf t) (scalar-there s small begins t is)))
     where
-      it : (o : Shape) (k : Scalar) → lone s ≡ accepted (ty o k) → Opened s at o k
-      it o k e =
-          let bytes : writeShape o ++ writeScalar k ≡ s = lone-write s small (ty o k) e .0 in
-          let rest : accepted (writeScalar k) ≡ accepted (drop at s) = sym (ap (mapped scalarRecord) e) ∙ scalar in
-          let same : writeScalar k ≡ drop at s = cc in
-          let place : length (writeShape o) ≡ at = omega (arith, length-append (writeShape o) (writeScalar k), ap length bytes, ap length same, length-drop at s) in
-          rw (← place) (open-lone s small o k e)
+      go : (w : View) (t : Ty) → lone s ≡ accepted t → Seen s at (maxDepth - 1) (scalarOf t) w → Inside s w
+      go (Plain c end) (ty o k) is x = in-plain o (x .kind) (told-as s small begins o k is (x .is))
+      go (BoxAny end) (ty o k) is x = in-any o (told-as s small begins o k is (x .is))
+      go (BoxAll start) (ty o k) is x = inside-all s small begins o k is x
+      go (BoxDef name named start count) (ty o k) is x = inside-def s small begins o k is x
 
-      go : (r : Outcome Ty) → lone s ≡ r → C
-      go (accepted (ty o k)) e = f o k (it o k e)
-      go (refused k p) e = let z : _≡_ {A = ℕ} 0 1 = let x : refused k p ≡ accepted (drop at s) = sym (ap (mapped scalarRecord) e) ∙ scalar in cc in absurd (omega arith)
+-- ---- which it is
 
-  pub kind-there : at + 3 ≤ length s
-  kind-there = opened λ o k h. kind-within s at k (h .stands)
+module _ {s : List ℕ} where
+  pub the-all : {start : ℕ} → Inside s (BoxAll start) → LoneAll s start
+  the-all (in-all a) = a
 
-  pub held-plain : (getD s (at + 2) 0 ≡ boxCode → ⊥) → mapped heldBy (lone s) ≡ accepted Plain
-  unfolding heldBy
-  held-plain e = opened λ o k h. is-plain k (λ b. e (kind-byte s at k (h .stands) ∙ b)) λ l same. rw (h .is, same)
+  pub the-def : {name start count : ℕ} {named : Bool} → Inside s (BoxDef name named start count) → LoneDef s start count
+  the-def (in-def d inner bytes) = d
 
-  module _ (boxed : getD s (at + 2) 0 ≡ boxCode) where
-    kind : (k : Scalar) → Stands s at (writeScalar k) → codeOf k ≡ boxCode
-    kind k stands = sym (kind-byte s at k stands) ∙ boxed
-
-    pub form-there : at + 6 ≤ length s
-    form-there = opened λ o k h. form-within s at k (h .stands) (kind k (h .stands))
-
-    form : (k : Scalar) → Stands s at (writeScalar k) → getD s (at + 5) 0 ≡ formOf k
-    form k stands = form-byte s at k stands (kind k stands)
-
-    pub held-any : getD s (at + 5) 0 ≡ 0 → mapped heldBy (lone s) ≡ accepted BoxAny
-    unfolding heldBy
-    held-any e = opened λ o k h. rw (h .is, is-box-any k (sym (form k (h .stands)) ∙ e))
-
-    pub held-all : getD s (at + 5) 0 ≡ 1 → mapped heldBy (lone s) ≡ accepted (BoxAll (at + 6))
-    unfolding heldBy
-    held-all e = opened λ o k h. is-box-all k (sym (form k (h .stands)) ∙ e) λ t l same. rw (h .is, same, h .place)
-
-    module _ (some : getD s (at + 5) 0 ≡ 0 → ⊥) (many : getD s (at + 5) 0 ≡ 1 → ⊥) where
-      def : {C : Type 0} → ((o : Shape) (n : Option (List ℕ)) (f : Fields) → Opened s at o (boxDef n f) → Named s at n f → C) → C
-      unfolding afterForm
-      def c = opened λ o k h.
-          is-box-def k (is-box-def-else k (kind k (h .stands)) (λ e. some (form k (h .stands) ∙ e)) (λ e. many (form k (h .stands) ∙ e))) λ n f same.
-          let g : Opened s at o (boxDef n f) = rw same at h in
-          c o n f g (named s at n f (after-form s at (boxDef n f) (g .stands) (kind (boxDef n f) (g .stands))))
-
-      pub name-there : at + 7 ≤ length s
-      name-there = def λ o n f h g. omega (arith, g .whole)
-
-      counted : (o : Shape) (n : Option (List ℕ)) (f : Fields) → Opened s at o (boxDef n f) → Named s at n f → listCount (getD s (at + 6) 0) ≡ length (listOf n)
-      counted o n f h g = ap listCount (g .count) ∙ listCount-ok maxName (lit< tt) n (name-most n (h .within .records .1 .0))
-
-      pub count-there : {l : ℕ} → l ≡ listCount (getD s (at + 6) 0) → at + 7 + l + 1 ≤ length s
-      count-there e = def λ o n f h g. omega (arith, g .whole, counted o n f h g)
-
-      pub held-def : {l : ℕ} → l ≡ listCount (getD s (at + 6) 0) → mapped heldBy (lone s) ≡ accepted (BoxDef (at + 7 + l + 1) (getD s (at + 7 + l) 0))
-      unfolding heldBy
-      held-def {l} e = def λ o n f h g.
-          let long : l ≡ length (listOf n) = e ∙ counted o n f h g in
-          let before : length (beforeFields o n f) ≡ at + 7 + length (listOf n) + 1 = simp length-append (omega (arith, h .place)) in
-          rw (h .is, long, g .fields, before)
-
--- ---- which type it is, by what its scalar holds
-
-pub data View (s : List ℕ) : Held → Type 0 where
-  view-plain : (o : Shape) (k : Kind) → lone s ≡ accepted (ty o (plain k)) → View s Plain
-  view-any : (o : Shape) → lone s ≡ accepted (ty o boxAny) → View s BoxAny
-  view-all : {start : ℕ} (o t : Shape) (k : Scalar) → lone s ≡ accepted (ty o (boxAll t k)) → length (writeShape o) + 6 ≡ start → View s (BoxAll start)
-  view-def : {start count : ℕ} (o : Shape) (n : Option (List ℕ)) (f : Fields) → lone s ≡ accepted (ty o (boxDef n f)) → length (beforeFields o n f) ≡ start → fieldCount f ≡ count → View s (BoxDef start count)
-
-pub view : (s : List ℕ) {h : Held} → mapped heldBy (lone s) ≡ accepted h → View s h
-unfolding heldBy
-view s {h} held = go (lone s) refl held
-  where
-    go : (r : Outcome Ty) → lone s ≡ r → mapped heldBy r ≡ accepted h → View s h
-    go (accepted (ty o (plain k))) e same = let x : Plain ≡ h = cc in rw (← x) (view-plain o k e)
-    go (accepted (ty o boxAny)) e same = let x : BoxAny ≡ h = cc in rw (← x) (view-any o e)
-    go (accepted (ty o (boxAll t k))) e same = let x : BoxAll (length (writeShape o) + 6) ≡ h = cc in rw (← x) (view-all o t k e refl)
-    go (accepted (ty o (boxDef n f))) e same = let x : BoxDef (length (beforeFields o n f)) (fieldCount f) ≡ h = cc in rw (← x) (view-def o n f e refl refl)
-    go (refused k p) e same = let z : _≡_ {A = ℕ} 0 1 = cc in absurd (omega arith)
+abbrev pub NoDef : View → Type 0
+NoDef (Plain c end) = Unit {0}
+NoDef (BoxAny end) = Unit {0}
+NoDef (BoxAll start) = Unit {0}
+NoDef (BoxDef name named start count) = ⊥

@@ -2,36 +2,39 @@
 use Prim.Native.Nat.{ℕ, zero, suc, _+_, _-_, _≤_, _<_}
 use native.Mathlib.Omega.{arith}
 use mathlib.Core.Bool.{Bool, true, false, cond}
-use mathlib.Core.List.{List, _++_, append-assoc}
+use mathlib.Core.List.{List, [], _++_, append-assoc}
 use mathlib.Core.Option.{Option, none, some}
 use mathlib.Core.Path.{_≡_, refl, sym, _∙_, ap}
 use lib.ListN.{length, take, drop, length-append}
 use lib.Dec.{ltb}
 use borrow.Author.Tests.{eq-eqb, ne-eqb, lt-ltb, le-ltb, ltb-true, ltb-false}
+use Rattle.model.specs.Refusals.{tooShort}
 use Rattle.model.specs.Types.{Shape, Scalar, plain, boxAny, boxAll, boxDef, Fields, noFields, field, Ty, ty, boxOf, shapeOf, fieldCount}
 use Rattle.format.specs.Reader.{Bytes}
 use Rattle.format.specs.Records.{boxStart, writeShape, writeScalar, writeTy}
-use Rattle.format.specs.Outcome.{Outcome, accepted, refused, mapped, lone, scalarRecord}
+use Rattle.format.specs.Outcome.{Outcome, accepted, refused, mapped, lone, scalarRecord, delivery, deliver}
+use Rattle.format.specs.Views.{rest-is}
+use Rattle.lent.specs.Delivers.{deliver-short, deliver-wrote}
 use Rattle.lent.specs.Over.{over, over-over}
+use Rattle.record.specs.Answers.{nothing}
 use Rattle.rules.specs.Shapes.{rank, rowShape}
 use Rattle.rules.specs.Types.{anyTy, fieldIn, firstField, lastField, nthField, orElse, stretch, fieldPlace, rowScalar, rowBy}
-use Rattle.ty.specs.Parts.{heldBy}
-use Rattle.ty.specs.Rows.{chosen, indexOf, kept, taken}
-use Rattle.ty.specs.declared.parts.Held.{Held}
-use Rattle.ty.specs.declared.parts.Held.the-variants.{Plain, BoxAny, BoxAll, BoxDef}
+use Rattle.known.specs.WholeLaws.{Begins}
+use Rattle.known.specs.declared.View.{View}
+use Rattle.ty.specs.Parts.{LoneDef}
+use Rattle.ty.specs.Rows.{chosen, indexOf, reshaped, rowOfDef}
 use Rattle.ty.specs.declared.rows.Which.{Which}
 use Rattle.ty.specs.declared.rows.Which.the-variants.{First, Last, Nth}
-use Rattle.ty.proofs.PartLaws.{View, view, view-plain, view-any, view-all, view-def}
-use Rattle.ty.proofs.FieldLaws.{NoDef}
+use Rattle.ty.proofs.PartLaws.{lone-scalar, Inside, in-plain, in-any, in-all, in-def, NoDef}
 use Rattle.ty.proofs.ContentLaws.{anyBytes, any-bytes, first-is, field-found, field-lacks, shaped-as}
 
 -- ---- three stretches, one after the other
 
 module _ (u v w : List ℕ) {i j n : ℕ} (first : i ≡ length u) (second : j ≡ i + length v) (third : n ≡ j + length w) where
-  pub parts-length : n ≡ length (u ++ (v ++ w))
+  parts-length : n ≡ length (u ++ (v ++ w))
   parts-length = simp length-append (omega arith)
 
-  pub lay-parts : (out : List ℕ) {one two three : List ℕ} → n ≤ length out → one ≡ over out 0 u → two ≡ over one i v → three ≡ over two j w → three ≡ over out 0 (u ++ (v ++ w))
+  lay-parts : (out : List ℕ) {one two three : List ℕ} → n ≤ length out → one ≡ over out 0 u → two ≡ over one i v → three ≡ over two j w → three ≡ over out 0 (u ++ (v ++ w))
   lay-parts out {one} {two} {three} fits e f g =
       let start : i ≡ 0 + length u = omega arith in
       let end : j ≡ 0 + length (u ++ v) = omega (arith, length-append u v) in
@@ -40,6 +43,13 @@ module _ (u v w : List ℕ) {i j n : ℕ} (first : i ≡ length u) (second : j �
       ∙ ap (λ k. over (over out 0 (u ++ v)) k w) end
       ∙ over-over out 0 (u ++ v) (omega (arith, length-append u v)) w
       ∙ ap (over out 0) (append-assoc u v w)
+
+  module _ (out : List ℕ) where
+    pub parts-short : length out < n → delivery (refused tooShort 0) out ≡ deliver (accepted (u ++ (v ++ w))) out
+    parts-short h = sym (deliver-short out refl (omega (arith, parts-length)))
+
+    pub parts-wrote : {one two three : List ℕ} → n ≤ length out → one ≡ over out 0 u → two ≡ over one i v → three ≡ over two j w → delivery (accepted n) three ≡ deliver (accepted (u ++ (v ++ w))) out
+    parts-wrote fits e f g = deliver-wrote out refl (omega (arith, parts-length)) parts-length (lay-parts out fits e f g)
 
 -- ---- the field that is chosen
 
@@ -100,10 +110,13 @@ index-high n count h = rw (le-ltb n count h)
 
 -- ---- the scalar stays
 
-pub keep-bytes : (r : Outcome Ty) (s : Shape) {w : List ℕ} → mapped scalarRecord r ≡ accepted w → mapped (kept s) r ≡ accepted (writeShape s ++ w)
-unfolding kept writeTy
-keep-bytes (accepted (ty o k)) s {w} e = let x : writeScalar k ≡ w = cc in rw x
-keep-bytes (refused k p) s e = let z : _≡_ {A = ℕ} 0 1 = cc in absurd (omega arith)
+pub keep-bytes : (s : List ℕ) → Bytes s → mapped nothing (lone s) ≡ accepted 0 → {at : ℕ} → Begins s at → (row : Shape) → mapped (reshaped row) (lone s) ≡ accepted (writeShape row ++ ([] ++ take (length s - at) (drop at s)))
+unfolding reshaped writeTy
+keep-bytes s small good {at} begins row = go (lone s) (lone-scalar s small good begins ∙ ap accepted (sym (rest-is s at)))
+  where
+    go : (r : Outcome Ty) {w : List ℕ} → mapped scalarRecord r ≡ accepted w → mapped (reshaped row) r ≡ accepted (writeShape row ++ ([] ++ w))
+    go (accepted (ty o k)) {w} e = let x : writeScalar k ≡ w = cc in rw x
+    go (refused k p) e = let z : _≡_ {A = ℕ} 0 1 = cc in absurd (omega arith)
 
 -- ---- a field in a box
 
@@ -111,24 +124,31 @@ box-bytes : (s : Shape) (t : Ty) → writeTy (ty s (boxOf t)) ≡ writeShape s +
 unfolding writeTy writeScalar
 box-bytes s (ty o k) = refl
 
-module _ (s : List ℕ) (small : Bytes s) {start count : ℕ} (held : mapped heldBy (lone s) ≡ accepted (BoxDef start count)) (row : Shape) (w : Which) {n : ℕ} (index : n ≡ indexOf w count) where
-  taken-is : (o : Shape) (m : Option (List ℕ)) (f : Fields) → lone s ≡ accepted (ty o (boxDef m f)) → fieldCount f ≡ count → mapped (taken row w) (lone s) ≡ accepted (writeShape row ++ (boxStart 1 ++ writeTy (orElse (fieldIn n f) anyTy)))
-  unfolding taken
-  taken-is o m f e counted =
-      let same : n ≡ indexOf w (fieldCount f) = index ∙ ap (indexOf w) (sym counted) in
-      rw (e, same) (ap accepted (box-bytes row (chosen w f) ∙ ap (λ t. writeShape row ++ (boxStart 1 ++ writeTy t)) (chosen-is w f)))
+module _ (s : List ℕ) (small : Bytes s) {start count : ℕ} (def : LoneDef s start count) (row : Shape) (w : Which) {n : ℕ} (index : n ≡ indexOf w count) where
+  -- what is laid down around a field's bytes
+  abbrev Boxed : List ℕ → Outcome (List ℕ)
+  Boxed x = accepted (writeShape row ++ (boxStart 1 ++ x))
 
-  pub take-found : {a l : ℕ} → mapped (fieldPlace n) (lone s) ≡ accepted (some (stretch a l)) → mapped (taken row w) (lone s) ≡ accepted (writeShape row ++ (boxStart 1 ++ take l (drop a s)))
-  take-found found = field-found s small held n found λ o m f h bytes. taken-is o m f (h .is) (h .counted) ∙ ap (λ x. accepted (writeShape row ++ (boxStart 1 ++ x))) bytes
+  row-def : mapped (rowOfDef row w) (lone s) ≡ Boxed (writeTy (orElse (fieldIn n (def .fields)) anyTy))
+  unfolding rowOfDef
+  row-def =
+      let same : n ≡ indexOf w (fieldCount (def .fields)) = index ∙ ap (indexOf w) (sym (def .counted)) in
+      rw (def .is, same) (ap accepted (box-bytes row (chosen w (def .fields))) ∙ ap (λ t. Boxed (writeTy t)) (chosen-is w (def .fields)))
 
-  pub take-none : mapped (fieldPlace n) (lone s) ≡ accepted none → mapped (taken row w) (lone s) ≡ accepted (writeShape row ++ (boxStart 1 ++ anyBytes))
-  take-none lacks = field-lacks s small held n lacks λ o m f h none. taken-is o m f (h .is) (h .counted) ∙ ap (λ t. accepted (writeShape row ++ (boxStart 1 ++ writeTy t))) none ∙ ap (λ x. accepted (writeShape row ++ (boxStart 1 ++ x))) any-bytes
+  pub take-found : {a l : ℕ} → mapped (fieldPlace n) (lone s) ≡ accepted (some (stretch a l)) → mapped (rowOfDef row w) (lone s) ≡ Boxed (take (a + l - a) (drop a s))
+  take-found found = row-def ∙ ap Boxed (field-found s small def n found)
+
+  pub take-none : mapped (fieldPlace n) (lone s) ≡ accepted none → mapped (rowOfDef row w) (lone s) ≡ Boxed anyBytes
+  take-none lacks = row-def ∙ ap (λ t. Boxed (writeTy t)) (field-lacks s small def n lacks) ∙ ap Boxed any-bytes
 
 -- ---- the row
 
 module _ (s : List ℕ) {d : Shape} (shaped : mapped shapeOf (lone s) ≡ accepted d) {row : Shape} (dropped : row ≡ rowShape d) (w : Which) where
-  pub row-ranked : (rank d ≡ 1 → ⊥) → mapped (λ t. writeTy (rowBy (chosen w) t)) (lone s) ≡ mapped (kept row) (lone s)
-  unfolding rowBy rowScalar kept
+  abbrev RowBytes : Outcome (List ℕ)
+  RowBytes = mapped (λ t. writeTy (rowBy (chosen w) t)) (lone s)
+
+  pub row-ranked : (rank d ≡ 1 → ⊥) → RowBytes ≡ mapped (reshaped row) (lone s)
+  unfolding rowBy rowScalar reshaped
   row-ranked e = shaped-as s shaped λ k is. rw (is, dropped) (ap (λ l. accepted (writeTy (ty (rowShape d) l))) (go k))
     where
       go : (k : Scalar) → rowScalar (chosen w) d k ≡ k
@@ -140,19 +160,13 @@ module _ (s : List ℕ) {d : Shape} (shaped : mapped shapeOf (lone s) ≡ accept
   same : {o : Shape} {k : Scalar} → lone s ≡ accepted (ty o k) → o ≡ d
   same {o} {k} e = let x : accepted o ≡ accepted d = sym (ap (mapped shapeOf) e) ∙ shaped in cc
 
-  pub row-kept : (h : Held) → mapped heldBy (lone s) ≡ accepted h → NoDef h → mapped (λ t. writeTy (rowBy (chosen w) t)) (lone s) ≡ mapped (kept row) (lone s)
-  unfolding rowBy rowScalar kept
-  row-kept h held = go h (view s held)
-    where
-      go : (h : Held) → View s h → NoDef h → mapped (λ t. writeTy (rowBy (chosen w) t)) (lone s) ≡ mapped (kept row) (lone s)
-      go Plain (view-plain o k e) u = rw (e, dropped, same e)
-      go BoxAny (view-any o e) u = rw (e, dropped, same e)
-      go (BoxAll start) (view-all o t k e place) u = rw (e, dropped, same e)
-      go (BoxDef start count) v u = absurd u
+  pub row-kept : {v : View} → Inside s v → NoDef v → RowBytes ≡ mapped (reshaped row) (lone s)
+  unfolding rowBy rowScalar reshaped
+  row-kept (in-plain o k e) u = rw (e, dropped, same e)
+  row-kept (in-any o e) u = rw (e, dropped, same e)
+  row-kept (in-all a) u = rw (a .is, dropped, same (a .is))
+  row-kept (in-def def inner bytes) u = absurd u
 
-  pub row-taken : {start count : ℕ} → mapped heldBy (lone s) ≡ accepted (BoxDef start count) → rank d ≡ 1 → mapped (λ t. writeTy (rowBy (chosen w) t)) (lone s) ≡ mapped (taken row w) (lone s)
-  unfolding rowBy rowScalar taken
-  row-taken {start} {count} held r = go (view s held)
-    where
-      go : View s (BoxDef start count) → mapped (λ t. writeTy (rowBy (chosen w) t)) (lone s) ≡ mapped (taken row w) (lone s)
-      go (view-def o n f e place counted) = rw (e, dropped, same e, eq-eqb (rank d) 1 r)
+  pub row-taken : {start count : ℕ} → LoneDef s start count → rank d ≡ 1 → RowBytes ≡ mapped (rowOfDef row w) (lone s)
+  unfolding rowBy rowScalar rowOfDef
+  row-taken def r = rw (def .is, dropped, same (def .is), eq-eqb (rank d) 1 r)

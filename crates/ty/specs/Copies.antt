@@ -14,10 +14,10 @@ repeated zero w = []
 repeated (suc n) w = w ++ repeated n w
 
 -- no name, the count, the copies
-unfoldable pub listed : ℕ → List ℕ → List ℕ
-listed n w = absent ∷ n ∷ repeated n w
+unfoldable pub copyBytes : ℕ → List ℕ → List ℕ
+copyBytes n w = absent ∷ n ∷ repeated n w
 
 -- as many as there are rows: ? rows give one, more than 31 are refused
-unfoldable pub listedFor : Dim → List ℕ → Outcome (List ℕ)
-listedFor unknown w = accepted (listed 1 w)
-listedFor (static n) w = cond (leb n maxFields) (accepted (listed n w)) (refused tooMany 0)
+unfoldable pub copyBytesFor : Dim → List ℕ → Outcome (List ℕ)
+copyBytesFor unknown w = accepted (copyBytes 1 w)
+copyBytesFor (static n) w = cond (leb n maxFields) (accepted (copyBytes n w)) (refused tooMany 0)

@@ -1,36 +1,26 @@
--- Where the parts of a lone type stand, for the calls of this crate among themselves.
-use Prim.Native.Nat.{ℕ, zero, suc, _+_}
+-- Where the fields of a lone Def stand, and what stands in a box, for the calls of this crate among themselves.
+use Prim.Native.Nat.{ℕ}
 use mathlib.Core.List.{List}
 use mathlib.Core.Option.{Option, none, some}
+use mathlib.Core.Path.{_≡_}
 use lib.ListN.{length}
-use Rattle.model.specs.Types.{plain, boxAny, boxAll, boxDef, Ty, ty, fieldCount}
-use Rattle.format.specs.Reader.{Read, got, stopped}
-use Rattle.format.specs.Records.{writeShape, readType}
+use Rattle.model.specs.Limits.{maxDepth}
+use Rattle.model.specs.Types.{Shape, plain, boxAny, boxAll, boxDef, Fields, Ty, ty, fieldCount}
+use Rattle.format.specs.Outcome.{accepted, lone}
 use Rattle.rules.specs.Types.{anyTy, firstField, Stretch, stretch, beforeFields}
-use Rattle.ty.specs.declared.parts.Held.{Held}
-use Rattle.ty.specs.declared.parts.Held.the-variants.{Plain, BoxAny, BoxAll, BoxDef}
+use Rattle.known.specs.Known.{FieldsAt}
 use Rattle.ty.specs.declared.parts.Part.{Part}
 use Rattle.ty.specs.declared.parts.Part.the-variants.{At, Nothing}
 
--- What a type's scalar is, and where what it holds begins: after a box's six bytes, a Def's fields after its name and their count.
-unfoldable pub heldBy : Ty → Held
-heldBy (ty s (plain k)) = Plain
-heldBy (ty s boxAny) = BoxAny
-heldBy (ty s (boxAll t k)) = BoxAll (length (writeShape s) + 6)
-heldBy (ty s (boxDef n f)) = BoxDef (length (beforeFields s n f)) (fieldCount f)
-
--- the place after what was read at `at`
-abbrev pub past : {A : Type 0} → ℕ → Read A → ℕ
-past at (got a next) = next
-past at (stopped k p) = at
-
-abbrev pub afterType : List ℕ → ℕ → ℕ
-afterType s at = past at (readType s at)
-
--- The place after as many types that stand one after the other.
-unfoldable pub afterTypes : List ℕ → ℕ → ℕ → ℕ
-afterTypes s zero at = at
-afterTypes s (suc n) at = afterTypes s n (afterType s at)
+-- The bytes are a lone Def, whose so many fields begin at a place.
+pub record LoneDef (s : List ℕ) (start count : ℕ) : Type 0 where
+  pub shape : Shape
+  pub name : Option (List ℕ)
+  pub fields : Fields
+  pub is : lone s ≡ accepted (ty shape (boxDef name fields))
+  pub place : length (beforeFields shape name fields) ≡ start
+  pub counted : fieldCount fields ≡ count
+  pub there : FieldsAt s start maxDepth fields
 
 abbrev pub partOf : Part → Option Stretch
 partOf (At start length) = some (stretch start length)

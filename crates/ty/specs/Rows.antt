@@ -21,12 +21,12 @@ indexOf Last count = count - 1
 indexOf (Nth n) count = cond (ltb n count) n 0
 
 -- a type's scalar under another shape
-unfoldable pub kept : Shape → Ty → List ℕ
-kept s (ty o k) = writeTy (ty s k)
+unfoldable pub reshaped : Shape → Ty → List ℕ
+reshaped s (ty o k) = writeTy (ty s k)
 
 -- a Def's field in a box, under another shape
-unfoldable pub taken : Shape → Which → Ty → List ℕ
-taken s w (ty o (plain k)) = writeTy (ty s (plain k))
-taken s w (ty o boxAny) = writeTy (ty s boxAny)
-taken s w (ty o (boxAll t k)) = writeTy (ty s (boxAll t k))
-taken s w (ty o (boxDef n f)) = writeTy (ty s (boxOf (chosen w f)))
+unfoldable pub rowOfDef : Shape → Which → Ty → List ℕ
+rowOfDef s w (ty o (plain k)) = writeTy (ty s (plain k))
+rowOfDef s w (ty o boxAny) = writeTy (ty s boxAny)
+rowOfDef s w (ty o (boxAll t k)) = writeTy (ty s (boxAll t k))
+rowOfDef s w (ty o (boxDef n f)) = writeTy (ty s (boxOf (chosen w f)))

@@ -1,13 +1,14 @@
 // What stands in a box.
-use crate::parts::Held;
 use crate::parts::Part;
 use crate::parts::find_field;
-use crate::parts::look_inside;
+use known::View;
+use known::look;
+use known::scalar_at;
+use known::shape_at;
 use lent::Written;
 use lent::hand_over;
 use limits::records::ANY_TYPE;
 use record::Lone;
-use record::lone_shape;
 use record::read_lone;
 use shape::is_scalar;
 use writer::as_written;
@@ -27,7 +28,7 @@ pub fn unboxed(ty: &[u8], result: &mut [u8]) -> Written
     let Lone::Accepted = read else {
         return as_written(read);
     };
-    if is_scalar(lone_shape(ty)) {
+    if is_scalar(shape_at(ty, 0)) {
         return write_content(ty, &mut *result);
     }
     hand_over(ty, &mut *result)
@@ -39,13 +40,18 @@ fn write_content(ty: &[u8], result: &mut [u8]) -> Written
     requires { ⌜ mapped nothing (lone (now ty)) ≡ accepted 0 ⌝ }
     ensures { λ r. ⌜ delivered r (now (result .exit)) ≡ deliver (mapped (λ t. writeTy (contentOf t)) (lone (now (ty .entry)))) (now (result .entry)) ⌝ }
 {
-    let held = look_inside(ty);
+    let held = look(ty, scalar_at(ty, 0));
     match held {
-        Held::Plain => hand_over(ty, &mut *result),
-        Held::BoxAny => hand_over(&ANY_TYPE, &mut *result),
-        Held::BoxAll { start } => hand_over(&ty[start..], &mut *result),
-        Held::BoxDef { start, count } => {
-            let part = find_field(ty, start, count, 0);
+        View::Plain { code: _, end: _ } => hand_over(ty, &mut *result),
+        View::BoxAny { end: _ } => hand_over(&ANY_TYPE, &mut *result),
+        View::BoxAll { content } => hand_over(&ty[content..], &mut *result),
+        View::BoxDef {
+            name: _,
+            named: _,
+            fields,
+            count,
+        } => {
+            let part = find_field(ty, fields, count, 0);
             match part {
                 Part::At { start: at, length } => {
                     let end = at + length;

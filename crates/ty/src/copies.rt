@@ -14,12 +14,12 @@ ghost use Rattle.format.specs.Records.{dimOf};
 ghost use Rattle.format.specs.Outcome.{accepted, deliver};
 ghost use Rattle.lent.specs.Over.{over};
 ghost use Rattle.lent.specs.Written.{delivered};
-ghost use Rattle.ty.specs.Copies.{repeated, listed, listedFor};
+ghost use Rattle.ty.specs.Copies.{repeated, copyBytes, copyBytesFor};
 
 // As many copies as there are rows: an unknown number gives one, more than a Def's fields are refused.
 pub fn write_copies(t: &[u8], rows: u64, result: &mut [u8]) -> Written
     requires { ⌜ length (now t) ≤ maxBytes ⌝ }
-    ensures { λ r. ⌜ delivered r (now (result .exit)) ≡ deliver (listedFor (dimOf rows) (now (t .entry))) (now (result .entry)) ⌝ }
+    ensures { λ r. ⌜ delivered r (now (result .exit)) ≡ deliver (copyBytesFor (dimOf rows) (now (t .entry))) (now (result .entry)) ⌝ }
 {
     if rows == UNKNOWN {
         return write_list(t, 1, &mut *result);
@@ -36,7 +36,7 @@ pub fn write_copies(t: &[u8], rows: u64, result: &mut [u8]) -> Written
 // No name, the count, and the copies.
 fn write_list(t: &[u8], n: u64, result: &mut [u8]) -> Written
     requires { ⌜ (n ≤ maxFields) × (length (now t) ≤ maxBytes) ⌝ }
-    ensures { λ r. ⌜ delivered r (now (result .exit)) ≡ deliver (accepted (listed n (now (t .entry)))) (now (result .entry)) ⌝ }
+    ensures { λ r. ⌜ delivered r (now (result .exit)) ≡ deliver (accepted (copyBytes n (now (t .entry)))) (now (result .entry)) ⌝ }
 {
     let size = 2 + n as usize * t.len();
     if result.len() < size {

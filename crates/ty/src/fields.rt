@@ -1,9 +1,10 @@
 // Field n of a Def.
 use crate::Found;
-use crate::parts::Held;
 use crate::parts::Part;
 use crate::parts::find_field;
-use crate::parts::look_inside;
+use known::View;
+use known::look;
+use known::scalar_at;
 use record::Lone;
 use record::read_lone;
 ghost use mathlib.Core.Path.{_≡_};
@@ -21,13 +22,18 @@ pub fn field(ty: &[u8], n: u64) -> Found
     let Lone::Accepted = read else {
         return as_found(read);
     };
-    let held = look_inside(ty);
+    let held = look(ty, scalar_at(ty, 0));
     match held {
-        Held::Plain => Found::Nothing,
-        Held::BoxAny => Found::Nothing,
-        Held::BoxAll { start: _ } => Found::Nothing,
-        Held::BoxDef { start, count } => {
-            let part = find_field(ty, start, count, n);
+        View::Plain { code: _, end: _ } => Found::Nothing,
+        View::BoxAny { end: _ } => Found::Nothing,
+        View::BoxAll { content: _ } => Found::Nothing,
+        View::BoxDef {
+            name: _,
+            named: _,
+            fields,
+            count,
+        } => {
+            let part = find_field(ty, fields, count, n);
             match part {
                 Part::At { start: at, length } => Found::At { start: at, length },
                 Part::Nothing => Found::Nothing,

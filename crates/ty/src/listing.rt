@@ -1,14 +1,14 @@
 // A box as a list of types.
 use crate::Boxes;
 use crate::copies::write_copies;
-use crate::parts::Held;
-use crate::parts::look_inside;
+use known::View;
+use known::look;
+use known::scalar_at;
+use known::shape_at;
 use lent::Written;
 use lent::hand_over;
 use limits::records::ANY_TYPE;
 use record::Lone;
-use record::lone_scalar;
-use record::lone_shape;
 use record::read_lone;
 use shape::row_count;
 use writer::as_written;
@@ -27,16 +27,18 @@ pub fn as_boxes(ty: &[u8], result: &mut [u8]) -> Boxes
     let Lone::Accepted = read else {
         return offer(as_written(read));
     };
-    let rows = row_count(lone_shape(ty));
-    let held = look_inside(ty);
+    let rows = row_count(shape_at(ty, 0));
+    let held = look(ty, scalar_at(ty, 0));
     match held {
-        Held::Plain => Boxes::Nothing,
-        Held::BoxAny => offer(write_copies(&ANY_TYPE, rows, &mut *result)),
-        Held::BoxAll { start } => offer(write_copies(&ty[start..], rows, &mut *result)),
-        Held::BoxDef { start: _, count: _ } => {
-            let name = lone_scalar(ty) + 6;
-            offer(hand_over(&ty[name..], &mut *result))
-        }
+        View::Plain { code: _, end: _ } => Boxes::Nothing,
+        View::BoxAny { end: _ } => offer(write_copies(&ANY_TYPE, rows, &mut *result)),
+        View::BoxAll { content } => offer(write_copies(&ty[content..], rows, &mut *result)),
+        View::BoxDef {
+            name,
+            named: _,
+            fields: _,
+            count: _,
+        } => offer(hand_over(&ty[name..], &mut *result)),
     }
 }
 

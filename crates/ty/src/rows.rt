@@ -1,8 +1,10 @@
 // The rows of a type.
-use crate::parts::Held;
 use crate::parts::Part;
 use crate::parts::find_field;
-use crate::parts::look_inside;
+use known::View;
+use known::look;
+use known::scalar_at;
+use known::shape_at;
 use lent::Written;
 use lent::lay;
 use limits::records::ANY_TYPE;
@@ -10,8 +12,6 @@ use limits::records::BOX_ALL_START;
 use limits::refusal::TOO_SHORT;
 use record::DynShape;
 use record::Lone;
-use record::lone_scalar;
-use record::lone_shape;
 use record::read_lone;
 use shape::into_row as shape_row;
 use shape::rank;
@@ -27,8 +27,8 @@ ghost use Rattle.format.specs.Outcome.{accepted, deliver, mapped, lone};
 ghost use Rattle.lent.specs.Written.{delivered};
 ghost use Rattle.record.specs.Answers.{shapeFor, nothing};
 ghost use Rattle.rules.specs.Types.{rowBy, intoRow, intoFirstRow, intoLastRow, intoNthRow};
-ghost use Rattle.ty.specs.Parts.{heldBy};
-ghost use Rattle.ty.specs.Rows.{chosen, indexOf, kept, taken};
+ghost use Rattle.ty.specs.Parts.{LoneDef};
+ghost use Rattle.ty.specs.Rows.{chosen, indexOf, reshaped, rowOfDef};
 
 // The row of a type: its shape loses a size, and at rank 1 a Def's row is a box with its first field.
 pub fn into_row(ty: &[u8], result: &mut [u8]) -> Written
@@ -79,27 +79,32 @@ pub fn row_known(ty: &[u8], which: Which, result: &mut [u8]) -> Written
     requires { ⌜ mapped nothing (lone (now ty)) ≡ accepted 0 ⌝ }
     ensures { λ r. ⌜ delivered r (now (result .exit)) ≡ deliver (mapped (λ t. writeTy (rowBy (chosen which) t)) (lone (now (ty .entry)))) (now (result .entry)) ⌝ }
 {
-    let shape = lone_shape(ty);
+    let shape = shape_at(ty, 0);
     let row = shape_row(shape);
     let ranked = rank(shape);
     if ranked != 1 {
         return keep_scalar(ty, row, &mut *result);
     }
-    let held = look_inside(ty);
+    let held = look(ty, scalar_at(ty, 0));
     match held {
-        Held::Plain => keep_scalar(ty, row, &mut *result),
-        Held::BoxAny => keep_scalar(ty, row, &mut *result),
-        Held::BoxAll { start: _ } => keep_scalar(ty, row, &mut *result),
-        Held::BoxDef { start, count } => take_field(ty, row, start, count, which, &mut *result),
+        View::Plain { code: _, end: _ } => keep_scalar(ty, row, &mut *result),
+        View::BoxAny { end: _ } => keep_scalar(ty, row, &mut *result),
+        View::BoxAll { content: _ } => keep_scalar(ty, row, &mut *result),
+        View::BoxDef {
+            name: _,
+            named: _,
+            fields,
+            count,
+        } => take_field(ty, row, fields, count, which, &mut *result),
     }
 }
 
 // The type's own scalar under the row's shape.
 fn keep_scalar(ty: &[u8], row: DynShape, result: &mut [u8]) -> Written
     requires { ⌜ mapped nothing (lone (now ty)) ≡ accepted 0 ⌝ }
-    ensures { λ r. ⌜ delivered r (now (result .exit)) ≡ deliver (mapped (kept (shapeFor row)) (lone (now (ty .entry)))) (now (result .entry)) ⌝ }
+    ensures { λ r. ⌜ delivered r (now (result .exit)) ≡ deliver (mapped (reshaped (shapeFor row)) (lone (now (ty .entry)))) (now (result .entry)) ⌝ }
 {
-    let start = lone_scalar(ty);
+    let start = scalar_at(ty, 0);
     write_parts(row, b"", &ty[start..], &mut *result)
 }
 
@@ -112,8 +117,8 @@ fn take_field(
     which: Which,
     result: &mut [u8],
 ) -> Written
-    requires { ⌜ mapped heldBy (lone (now ty)) ≡ accepted (Held.BoxDef start count) ⌝ }
-    ensures { λ r. ⌜ delivered r (now (result .exit)) ≡ deliver (mapped (taken (shapeFor row) which) (lone (now (ty .entry)))) (now (result .entry)) ⌝ }
+    requires { ⌜ LoneDef (now ty) start count ⌝ }
+    ensures { λ r. ⌜ delivered r (now (result .exit)) ≡ deliver (mapped (rowOfDef (shapeFor row) which) (lone (now (ty .entry)))) (now (result .entry)) ⌝ }
 {
     let n = index_of(which, count);
     let part = find_field(ty, start, count, n);

@@ -4,14 +4,14 @@ use native.Mathlib.Omega.{arith}
 use Prim.Native.Nat.{_-_, _≤_}
 use lib.ListN.{take, drop}
 use Rattle.rules.specs.Sizes.{cmpNumber}
-use Rattle.order.proofs.ListLaws.{Walked, bytes-less, bytes-more, bytes-end, byte-less, byte-more, byte-same}
+use Rattle.order.proofs.ListLaws.{AlikeUpTo, bytes-less, bytes-more, bytes-end, byte-less, byte-more, byte-same}
 use Rattle.order.proofs.names.cmp_bytes.Statement.{statement}
 use Rattle.order.proofs.names.cmp_bytes.Tie as tie
 use Rattle.order.proofs.names.cmp_bytes.Reads as reads
 use Rattle.order.proofs.names.cmp_bytes.Lts as lts
 
 abbrev Inv-loop : tie.InvT-loop
-Inv-loop a i m b j n k₀ k = (k ≤ m) × (k ≤ n) × Walked cmpNumber (take m (drop i a)) (take n (drop j b)) 0 k
+Inv-loop a i m b j n k₀ k = (k ≤ m) × (k ≤ n) × AlikeUpTo cmpNumber (take m (drop i a)) (take n (drop j b)) 0 k
 
 abbrev μ-loop : tie.MeasureT-loop
 μ-loop a i m b j n k₀ k = m - k
@@ -62,8 +62,12 @@ loop-again : tie.Need-loop-again Inv-loop μ-loop
 loop-again c =
     let entry = c .before .before .before .before .before .before .before in
     let at-loop = c .before .before .before .before .before .before in
-    let args = entry .args in
-    (omega arith, omega arith, byte-same (args .a .now) (args .i) (args .m) (args .b .now) (args .j) (args .n) (entry .pre .0) (entry .pre .1) (at-loop .loop .k) (at-loop .loop .inv .2) (omega arith) (omega arith) (c .before .if2 .left) (c .if3 .left))
+    let args = entry .args in (
+      omega arith,
+      omega arith,
+      byte-same (args .a .now) (args .i) (args .m) (args .b .now) (args .j) (args .n) (entry .pre .0) (entry .pre .1)
+          (at-loop .loop .k) (at-loop .loop .inv .2) (omega arith) (omega arith) (c .before .if2 .left) (c .if3 .left),
+    )
 
 returns-4 : tie.Need-returns-4 Inv-loop μ-loop
 returns-4 c =

@@ -3,7 +3,7 @@ use borrow.Author.Needs.{needs}
 use native.Mathlib.Omega.{arith}
 use Prim.Native.Nat.{_-_, _≤_}
 use Rattle.shape.specs.Answers.{orderOf}
-use Rattle.order.proofs.ListLaws.{Sized, sizes-less, sizes-more, sizes-end, size-less, size-more, size-same}
+use Rattle.order.proofs.ListLaws.{SizesAlike, sizes-less, sizes-more, sizes-end, size-less, size-more, size-same}
 use Rattle.order.proofs.shapes.cmp_dims.Statement.{statement}
 use Rattle.order.proofs.shapes.cmp_dims.Tie as tie
 use Rattle.order.proofs.shapes.cmp_dims.Reads as reads
@@ -12,7 +12,7 @@ use Rattle.shape.proofs.cmp.Reads as cmp-reads
 use Rattle.writer.proofs.size_count.Reads as size-count-reads
 
 abbrev Inv-loop : tie.InvT-loop
-Inv-loop a b m n i₀ i = (i ≤ m) × (i ≤ n) × Sized a b i
+Inv-loop a b m n i₀ i = (i ≤ m) × (i ≤ n) × SizesAlike a b i
 
 abbrev μ-loop : tie.MeasureT-loop
 μ-loop a b m n i₀ i = m - i

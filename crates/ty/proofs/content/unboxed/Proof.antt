@@ -1,11 +1,13 @@
 use mathlib.Core.Path.{sym, ap, _∙_}
 use native.Mathlib.Omega.{arith}
-use Rattle.format.specs.Outcome.{lone, deliver}
-use Rattle.record.specs.Answers.{loneOf}
-use Rattle.lent.specs.Delivers.{deliver-handed}
-use Rattle.record.proofs.LoneLaws.{passed-refused, mapped-refused}
+use Rattle.format.specs.Reader.{Bytes}
 use Rattle.format.specs.Records.{writeTy}
+use Rattle.format.specs.Outcome.{lone}
+use Rattle.record.specs.Answers.{loneOf}
+use Rattle.record.proofs.LoneLaws.{passed-refused, mapped-refused}
+use Rattle.lent.specs.Delivers.{deliver-handed}
 use Rattle.rules.specs.Types.{unboxed}
+use Rattle.ty.proofs.PartLaws.{delivers, type-known, lone-shape}
 use Rattle.ty.proofs.ContentLaws.{unboxed-in, unboxed-out}
 use borrow.Author.Needs.{needs}
 use Rattle.ty.proofs.content.unboxed.Statement.{statement}
@@ -29,13 +31,19 @@ returns : tie.Need-returns
 returns c =
     let entry = c .before .before .before .before .before .before in
     let at-read-lone = c .before .before .before in
+    let args = entry .args in
     let told = ap loneOf (c .before .enum-told2 .given .1) in
-    deliver-handed _ (c .as-written .result) (c .as-written .ensures ∙ told) (mapped-refused (λ t. writeTy (unboxed t)) (passed-refused (lone (entry .args .ty .now)) (sym (at-read-lone .read-lone .ensures) ∙ told)))
+    let stopped = passed-refused (lone (args .ty .now)) (sym (at-read-lone .read-lone .ensures) ∙ told) in
+    deliver-handed _ (c .as-written .result) (c .as-written .ensures ∙ told) (mapped-refused (λ t. writeTy (unboxed t)) stopped)
 
-lone-shape-requires : tie.Need-lone-shape-requires
-lone-shape-requires c κs =
+shape-at-requires : tie.Need-shape-at-requires
+shape-at-requires c κs =
+    let entry = c .before .before .before .before .before in
+    let at-shared-slice-known = c .before .before .before .before in
     let at-read-lone = c .before .before in
-    (sym (at-read-lone .read-lone .ensures) ∙ ap loneOf (c .enum-told .given .1))
+    let args = entry .args in
+    let small : Bytes (args .ty .now) = λ i. omega (arith, at-shared-slice-known .shared-slice-known .given i) in
+    type-known (args .ty .now) small (sym (at-read-lone .read-lone .ensures) ∙ ap loneOf (c .enum-told .given .1))
 
 is-scalar-requires : tie.Need-is-scalar-requires
 is-scalar-requires c κs = search needs
@@ -44,7 +52,7 @@ write-content-requires : tie.Need-write-content-requires
 write-content-requires c κs =
     let at-read-lone = c .before .before .before .before .before .before in
     let at-enum-told = c .before .before .before .before in
-    (sym (at-read-lone .read-lone .ensures) ∙ ap loneOf (at-enum-told .enum-told .given .1))
+    sym (at-read-lone .read-lone .ensures) ∙ ap loneOf (at-enum-told .enum-told .given .1)
 
 same-length : tie.Need-same-length
 same-length c = search needs
@@ -52,12 +60,18 @@ same-length c = search needs
 returns-2 : tie.Need-returns-2
 returns-2 c =
     let entry = c .before .before .before .before .before .before .before .before .before .before .before .before in
-    let at-lone-shape = c .before .before .before .before .before .before in
+    let at-shared-slice-known = c .before .before .before .before .before .before .before .before .before .before .before in
+    let at-read-lone = c .before .before .before .before .before .before .before .before .before in
+    let at-enum-told = c .before .before .before .before .before .before .before in
+    let at-shape-at = c .before .before .before .before .before .before in
     let at-is-scalar = c .before .before .before .before .before in
     let at-if1 = c .before .before .before .before in
     let at-write-content = c .before .before in
     let args = entry .args in
-    at-write-content .write-content .ensures ∙ ap (λ o. deliver o (args .result .now)) (sym (unboxed-in (args .ty .now) (at-lone-shape .lone-shape .ensures) (sym (at-is-scalar .is-scalar .ensures) ∙ at-if1 .if1 .taken)))
+    let small : Bytes (args .ty .now) = λ i. omega (arith, at-shared-slice-known .shared-slice-known .given i) in
+    let good = sym (at-read-lone .read-lone .ensures) ∙ ap loneOf (at-enum-told .enum-told .given .1) in
+    let shaped = lone-shape (args .ty .now) small good (at-shape-at .shape-at .ensures) in
+    delivers (args .result .now) (at-write-content .write-content .ensures) (unboxed-in (args .ty .now) shaped (sym (at-is-scalar .is-scalar .ensures) ∙ at-if1 .if1 .taken))
 
 hand-over-requires : tie.Need-hand-over-requires
 hand-over-requires c κs = search needs
@@ -69,14 +83,17 @@ returns-3 : tie.Need-returns-3
 returns-3 c =
     let entry = c .before .before .before .before .before .before .before .before .before .before .before .before in
     let at-shared-slice-known = c .before .before .before .before .before .before .before .before .before .before .before in
-    let at-lone-shape = c .before .before .before .before .before .before in
+    let at-read-lone = c .before .before .before .before .before .before .before .before .before in
+    let at-enum-told = c .before .before .before .before .before .before .before in
+    let at-shape-at = c .before .before .before .before .before .before in
     let at-is-scalar = c .before .before .before .before .before in
     let at-if1 = c .before .before .before .before in
     let at-hand-over = c .before .before in
     let args = entry .args in
-    at-hand-over .hand-over .ensures ∙ ap (λ o. deliver o (args .result .now))
-    (sym (unboxed-out (args .ty .now) (at-lone-shape .lone-shape .ensures) (λ i. omega (arith, at-shared-slice-known .shared-slice-known .given i))
-    (sym (at-is-scalar .is-scalar .ensures) ∙ at-if1 .if1 .left)))
+    let small : Bytes (args .ty .now) = λ i. omega (arith, at-shared-slice-known .shared-slice-known .given i) in
+    let good = sym (at-read-lone .read-lone .ensures) ∙ ap loneOf (at-enum-told .enum-told .given .1) in
+    let shaped = lone-shape (args .ty .now) small good (at-shape-at .shape-at .ensures) in
+    delivers (args .result .now) (at-hand-over .hand-over .ensures) (unboxed-out (args .ty .now) shaped small (sym (at-is-scalar .is-scalar .ensures) ∙ at-if1 .if1 .left))
 
 pub unboxed-spec : {M : Type 1} → statement M
 unboxed-spec =
@@ -87,7 +104,7 @@ unboxed-spec =
     enum-told-2
     as-written-requires
     returns
-    lone-shape-requires
+    shape-at-requires
     is-scalar-requires
     write-content-requires
     same-length

@@ -1,20 +1,30 @@
-use mathlib.Core.Path.{sym, ap, _∙_}
+use mathlib.Core.Path.{ap, _∙_}
 use native.Mathlib.Omega.{arith}
-use Rattle.format.specs.Outcome.{accepted, deliver}
+use Rattle.format.specs.Reader.{Bytes}
+use Rattle.format.specs.Outcome.{accepted}
 use Rattle.ty.specs.Parts.{partOf}
-use Rattle.format.specs.Views.{rest-is}
-use Rattle.ty.proofs.ContentLaws.{stretch-is, all-there, content-all, field-there, content-plain, content-any, content-first, content-none}
+use Rattle.ty.proofs.PartLaws.{delivers, type-known, scalar-known, inside, the-all, the-def}
+use Rattle.ty.proofs.ContentLaws.{field-there, content-all, content-plain, content-any, content-first, content-none}
 use borrow.Author.Needs.{needs}
 use Rattle.ty.proofs.content.write_content.Statement.{statement}
 use Rattle.ty.proofs.content.write_content.Tie as tie
 use Rattle.ty.proofs.content.write_content.Reads as reads
 use Rattle.ty.proofs.content.write_content.Lts as lts
-use Rattle.lent.proofs.hand_over.Reads as hand-over-reads
-use Rattle.ty.proofs.parts.find_field.Reads as find-field-reads
-use Rattle.ty.proofs.parts.look_inside.Reads as look-inside-reads
 
-look-inside-requires : tie.Need-look-inside-requires
-look-inside-requires c κs = search needs
+scalar-at-requires : tie.Need-scalar-at-requires
+scalar-at-requires c κs =
+    let entry = c .before .before in
+    let args = entry .args in
+    let small : Bytes (args .ty .now) = λ i. omega (arith, c .before .shared-slice-known .given i) in
+    type-known (args .ty .now) small (entry .pre)
+
+look-requires : tie.Need-look-requires
+look-requires c κs =
+    let entry = c .before .before .before in
+    let at-shared-slice-known = c .before .before in
+    let args = entry .args in
+    let small : Bytes (args .ty .now) = λ i. omega (arith, at-shared-slice-known .shared-slice-known .given i) in
+    scalar-known (args .ty .now) small (entry .pre) (c .scalar-at .ensures)
 
 enum-told : tie.Need-enum-told
 enum-told c = search needs
@@ -36,17 +46,25 @@ enum-known-held c = search needs
 
 sub-hand-over : tie.Need-sub-hand-over
 sub-hand-over c =
-    let entry = c .before .before .before .before .before .before in
-    let at-shared-slice-known = c .before .before .before .before .before in
-    let at-look-inside = c .before .before .before in
-    all-there (entry .args .ty .now) (λ i. omega (arith, at-shared-slice-known .shared-slice-known .given i)) (at-look-inside .look-inside .ensures ∙ ap accepted (c .before .held .given .1))
+    let entry = c .before .before .before .before .before .before .before in
+    let at-shared-slice-known = c .before .before .before .before .before .before in
+    let at-scalar-at = c .before .before .before .before in
+    let at-look = c .before .before .before in
+    let args = entry .args in
+    let small : Bytes (args .ty .now) = λ i. omega (arith, at-shared-slice-known .shared-slice-known .given i) in
+    let held = inside (args .ty .now) small (entry .pre) (at-scalar-at .scalar-at .ensures) (at-look .look .ensures) (c .before .held .given .1) in
+    the-all held .within
 
 part-hand-over-start : tie.Need-part-hand-over-start
 part-hand-over-start c =
-    let entry = c .before .before .before .before .before .before in
-    let at-shared-slice-known = c .before .before .before .before .before in
-    let at-look-inside = c .before .before .before in
-    all-there (entry .args .ty .now) (λ i. omega (arith, at-shared-slice-known .shared-slice-known .given i)) (at-look-inside .look-inside .ensures ∙ ap accepted (c .before .held .given .1))
+    let entry = c .before .before .before .before .before .before .before in
+    let at-shared-slice-known = c .before .before .before .before .before .before in
+    let at-scalar-at = c .before .before .before .before in
+    let at-look = c .before .before .before in
+    let args = entry .args in
+    let small : Bytes (args .ty .now) = λ i. omega (arith, at-shared-slice-known .shared-slice-known .given i) in
+    let held = inside (args .ty .now) small (entry .pre) (at-scalar-at .scalar-at .ensures) (at-look .look .ensures) (c .before .held .given .1) in
+    the-all held .within
 
 part-hand-over-end : tie.Need-part-hand-over-end
 part-hand-over-end c = search needs
@@ -59,20 +77,32 @@ enum-known-held-2 c = search needs
 
 find-field-requires : tie.Need-find-field-requires
 find-field-requires c κs =
-    let at-look-inside = c .before .before .before in
-    (at-look-inside .look-inside .ensures ∙ ap accepted (c .before .held2 .given .1))
+    let entry = c .before .before .before .before .before .before .before in
+    let at-shared-slice-known = c .before .before .before .before .before .before in
+    let at-scalar-at = c .before .before .before .before in
+    let at-look = c .before .before .before in
+    let args = entry .args in
+    let small : Bytes (args .ty .now) = λ i. omega (arith, at-shared-slice-known .shared-slice-known .given i) in
+    let held = inside (args .ty .now) small (entry .pre) (at-scalar-at .scalar-at .ensures) (at-look .look .ensures) (c .before .held2 .given .1) in
+    the-def held
 
 enum-known-part : tie.Need-enum-known-part
 enum-known-part c = search needs
 
 add-end : tie.Need-add-end
 add-end c =
-    let entry = c .before .before .before .before .before .before .before .before .before .before in
-    let at-shared-slice-known = c .before .before .before .before .before .before .before .before .before in
-    let at-look-inside = c .before .before .before .before .before .before .before in
+    let entry = c .before .before .before .before .before .before .before .before .before .before .before in
+    let at-shared-slice-known = c .before .before .before .before .before .before .before .before .before .before in
+    let at-scalar-at = c .before .before .before .before .before .before .before .before in
+    let at-look = c .before .before .before .before .before .before .before in
     let at-held2 = c .before .before .before .before .before in
     let at-find-field = c .before .before .before in
-    omega (arith, field-there (entry .args .ty .now) (λ i. omega (arith, at-shared-slice-known .shared-slice-known .given i)) (at-look-inside .look-inside .ensures ∙ ap accepted (at-held2 .held2 .given .1)) 0 (at-find-field .find-field .ensures ∙ ap (λ p. accepted (partOf p)) (c .before .part .given .1)))
+    let args = entry .args in
+    let small : Bytes (args .ty .now) = λ i. omega (arith, at-shared-slice-known .shared-slice-known .given i) in
+    let held = inside (args .ty .now) small (entry .pre) (at-scalar-at .scalar-at .ensures) (at-look .look .ensures) (at-held2 .held2 .given .1) in
+    let def = the-def held in
+    let found = at-find-field .find-field .ensures ∙ ap (λ p. accepted (partOf p)) (c .before .part .given .1) in
+    omega (arith, field-there (args .ty .now) small def 0 found)
 
 sub-hand-over-2 : tie.Need-sub-hand-over-2
 sub-hand-over-2 c = search needs
@@ -82,12 +112,18 @@ part-hand-over-start-2 c = search needs
 
 part-hand-over-end-2 : tie.Need-part-hand-over-end-2
 part-hand-over-end-2 c =
-    let entry = c .before .before .before .before .before .before .before .before .before .before in
-    let at-shared-slice-known = c .before .before .before .before .before .before .before .before .before in
-    let at-look-inside = c .before .before .before .before .before .before .before in
+    let entry = c .before .before .before .before .before .before .before .before .before .before .before in
+    let at-shared-slice-known = c .before .before .before .before .before .before .before .before .before .before in
+    let at-scalar-at = c .before .before .before .before .before .before .before .before in
+    let at-look = c .before .before .before .before .before .before .before in
     let at-held2 = c .before .before .before .before .before in
     let at-find-field = c .before .before .before in
-    field-there (entry .args .ty .now) (λ i. omega (arith, at-shared-slice-known .shared-slice-known .given i)) (at-look-inside .look-inside .ensures ∙ ap accepted (at-held2 .held2 .given .1)) 0 (at-find-field .find-field .ensures ∙ ap (λ p. accepted (partOf p)) (c .before .part .given .1))
+    let args = entry .args in
+    let small : Bytes (args .ty .now) = λ i. omega (arith, at-shared-slice-known .shared-slice-known .given i) in
+    let held = inside (args .ty .now) small (entry .pre) (at-scalar-at .scalar-at .ensures) (at-look .look .ensures) (at-held2 .held2 .given .1) in
+    let def = the-def held in
+    let found = at-find-field .find-field .ensures ∙ ap (λ p. accepted (partOf p)) (c .before .part .given .1) in
+    field-there (args .ty .now) small def 0 found
 
 hand-over-requires-4 : tie.Need-hand-over-requires-4
 hand-over-requires-4 c κs = search needs
@@ -106,75 +142,94 @@ same-length c = search needs
 
 returns : tie.Need-returns
 returns c =
-    let entry = c .before .before .before .before .before .before .before .before .before in
-    let at-shared-slice-known = c .before .before .before .before .before .before .before .before in
-    let at-look-inside = c .before .before .before .before .before .before in
+    let entry = c .before .before .before .before .before .before .before .before .before .before in
+    let at-shared-slice-known = c .before .before .before .before .before .before .before .before .before in
+    let at-scalar-at = c .before .before .before .before .before .before .before in
+    let at-look = c .before .before .before .before .before .before in
     let at-enum-told = c .before .before .before .before in
     let at-hand-over = c .before .before in
     let args = entry .args in
-    at-hand-over .hand-over .ensures ∙ ap (λ o. deliver o (args .result .now)) (sym (content-plain (args .ty .now) (λ i. omega (arith, at-shared-slice-known .shared-slice-known .given i)) (at-look-inside .look-inside .ensures ∙ ap accepted (at-enum-told .enum-told .given .1))))
+    let small : Bytes (args .ty .now) = λ i. omega (arith, at-shared-slice-known .shared-slice-known .given i) in
+    let held = inside (args .ty .now) small (entry .pre) (at-scalar-at .scalar-at .ensures) (at-look .look .ensures) (at-enum-told .enum-told .given .1) in
+    delivers (args .result .now) (at-hand-over .hand-over .ensures) (content-plain (args .ty .now) small held)
 
 same-length-2 : tie.Need-same-length-2
 same-length-2 c = search needs
 
 returns-2 : tie.Need-returns-2
 returns-2 c =
-    let entry = c .before .before .before .before .before .before .before .before .before .before in
-    let at-shared-slice-known = c .before .before .before .before .before .before .before .before .before in
-    let at-look-inside = c .before .before .before .before .before .before .before in
+    let entry = c .before .before .before .before .before .before .before .before .before .before .before in
+    let at-shared-slice-known = c .before .before .before .before .before .before .before .before .before .before in
+    let at-scalar-at = c .before .before .before .before .before .before .before .before in
+    let at-look = c .before .before .before .before .before .before .before in
     let at-enum-told2 = c .before .before .before .before .before in
     let at-hand-over2 = c .before .before in
     let args = entry .args in
-    at-hand-over2 .hand-over2 .ensures ∙ ap (λ o. deliver o (args .result .now)) (sym (content-any (args .ty .now) (λ i. omega (arith, at-shared-slice-known .shared-slice-known .given i)) (at-look-inside .look-inside .ensures ∙ ap accepted (at-enum-told2 .enum-told2 .given .1))))
+    let small : Bytes (args .ty .now) = λ i. omega (arith, at-shared-slice-known .shared-slice-known .given i) in
+    let held = inside (args .ty .now) small (entry .pre) (at-scalar-at .scalar-at .ensures) (at-look .look .ensures) (at-enum-told2 .enum-told2 .given .1) in
+    delivers (args .result .now) (at-hand-over2 .hand-over2 .ensures) (content-any (args .ty .now) small held)
 
 same-length-3 : tie.Need-same-length-3
 same-length-3 c = search needs
 
 returns-3 : tie.Need-returns-3
 returns-3 c =
-    let entry = c .before .before .before .before .before .before .before .before .before .before .before in
-    let at-shared-slice-known = c .before .before .before .before .before .before .before .before .before .before in
-    let at-look-inside = c .before .before .before .before .before .before .before .before in
+    let entry = c .before .before .before .before .before .before .before .before .before .before .before .before in
+    let at-shared-slice-known = c .before .before .before .before .before .before .before .before .before .before .before in
+    let at-scalar-at = c .before .before .before .before .before .before .before .before .before in
+    let at-look = c .before .before .before .before .before .before .before .before in
     let at-held = c .before .before .before .before .before .before in
     let at-hand-over3 = c .before .before in
     let args = entry .args in
-    at-hand-over3 .hand-over3 .ensures ∙ (ap (λ w. deliver (accepted w) (args .result .now)) (rest-is (args .ty .now) (at-held .held .given .0 .0)) ∙ ap (λ o. deliver o (args .result .now)) (sym (content-all (args .ty .now) (λ i. omega (arith, at-shared-slice-known .shared-slice-known .given i)) (at-look-inside .look-inside .ensures ∙ ap accepted (at-held .held .given .1)))))
+    let small : Bytes (args .ty .now) = λ i. omega (arith, at-shared-slice-known .shared-slice-known .given i) in
+    let held = inside (args .ty .now) small (entry .pre) (at-scalar-at .scalar-at .ensures) (at-look .look .ensures) (at-held .held .given .1) in
+    delivers (args .result .now) (at-hand-over3 .hand-over3 .ensures) (content-all (args .ty .now) (the-all held))
 
 same-length-4 : tie.Need-same-length-4
 same-length-4 c = search needs
 
 returns-4 : tie.Need-returns-4
 returns-4 c =
-    let entry = c .before .before .before .before .before .before .before .before .before .before .before .before .before .before .before in
-    let at-shared-slice-known = c .before .before .before .before .before .before .before .before .before .before .before .before .before .before in
-    let at-look-inside = c .before .before .before .before .before .before .before .before .before .before .before .before in
+    let entry = c .before .before .before .before .before .before .before .before .before .before .before .before .before .before .before .before in
+    let at-shared-slice-known = c .before .before .before .before .before .before .before .before .before .before .before .before .before .before .before in
+    let at-scalar-at = c .before .before .before .before .before .before .before .before .before .before .before .before .before in
+    let at-look = c .before .before .before .before .before .before .before .before .before .before .before .before in
     let at-held2 = c .before .before .before .before .before .before .before .before .before .before in
     let at-find-field = c .before .before .before .before .before .before .before .before in
     let at-part = c .before .before .before .before .before .before in
     let at-hand-over4 = c .before .before in
     let args = entry .args in
-    at-hand-over4 .hand-over4 .ensures ∙ (ap (λ w. deliver (accepted w) (args .result .now)) (stretch-is (args .ty .now) (at-part .part .given .0 .0) (at-part .part .given .0 .1 .0)) ∙ ap (λ o. deliver o (args .result .now)) (sym (content-first (args .ty .now) (λ i. omega (arith, at-shared-slice-known .shared-slice-known .given i)) (at-look-inside .look-inside .ensures ∙ ap accepted (at-held2 .held2 .given .1)) (at-find-field .find-field .ensures ∙ ap (λ p. accepted (partOf p)) (at-part .part .given .1)))))
+    let small : Bytes (args .ty .now) = λ i. omega (arith, at-shared-slice-known .shared-slice-known .given i) in
+    let held = inside (args .ty .now) small (entry .pre) (at-scalar-at .scalar-at .ensures) (at-look .look .ensures) (at-held2 .held2 .given .1) in
+    let def = the-def held in
+    let found = at-find-field .find-field .ensures ∙ ap (λ p. accepted (partOf p)) (at-part .part .given .1) in
+    delivers (args .result .now) (at-hand-over4 .hand-over4 .ensures) (content-first (args .ty .now) small def found)
 
 same-length-5 : tie.Need-same-length-5
 same-length-5 c = search needs
 
 returns-5 : tie.Need-returns-5
 returns-5 c =
-    let entry = c .before .before .before .before .before .before .before .before .before .before .before .before .before .before in
-    let at-shared-slice-known = c .before .before .before .before .before .before .before .before .before .before .before .before .before in
-    let at-look-inside = c .before .before .before .before .before .before .before .before .before .before .before in
+    let entry = c .before .before .before .before .before .before .before .before .before .before .before .before .before .before .before in
+    let at-shared-slice-known = c .before .before .before .before .before .before .before .before .before .before .before .before .before .before in
+    let at-scalar-at = c .before .before .before .before .before .before .before .before .before .before .before .before in
+    let at-look = c .before .before .before .before .before .before .before .before .before .before .before in
     let at-held2 = c .before .before .before .before .before .before .before .before .before in
     let at-find-field = c .before .before .before .before .before .before .before in
     let at-enum-told3 = c .before .before .before .before .before in
     let at-hand-over5 = c .before .before in
     let args = entry .args in
-    at-hand-over5 .hand-over5 .ensures ∙ ap (λ o. deliver o (args .result .now)) (sym (content-none (args .ty .now) (λ i. omega (arith, at-shared-slice-known .shared-slice-known .given i)) (at-look-inside .look-inside .ensures ∙ ap accepted (at-held2 .held2 .given .1)) (at-find-field .find-field .ensures ∙ ap (λ p. accepted (partOf p)) (at-enum-told3 .enum-told3 .given .1))))
+    let small : Bytes (args .ty .now) = λ i. omega (arith, at-shared-slice-known .shared-slice-known .given i) in
+    let held = inside (args .ty .now) small (entry .pre) (at-scalar-at .scalar-at .ensures) (at-look .look .ensures) (at-held2 .held2 .given .1) in
+    let lacks = at-find-field .find-field .ensures ∙ ap (λ p. accepted (partOf p)) (at-enum-told3 .enum-told3 .given .1) in
+    delivers (args .result .now) (at-hand-over5 .hand-over5 .ensures) (content-none (args .ty .now) small (the-def held) lacks)
 
 pub write-content-spec : {M : Type 1} → statement M
 write-content-spec =
     tie.close
     (tie.spec
-    look-inside-requires
+    scalar-at-requires
+    look-requires
     enum-told
     hand-over-requires
     enum-told-2

@@ -4,7 +4,7 @@ use Prim.Native.Nat.{_+_, _-_, _≤_}
 use borrow.Author.Needs.{needs}
 use lib.ListN.{length}
 use Rattle.ty.specs.Copies.{repeated}
-use Rattle.ty.proofs.CopyLaws.{one-more, Laid, lay-none, lay-more, repeated-none, repeated-more}
+use Rattle.ty.proofs.CopyLaws.{one-more, CopiesLaid, lay-none, lay-more, repeated-none, repeated-more}
 use Rattle.lent.specs.Over.{over}
 use Rattle.ty.proofs.copies.put_copies.Statement.{statement}
 use Rattle.ty.proofs.copies.put_copies.Tie as tie
@@ -13,7 +13,7 @@ use Rattle.ty.proofs.copies.put_copies.Lts as lts
 use Rattle.lent.proofs.lay.Reads as lay-reads
 
 abbrev Inv-loop : tie.InvT-loop
-Inv-loop t n out₀ start at₀ i₀ out at i = (i ≤ n) × (at ≡ start + length (repeated i t)) × (length out ≡ length out₀) × Laid out₀ start t out i
+Inv-loop t n out₀ start at₀ i₀ out at i = (i ≤ n) × (at ≡ start + length (repeated i t)) × (length out ≡ length out₀) × CopiesLaid out₀ start t out i
 
 abbrev μ-loop : tie.MeasureT-loop
 μ-loop t n out₀ start at₀ i₀ out at i = n - i
@@ -52,7 +52,12 @@ loop-again c =
     let at-loop-test = c .before .before .before .before in
     let at-lay = c .before .before in
     let args = entry .args in
-    (omega arith, repeated-more (args .t .now) (at-loop .loop .i) (args .start) (at-loop .loop .inv .1), at-lay .lay .kept .1 .0 ∙ at-loop .loop .inv .2, lay-more (args .out .now) (args .start) (args .t .now) (at-loop .loop .i) (args .n) (at-loop-test .loop-test .taken) (entry .pre) (at-loop .loop .inv .1) (at-loop .loop .inv .3) (at-lay .lay .ensures))
+    let inv = at-loop .loop .inv in (
+      omega arith,
+      repeated-more (args .t .now) (at-loop .loop .i) (args .start) (inv .1),
+      at-lay .lay .kept .1 .0 ∙ inv .2,
+      lay-more (args .out .now) (args .start) (args .t .now) (at-loop .loop .i) (args .n) (at-loop-test .loop-test .taken) (entry .pre) (inv .1) (inv .3) (at-lay .lay .ensures),
+    )
 
 same-length : tie.Need-same-length Inv-loop μ-loop
 same-length c = c .before .loop .inv .2

@@ -1,7 +1,7 @@
 use mathlib.Core.Path.{sym, ap, _∙_}
 use Rattle.format.specs.Outcome.{deliver}
 use Rattle.lent.specs.Delivers.{deliver-refused}
-use Rattle.ty.proofs.CopyLaws.{listed-unknown, listed-over, listed-some}
+use Rattle.ty.proofs.CopyLaws.{rows-unknown, rows-over, rows-some}
 use borrow.Author.Needs.{needs}
 use Rattle.ty.proofs.copies.write_copies.Statement.{statement}
 use Rattle.ty.proofs.copies.write_copies.Tie as tie
@@ -21,13 +21,13 @@ returns c =
     let at-if1 = c .before .before .before .before in
     let at-write-list = c .before .before in
     let args = entry .args in
-    at-write-list .write-list .ensures ∙ ap (λ o. deliver o (args .result .now)) (sym (listed-unknown (args .rows) (args .t .now) (at-if1 .if1 .taken)))
+    at-write-list .write-list .ensures ∙ ap (λ o. deliver o (args .result .now)) (sym (rows-unknown (args .rows) (args .t .now) (at-if1 .if1 .taken)))
 
 returns-2 : tie.Need-returns-2
 returns-2 c =
     let entry = c .before .before .before .before in
     let args = entry .args in
-    sym (deliver-refused _ (listed-over (args .rows) (args .t .now) (c .before .if1 .left) (c .if2 .taken)))
+    sym (deliver-refused _ (rows-over (args .rows) (args .t .now) (c .before .if1 .left) (c .if2 .taken)))
 
 write-list-requires-2 : tie.Need-write-list-requires-2
 write-list-requires-2 c κs = search needs
@@ -42,7 +42,7 @@ returns-3 c =
     let at-if2 = c .before .before .before .before in
     let at-write-list2 = c .before .before in
     let args = entry .args in
-    at-write-list2 .write-list2 .ensures ∙ ap (λ o. deliver o (args .result .now)) (sym (listed-some (args .rows) (args .t .now) (at-if1 .if1 .left) (at-if2 .if2 .left)))
+    at-write-list2 .write-list2 .ensures ∙ ap (λ o. deliver o (args .result .now)) (sym (rows-some (args .rows) (args .t .now) (at-if1 .if1 .left) (at-if2 .if2 .left)))
 
 pub write-copies-spec : {M : Type 1} → statement M
 write-copies-spec =

@@ -1,8 +1,7 @@
-use mathlib.Core.Path.{refl, sym, _∙_}
+use mathlib.Core.Path.{_∙_}
 use native.Mathlib.Omega.{arith}
 use lib.ListN.{length-set}
-use Rattle.lent.specs.Delivers.{deliver-short, deliver-wrote}
-use Rattle.ty.proofs.CopyLaws.{length-listed, length-repeated, copies-fit, lay-listed}
+use Rattle.ty.proofs.CopyLaws.{length-repeated, copies-fit, list-short, list-wrote}
 use borrow.Author.Needs.{needs}
 use Rattle.ty.proofs.copies.write_list.Statement.{statement}
 use Rattle.ty.proofs.copies.write_list.Tie as tie
@@ -26,7 +25,7 @@ returns : tie.Need-returns
 returns c =
     let entry = c .before .before .before in
     let args = entry .args in
-    sym (deliver-short _ refl (omega (arith, c .if1 .taken, length-listed (args .n) (args .t .now))))
+    list-short (args .result .now) (args .n) (args .t .now) (c .if1 .taken)
 
 cast-result : tie.Need-cast-result
 cast-result c = search needs
@@ -57,7 +56,7 @@ returns-2 c =
     let at-if1 = c .before .before .before .before in
     let at-put-copies = c .before .before in
     let args = entry .args in
-    deliver-wrote _ refl (omega (arith, at-if1 .if1 .left, length-listed (args .n) (args .t .now))) (sym (length-listed (args .n) (args .t .now))) (lay-listed (args .result .now) (args .n) (args .t .now) (omega (arith, at-if1 .if1 .left, length-listed (args .n) (args .t .now))) (at-put-copies .put-copies .ensures))
+    list-wrote (args .result .now) (args .n) (args .t .now) (at-if1 .if1 .left) (at-put-copies .put-copies .ensures)
 
 pub write-list-spec : {M : Type 1} → statement M
 write-list-spec =

@@ -1,10 +1,13 @@
 use mathlib.Core.Option.{none}
 use mathlib.Core.Path.{sym, ap, _∙_}
+use native.Mathlib.Omega.{arith}
+use Rattle.format.specs.Reader.{Bytes}
 use Rattle.format.specs.Outcome.{accepted, lone, mapped}
 use Rattle.rules.specs.Types.{fieldPlace}
 use Rattle.record.specs.Answers.{loneOf}
 use Rattle.record.proofs.LoneLaws.{passed-refused, mapped-refused}
 use Rattle.ty.specs.Parts.{partOf}
+use Rattle.ty.proofs.PartLaws.{type-known, scalar-known, inside, the-def}
 use Rattle.ty.proofs.FieldLaws.{field-none}
 use borrow.Author.Needs.{needs}
 use Rattle.ty.proofs.fields.field.Statement.{statement}
@@ -30,12 +33,26 @@ returns c =
     let at-read-lone = c .before .before .before in
     let args = entry .args in
     let told = ap loneOf (c .before .enum-told2 .given .1) in
-    c .as-found .ensures ∙ (ap (mapped (λ _. none)) told ∙ sym (mapped-refused (fieldPlace (args .n)) (passed-refused (lone (args .ty .now)) (sym (at-read-lone .read-lone .ensures) ∙ told))))
+    let stopped = passed-refused (lone (args .ty .now)) (sym (at-read-lone .read-lone .ensures) ∙ told) in
+    c .as-found .ensures ∙ (ap (mapped (λ _. none)) told ∙ sym (mapped-refused (fieldPlace (args .n)) stopped))
 
-look-inside-requires : tie.Need-look-inside-requires
-look-inside-requires c κs =
+scalar-at-requires : tie.Need-scalar-at-requires
+scalar-at-requires c κs =
+    let entry = c .before .before .before .before in
+    let at-shared-slice-known = c .before .before .before in
     let at-read-lone = c .before .before in
-    (sym (at-read-lone .read-lone .ensures) ∙ ap loneOf (c .enum-told .given .1))
+    let args = entry .args in
+    let small : Bytes (args .ty .now) = λ i. omega (arith, at-shared-slice-known .shared-slice-known .given i) in
+    type-known (args .ty .now) small (sym (at-read-lone .read-lone .ensures) ∙ ap loneOf (c .enum-told .given .1))
+
+look-requires : tie.Need-look-requires
+look-requires c κs =
+    let entry = c .before .before .before .before .before in
+    let at-shared-slice-known = c .before .before .before .before in
+    let at-read-lone = c .before .before .before in
+    let args = entry .args in
+    let small : Bytes (args .ty .now) = λ i. omega (arith, at-shared-slice-known .shared-slice-known .given i) in
+    scalar-known (args .ty .now) small (sym (at-read-lone .read-lone .ensures) ∙ ap loneOf (c .before .enum-told .given .1)) (c .scalar-at .ensures)
 
 enum-told-3 : tie.Need-enum-told-3
 enum-told-3 c = search needs
@@ -51,8 +68,17 @@ enum-known-held c = search needs
 
 find-field-requires : tie.Need-find-field-requires
 find-field-requires c κs =
-    let at-look-inside = c .before .before .before in
-    (at-look-inside .look-inside .ensures ∙ ap accepted (c .before .held .given .1))
+    let entry = c .before .before .before .before .before .before .before .before .before in
+    let at-shared-slice-known = c .before .before .before .before .before .before .before .before in
+    let at-read-lone = c .before .before .before .before .before .before .before in
+    let at-enum-told = c .before .before .before .before .before in
+    let at-scalar-at = c .before .before .before .before in
+    let at-look = c .before .before .before in
+    let args = entry .args in
+    let small : Bytes (args .ty .now) = λ i. omega (arith, at-shared-slice-known .shared-slice-known .given i) in
+    let good = sym (at-read-lone .read-lone .ensures) ∙ ap loneOf (at-enum-told .enum-told .given .1) in
+    let held = inside (args .ty .now) small good (at-scalar-at .scalar-at .ensures) (at-look .look .ensures) (c .before .held .given .1) in
+    the-def held
 
 enum-known-part : tie.Need-enum-known-part
 enum-known-part c = search needs
@@ -62,24 +88,45 @@ enum-told-6 c = search needs
 
 returns-2 : tie.Need-returns-2
 returns-2 c =
-    let entry = c .before .before .before .before .before .before .before in
-    let at-look-inside = c .before .before in
+    let entry = c .before .before .before .before .before .before .before .before in
+    let at-shared-slice-known = c .before .before .before .before .before .before .before in
+    let at-read-lone = c .before .before .before .before .before .before in
+    let at-enum-told = c .before .before .before .before in
+    let at-scalar-at = c .before .before .before in
+    let at-look = c .before .before in
     let args = entry .args in
-    sym (field-none (args .ty .now) (args .n) _ (at-look-inside .look-inside .ensures ∙ ap accepted (c .enum-told3 .given .1)) tt)
+    let small : Bytes (args .ty .now) = λ i. omega (arith, at-shared-slice-known .shared-slice-known .given i) in
+    let good = sym (at-read-lone .read-lone .ensures) ∙ ap loneOf (at-enum-told .enum-told .given .1) in
+    let held = inside (args .ty .now) small good (at-scalar-at .scalar-at .ensures) (at-look .look .ensures) (c .enum-told3 .given .1) in
+    sym (field-none (args .ty .now) (args .n) held tt)
 
 returns-3 : tie.Need-returns-3
 returns-3 c =
-    let entry = c .before .before .before .before .before .before .before in
-    let at-look-inside = c .before .before in
+    let entry = c .before .before .before .before .before .before .before .before in
+    let at-shared-slice-known = c .before .before .before .before .before .before .before in
+    let at-read-lone = c .before .before .before .before .before .before in
+    let at-enum-told = c .before .before .before .before in
+    let at-scalar-at = c .before .before .before in
+    let at-look = c .before .before in
     let args = entry .args in
-    sym (field-none (args .ty .now) (args .n) _ (at-look-inside .look-inside .ensures ∙ ap accepted (c .enum-told4 .given .1)) tt)
+    let small : Bytes (args .ty .now) = λ i. omega (arith, at-shared-slice-known .shared-slice-known .given i) in
+    let good = sym (at-read-lone .read-lone .ensures) ∙ ap loneOf (at-enum-told .enum-told .given .1) in
+    let held = inside (args .ty .now) small good (at-scalar-at .scalar-at .ensures) (at-look .look .ensures) (c .enum-told4 .given .1) in
+    sym (field-none (args .ty .now) (args .n) held tt)
 
 returns-4 : tie.Need-returns-4
 returns-4 c =
-    let entry = c .before .before .before .before .before .before .before in
-    let at-look-inside = c .before .before in
+    let entry = c .before .before .before .before .before .before .before .before in
+    let at-shared-slice-known = c .before .before .before .before .before .before .before in
+    let at-read-lone = c .before .before .before .before .before .before in
+    let at-enum-told = c .before .before .before .before in
+    let at-scalar-at = c .before .before .before in
+    let at-look = c .before .before in
     let args = entry .args in
-    sym (field-none (args .ty .now) (args .n) _ (at-look-inside .look-inside .ensures ∙ ap accepted (c .enum-told5 .given .1)) tt)
+    let small : Bytes (args .ty .now) = λ i. omega (arith, at-shared-slice-known .shared-slice-known .given i) in
+    let good = sym (at-read-lone .read-lone .ensures) ∙ ap loneOf (at-enum-told .enum-told .given .1) in
+    let held = inside (args .ty .now) small good (at-scalar-at .scalar-at .ensures) (at-look .look .ensures) (c .enum-told5 .given .1) in
+    sym (field-none (args .ty .now) (args .n) held tt)
 
 returns-5 : tie.Need-returns-5
 returns-5 c =
@@ -100,7 +147,8 @@ field-spec =
     enum-told-2
     as-found-requires
     returns
-    look-inside-requires
+    scalar-at-requires
+    look-requires
     enum-told-3
     enum-told-4
     enum-told-5

@@ -1,15 +1,13 @@
 use mathlib.Core.Option.{some}
 use mathlib.Core.Path.{sym, ap, _∙_}
 use native.Mathlib.Omega.{arith}
-use Prim.Native.Nat.{_+_}
-use Rattle.format.specs.Records.{dimOf}
-use Rattle.format.specs.Outcome.{accepted, lone, deliver, mapped}
+use Rattle.format.specs.Reader.{Bytes}
+use Rattle.format.specs.Outcome.{lone, mapped}
 use Rattle.record.specs.Answers.{loneOf}
 use Rattle.record.proofs.LoneLaws.{passed-refused}
-use Rattle.ty.specs.Calls.{offered, given}
-use Rattle.ty.specs.Copies.{listedFor}
-use Rattle.format.specs.Views.{rest-is}
-use Rattle.ty.proofs.ContentLaws.{rest-short, lone-short, all-there}
+use Rattle.ty.specs.Calls.{given}
+use Rattle.ty.proofs.PartLaws.{type-known, lone-shape, scalar-known, inside, the-all}
+use Rattle.ty.proofs.ContentLaws.{rest-short, lone-short}
 use Rattle.ty.proofs.ListingLaws.{offer-is, boxes-refused, boxes-plain, boxes-any, boxes-all, name-within, boxes-def}
 use borrow.Author.Needs.{needs}
 use Rattle.ty.proofs.listing.as_boxes.Statement.{statement}
@@ -39,22 +37,41 @@ returns c =
     let at-enum-told2 = c .before .before in
     let args = entry .args in
     let told = ap loneOf (at-enum-told2 .enum-told2 .given .1) in
+    let stopped = passed-refused (lone (args .ty .now)) (sym (at-read-lone .read-lone .ensures) ∙ told) in
     ap (λ o. given o (args .result .now)) (c .offer .ensures ∙ ap (mapped some) (c .before .as-written .ensures ∙ told))
-    ∙ sym (boxes-refused (args .result .now) (args .ty .now) (passed-refused (lone (args .ty .now)) (sym (at-read-lone .read-lone .ensures) ∙ told)))
+    ∙ sym (boxes-refused (args .result .now) (args .ty .now) stopped)
 
-lone-shape-requires : tie.Need-lone-shape-requires
-lone-shape-requires c κs =
+shape-at-requires : tie.Need-shape-at-requires
+shape-at-requires c κs =
+    let entry = c .before .before .before .before .before in
+    let at-shared-slice-known = c .before .before .before .before in
     let at-read-lone = c .before .before in
-    (sym (at-read-lone .read-lone .ensures) ∙ ap loneOf (c .enum-told .given .1))
+    let args = entry .args in
+    let small : Bytes (args .ty .now) = λ i. omega (arith, at-shared-slice-known .shared-slice-known .given i) in
+    type-known (args .ty .now) small (sym (at-read-lone .read-lone .ensures) ∙ ap loneOf (c .enum-told .given .1))
 
 row-count-requires : tie.Need-row-count-requires
 row-count-requires c κs = search needs
 
-look-inside-requires : tie.Need-look-inside-requires
-look-inside-requires c κs =
+scalar-at-requires : tie.Need-scalar-at-requires
+scalar-at-requires c κs =
+    let entry = c .before .before .before .before .before .before .before in
+    let at-shared-slice-known = c .before .before .before .before .before .before in
     let at-read-lone = c .before .before .before .before in
     let at-enum-told = c .before .before in
-    (sym (at-read-lone .read-lone .ensures) ∙ ap loneOf (at-enum-told .enum-told .given .1))
+    let args = entry .args in
+    let small : Bytes (args .ty .now) = λ i. omega (arith, at-shared-slice-known .shared-slice-known .given i) in
+    type-known (args .ty .now) small (sym (at-read-lone .read-lone .ensures) ∙ ap loneOf (at-enum-told .enum-told .given .1))
+
+look-requires : tie.Need-look-requires
+look-requires c κs =
+    let entry = c .before .before .before .before .before .before .before .before in
+    let at-shared-slice-known = c .before .before .before .before .before .before .before in
+    let at-read-lone = c .before .before .before .before .before in
+    let at-enum-told = c .before .before .before in
+    let args = entry .args in
+    let small : Bytes (args .ty .now) = λ i. omega (arith, at-shared-slice-known .shared-slice-known .given i) in
+    scalar-known (args .ty .now) small (sym (at-read-lone .read-lone .ensures) ∙ ap loneOf (at-enum-told .enum-told .given .1)) (c .scalar-at .ensures)
 
 enum-told-3 : tie.Need-enum-told-3
 enum-told-3 c = search needs
@@ -76,63 +93,80 @@ enum-known-held c = search needs
 
 sub-write-copies : tie.Need-sub-write-copies
 sub-write-copies c =
-    let entry = c .before .before .before .before .before .before .before .before .before .before .before in
-    let at-shared-slice-known = c .before .before .before .before .before .before .before .before .before .before in
-    let at-look-inside = c .before .before .before in
-    all-there (entry .args .ty .now) (λ i. omega (arith, at-shared-slice-known .shared-slice-known .given i)) (at-look-inside .look-inside .ensures ∙ ap accepted (c .before .held .given .1))
+    let entry = c .before .before .before .before .before .before .before .before .before .before .before .before in
+    let at-shared-slice-known = c .before .before .before .before .before .before .before .before .before .before .before in
+    let at-read-lone = c .before .before .before .before .before .before .before .before .before in
+    let at-enum-told = c .before .before .before .before .before .before .before in
+    let at-scalar-at = c .before .before .before .before in
+    let at-look = c .before .before .before in
+    let args = entry .args in
+    let small : Bytes (args .ty .now) = λ i. omega (arith, at-shared-slice-known .shared-slice-known .given i) in
+    let good = sym (at-read-lone .read-lone .ensures) ∙ ap loneOf (at-enum-told .enum-told .given .1) in
+    let held = inside (args .ty .now) small good (at-scalar-at .scalar-at .ensures) (at-look .look .ensures) (c .before .held .given .1) in
+    the-all held .within
 
 part-write-copies-start : tie.Need-part-write-copies-start
 part-write-copies-start c =
-    let entry = c .before .before .before .before .before .before .before .before .before .before .before in
-    let at-shared-slice-known = c .before .before .before .before .before .before .before .before .before .before in
-    let at-look-inside = c .before .before .before in
-    all-there (entry .args .ty .now) (λ i. omega (arith, at-shared-slice-known .shared-slice-known .given i)) (at-look-inside .look-inside .ensures ∙ ap accepted (c .before .held .given .1))
+    let entry = c .before .before .before .before .before .before .before .before .before .before .before .before in
+    let at-shared-slice-known = c .before .before .before .before .before .before .before .before .before .before .before in
+    let at-read-lone = c .before .before .before .before .before .before .before .before .before in
+    let at-enum-told = c .before .before .before .before .before .before .before in
+    let at-scalar-at = c .before .before .before .before in
+    let at-look = c .before .before .before in
+    let args = entry .args in
+    let small : Bytes (args .ty .now) = λ i. omega (arith, at-shared-slice-known .shared-slice-known .given i) in
+    let good = sym (at-read-lone .read-lone .ensures) ∙ ap loneOf (at-enum-told .enum-told .given .1) in
+    let held = inside (args .ty .now) small good (at-scalar-at .scalar-at .ensures) (at-look .look .ensures) (c .before .held .given .1) in
+    the-all held .within
 
 part-write-copies-end : tie.Need-part-write-copies-end
 part-write-copies-end c = search needs
 
 write-copies-requires-2 : tie.Need-write-copies-requires-2
 write-copies-requires-2 c κs =
-    let entry = c .before .before .before .before .before .before .before .before .before .before .before .before .before in
-    let at-shared-slice-known = c .before .before .before .before .before .before .before .before .before .before .before .before in
-    let at-read-lone = c .before .before .before .before .before .before .before .before .before .before in
-    let at-enum-told = c .before .before .before .before .before .before .before .before in
+    let entry = c .before .before .before .before .before .before .before .before .before .before .before .before .before .before in
+    let at-shared-slice-known = c .before .before .before .before .before .before .before .before .before .before .before .before .before in
+    let at-read-lone = c .before .before .before .before .before .before .before .before .before .before .before in
+    let at-enum-told = c .before .before .before .before .before .before .before .before .before in
     let at-held = c .before .before .before in
     let args = entry .args in
-    rest-short (args .ty .now) (at-held .held .given .0 .0) (lone-short (args .ty .now) (λ i. omega (arith, at-shared-slice-known .shared-slice-known .given i)) (sym (at-read-lone .read-lone .ensures) ∙ ap loneOf (at-enum-told .enum-told .given .1)))
+    let small : Bytes (args .ty .now) = λ i. omega (arith, at-shared-slice-known .shared-slice-known .given i) in
+    let good = sym (at-read-lone .read-lone .ensures) ∙ ap loneOf (at-enum-told .enum-told .given .1) in
+    rest-short (args .ty .now) (at-held .held .given .0 .0) (lone-short (args .ty .now) small good)
 
 offer-requires-3 : tie.Need-offer-requires-3
 offer-requires-3 c κs = search needs
 
-enum-told-5 : tie.Need-enum-told-5
-enum-told-5 c = search needs
-
-lone-scalar-requires : tie.Need-lone-scalar-requires
-lone-scalar-requires c κs =
-    let at-read-lone = c .before .before .before .before .before .before .before in
-    let at-enum-told = c .before .before .before .before .before in
-    (sym (at-read-lone .read-lone .ensures) ∙ ap loneOf (at-enum-told .enum-told .given .1))
-
-add-name : tie.Need-add-name
-add-name c = search needs
+enum-known-held-2 : tie.Need-enum-known-held-2
+enum-known-held-2 c = search needs
 
 sub-hand-over : tie.Need-sub-hand-over
 sub-hand-over c =
-    let entry = c .before .before .before .before .before .before .before .before .before .before .before in
-    let at-shared-slice-known = c .before .before .before .before .before .before .before .before .before .before in
-    let at-look-inside = c .before .before .before in
+    let entry = c .before .before .before .before .before .before .before .before .before .before .before .before in
+    let at-shared-slice-known = c .before .before .before .before .before .before .before .before .before .before .before in
+    let at-read-lone = c .before .before .before .before .before .before .before .before .before in
+    let at-enum-told = c .before .before .before .before .before .before .before in
+    let at-scalar-at = c .before .before .before .before in
+    let at-look = c .before .before .before in
     let args = entry .args in
-    name-within (args .result .now) (args .ty .now) (λ i. omega (arith, at-shared-slice-known .shared-slice-known .given i))
-    (at-look-inside .look-inside .ensures ∙ ap accepted (c .before .enum-told5 .given .1)) (c .lone-scalar .result) (c .lone-scalar .ensures .0)
+    let small : Bytes (args .ty .now) = λ i. omega (arith, at-shared-slice-known .shared-slice-known .given i) in
+    let good = sym (at-read-lone .read-lone .ensures) ∙ ap loneOf (at-enum-told .enum-told .given .1) in
+    let held = inside (args .ty .now) small good (at-scalar-at .scalar-at .ensures) (at-look .look .ensures) (c .before .held2 .given .1) in
+    name-within (args .result .now) (args .ty .now) held
 
 part-hand-over-start : tie.Need-part-hand-over-start
 part-hand-over-start c =
-    let entry = c .before .before .before .before .before .before .before .before .before .before .before in
-    let at-shared-slice-known = c .before .before .before .before .before .before .before .before .before .before in
-    let at-look-inside = c .before .before .before in
+    let entry = c .before .before .before .before .before .before .before .before .before .before .before .before in
+    let at-shared-slice-known = c .before .before .before .before .before .before .before .before .before .before .before in
+    let at-read-lone = c .before .before .before .before .before .before .before .before .before in
+    let at-enum-told = c .before .before .before .before .before .before .before in
+    let at-scalar-at = c .before .before .before .before in
+    let at-look = c .before .before .before in
     let args = entry .args in
-    name-within (args .result .now) (args .ty .now) (λ i. omega (arith, at-shared-slice-known .shared-slice-known .given i))
-    (at-look-inside .look-inside .ensures ∙ ap accepted (c .before .enum-told5 .given .1)) (c .lone-scalar .result) (c .lone-scalar .ensures .0)
+    let small : Bytes (args .ty .now) = λ i. omega (arith, at-shared-slice-known .shared-slice-known .given i) in
+    let good = sym (at-read-lone .read-lone .ensures) ∙ ap loneOf (at-enum-told .enum-told .given .1) in
+    let held = inside (args .ty .now) small good (at-scalar-at .scalar-at .ensures) (at-look .look .ensures) (c .before .held2 .given .1) in
+    name-within (args .result .now) (args .ty .now) held
 
 part-hand-over-end : tie.Need-part-hand-over-end
 part-hand-over-end c = search needs
@@ -145,63 +179,82 @@ offer-requires-4 c κs = search needs
 
 returns-2 : tie.Need-returns-2
 returns-2 c =
-    let entry = c .before .before .before .before .before .before .before .before .before .before in
-    let at-shared-slice-known = c .before .before .before .before .before .before .before .before .before in
-    let at-look-inside = c .before .before in
+    let entry = c .before .before .before .before .before .before .before .before .before .before .before in
+    let at-shared-slice-known = c .before .before .before .before .before .before .before .before .before .before in
+    let at-read-lone = c .before .before .before .before .before .before .before .before in
+    let at-enum-told = c .before .before .before .before .before .before in
+    let at-scalar-at = c .before .before .before in
+    let at-look = c .before .before in
     let args = entry .args in
-    sym (boxes-plain (args .result .now) (args .ty .now) (λ i. omega (arith, at-shared-slice-known .shared-slice-known .given i)) (at-look-inside .look-inside .ensures ∙ ap accepted (c .enum-told3 .given .1)))
+    let small : Bytes (args .ty .now) = λ i. omega (arith, at-shared-slice-known .shared-slice-known .given i) in
+    let good = sym (at-read-lone .read-lone .ensures) ∙ ap loneOf (at-enum-told .enum-told .given .1) in
+    let held = inside (args .ty .now) small good (at-scalar-at .scalar-at .ensures) (at-look .look .ensures) (c .enum-told3 .given .1) in
+    sym (boxes-plain (args .result .now) (args .ty .now) held)
 
 same-length : tie.Need-same-length
 same-length c = search needs
 
 returns-3 : tie.Need-returns-3
 returns-3 c =
-    let entry = c .before .before .before .before .before .before .before .before .before .before .before .before .before .before .before .before in
-    let at-shared-slice-known = c .before .before .before .before .before .before .before .before .before .before .before .before .before .before .before in
-    let at-lone-shape = c .before .before .before .before .before .before .before .before .before .before in
-    let at-row-count = c .before .before .before .before .before .before .before .before .before in
-    let at-look-inside = c .before .before .before .before .before .before .before .before in
+    let entry = c .before .before .before .before .before .before .before .before .before .before .before .before .before .before .before .before .before in
+    let at-shared-slice-known = c .before .before .before .before .before .before .before .before .before .before .before .before .before .before .before .before in
+    let at-read-lone = c .before .before .before .before .before .before .before .before .before .before .before .before .before .before in
+    let at-enum-told = c .before .before .before .before .before .before .before .before .before .before .before .before in
+    let at-shape-at = c .before .before .before .before .before .before .before .before .before .before .before in
+    let at-row-count = c .before .before .before .before .before .before .before .before .before .before in
+    let at-scalar-at = c .before .before .before .before .before .before .before .before .before in
+    let at-look = c .before .before .before .before .before .before .before .before in
     let at-enum-told4 = c .before .before .before .before .before .before in
     let at-write-copies = c .before .before .before in
     let args = entry .args in
+    let small : Bytes (args .ty .now) = λ i. omega (arith, at-shared-slice-known .shared-slice-known .given i) in
+    let good = sym (at-read-lone .read-lone .ensures) ∙ ap loneOf (at-enum-told .enum-told .given .1) in
+    let held = inside (args .ty .now) small good (at-scalar-at .scalar-at .ensures) (at-look .look .ensures) (at-enum-told4 .enum-told4 .given .1) in
+    let shaped = lone-shape (args .ty .now) small good (at-shape-at .shape-at .ensures) in
     offer-is (c .offer2 .result) (at-write-copies .write-copies .result) (c .offer2 .ensures) (at-write-copies .write-copies .ensures)
-    ∙ sym (boxes-any (args .result .now) (args .ty .now) (λ i. omega (arith, at-shared-slice-known .shared-slice-known .given i)) (at-lone-shape .lone-shape .ensures)
-    (at-row-count .row-count .ensures) (at-look-inside .look-inside .ensures ∙ ap accepted (at-enum-told4 .enum-told4 .given .1)))
+    ∙ sym (boxes-any (args .result .now) (args .ty .now) shaped (at-row-count .row-count .ensures) held)
 
 same-length-2 : tie.Need-same-length-2
 same-length-2 c = search needs
 
 returns-4 : tie.Need-returns-4
 returns-4 c =
-    let entry = c .before .before .before .before .before .before .before .before .before .before .before .before .before .before .before .before .before in
-    let at-shared-slice-known = c .before .before .before .before .before .before .before .before .before .before .before .before .before .before .before .before in
-    let at-lone-shape = c .before .before .before .before .before .before .before .before .before .before .before in
-    let at-row-count = c .before .before .before .before .before .before .before .before .before .before in
-    let at-look-inside = c .before .before .before .before .before .before .before .before .before in
+    let entry = c .before .before .before .before .before .before .before .before .before .before .before .before .before .before .before .before .before .before in
+    let at-shared-slice-known = c .before .before .before .before .before .before .before .before .before .before .before .before .before .before .before .before .before in
+    let at-read-lone = c .before .before .before .before .before .before .before .before .before .before .before .before .before .before .before in
+    let at-enum-told = c .before .before .before .before .before .before .before .before .before .before .before .before .before in
+    let at-shape-at = c .before .before .before .before .before .before .before .before .before .before .before .before in
+    let at-row-count = c .before .before .before .before .before .before .before .before .before .before .before in
+    let at-scalar-at = c .before .before .before .before .before .before .before .before .before .before in
+    let at-look = c .before .before .before .before .before .before .before .before .before in
     let at-held = c .before .before .before .before .before .before .before in
     let at-write-copies2 = c .before .before .before in
     let args = entry .args in
+    let small : Bytes (args .ty .now) = λ i. omega (arith, at-shared-slice-known .shared-slice-known .given i) in
+    let good = sym (at-read-lone .read-lone .ensures) ∙ ap loneOf (at-enum-told .enum-told .given .1) in
+    let held = inside (args .ty .now) small good (at-scalar-at .scalar-at .ensures) (at-look .look .ensures) (at-held .held .given .1) in
+    let shaped = lone-shape (args .ty .now) small good (at-shape-at .shape-at .ensures) in
     offer-is (c .offer3 .result) (at-write-copies2 .write-copies2 .result) (c .offer3 .ensures) (at-write-copies2 .write-copies2 .ensures)
-    ∙ (ap (λ w. offered (deliver (listedFor (dimOf (at-row-count .row-count .result)) w) (args .result .now))) (rest-is (args .ty .now) (at-held .held .given .0 .0))
-    ∙ sym (boxes-all (args .result .now) (args .ty .now) (λ i. omega (arith, at-shared-slice-known .shared-slice-known .given i)) (at-lone-shape .lone-shape .ensures)
-    (at-row-count .row-count .ensures) (at-look-inside .look-inside .ensures ∙ ap accepted (at-held .held .given .1))))
+    ∙ sym (boxes-all (args .result .now) (args .ty .now) shaped (at-row-count .row-count .ensures) (the-all held))
 
 same-length-3 : tie.Need-same-length-3
 same-length-3 c = search needs
 
 returns-5 : tie.Need-returns-5
 returns-5 c =
-    let entry = c .before .before .before .before .before .before .before .before .before .before .before .before .before .before .before .before .before in
-    let at-shared-slice-known = c .before .before .before .before .before .before .before .before .before .before .before .before .before .before .before .before in
-    let at-look-inside = c .before .before .before .before .before .before .before .before .before in
-    let at-enum-told5 = c .before .before .before .before .before .before .before in
-    let at-lone-scalar = c .before .before .before .before .before .before in
+    let entry = c .before .before .before .before .before .before .before .before .before .before .before .before .before .before .before .before .before .before in
+    let at-shared-slice-known = c .before .before .before .before .before .before .before .before .before .before .before .before .before .before .before .before .before in
+    let at-read-lone = c .before .before .before .before .before .before .before .before .before .before .before .before .before .before .before in
+    let at-enum-told = c .before .before .before .before .before .before .before .before .before .before .before .before .before in
+    let at-scalar-at = c .before .before .before .before .before .before .before .before .before .before in
+    let at-look = c .before .before .before .before .before .before .before .before .before in
+    let at-held2 = c .before .before .before .before .before .before .before in
     let at-hand-over = c .before .before .before in
     let args = entry .args in
-    offer-is (c .offer4 .result) (at-hand-over .hand-over .result) (c .offer4 .ensures) (at-hand-over .hand-over .ensures)
-    ∙ (ap (λ w. offered (deliver (accepted w) (args .result .now))) (rest-is (args .ty .now) (at-lone-scalar .lone-scalar .result + 6))
-    ∙ sym (boxes-def (args .result .now) (args .ty .now) (λ i. omega (arith, at-shared-slice-known .shared-slice-known .given i))
-    (at-look-inside .look-inside .ensures ∙ ap accepted (at-enum-told5 .enum-told5 .given .1)) (at-lone-scalar .lone-scalar .result) (at-lone-scalar .lone-scalar .ensures .0)))
+    let small : Bytes (args .ty .now) = λ i. omega (arith, at-shared-slice-known .shared-slice-known .given i) in
+    let good = sym (at-read-lone .read-lone .ensures) ∙ ap loneOf (at-enum-told .enum-told .given .1) in
+    let held = inside (args .ty .now) small good (at-scalar-at .scalar-at .ensures) (at-look .look .ensures) (at-held2 .held2 .given .1) in
+    offer-is (c .offer4 .result) (at-hand-over .hand-over .result) (c .offer4 .ensures) (at-hand-over .hand-over .ensures) ∙ sym (boxes-def (args .result .now) (args .ty .now) held)
 
 pub as-boxes-spec : {M : Type 1} → statement M
 as-boxes-spec =
@@ -213,9 +266,10 @@ as-boxes-spec =
     as-written-requires
     offer-requires
     returns
-    lone-shape-requires
+    shape-at-requires
     row-count-requires
-    look-inside-requires
+    scalar-at-requires
+    look-requires
     enum-told-3
     enum-told-4
     slice-aggregate-write-copies
@@ -227,9 +281,7 @@ as-boxes-spec =
     part-write-copies-end
     write-copies-requires-2
     offer-requires-3
-    enum-told-5
-    lone-scalar-requires
-    add-name
+    enum-known-held-2
     sub-hand-over
     part-hand-over-start
     part-hand-over-end

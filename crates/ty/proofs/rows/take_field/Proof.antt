@@ -1,20 +1,17 @@
-use mathlib.Core.Path.{sym, ap, _∙_}
+use mathlib.Core.Path.{ap, _∙_}
 use native.Mathlib.Omega.{arith}
-use mathlib.Core.List.{_++_}
-use Rattle.format.specs.Records.{boxStart, writeShape}
-use Rattle.format.specs.Outcome.{accepted, deliver}
+use Rattle.format.specs.Reader.{Bytes}
+use Rattle.format.specs.Outcome.{accepted}
 use Rattle.record.specs.Answers.{shapeFor}
 use Rattle.ty.specs.Parts.{partOf}
-use Rattle.ty.proofs.ContentLaws.{stretch-is, field-there}
+use Rattle.ty.proofs.PartLaws.{delivers}
+use Rattle.ty.proofs.ContentLaws.{field-there}
 use Rattle.ty.proofs.RowLaws.{take-found, take-none}
 use borrow.Author.Needs.{needs}
 use Rattle.ty.proofs.rows.take_field.Statement.{statement}
 use Rattle.ty.proofs.rows.take_field.Tie as tie
 use Rattle.ty.proofs.rows.take_field.Reads as reads
 use Rattle.ty.proofs.rows.take_field.Lts as lts
-use Rattle.ty.proofs.parts.find_field.Reads as find-field-reads
-use Rattle.ty.proofs.rows.index_of.Reads as index-of-reads
-use Rattle.ty.proofs.rows.write_parts.Reads as write-parts-reads
 
 index-of-requires : tie.Need-index-of-requires
 index-of-requires c κs = search needs
@@ -31,7 +28,10 @@ add-end c =
     let at-shared-slice-known = c .before .before .before .before .before .before in
     let at-index-of = c .before .before .before .before in
     let at-find-field = c .before .before .before in
-    omega (arith, field-there (entry .args .ty .now) (λ i. omega (arith, at-shared-slice-known .shared-slice-known .given i)) (entry .pre) (at-index-of .index-of .result) (at-find-field .find-field .ensures ∙ ap (λ p. accepted (partOf p)) (c .before .part .given .1)))
+    let args = entry .args in
+    let small : Bytes (args .ty .now) = λ i. omega (arith, at-shared-slice-known .shared-slice-known .given i) in
+    let found = at-find-field .find-field .ensures ∙ ap (λ p. accepted (partOf p)) (c .before .part .given .1) in
+    omega (arith, field-there (args .ty .now) small (entry .pre) (at-index-of .index-of .result) found)
 
 slice-aggregate-write-parts : tie.Need-slice-aggregate-write-parts
 slice-aggregate-write-parts c = search needs
@@ -49,7 +49,10 @@ part-write-parts-end c =
     let at-index-of = c .before .before .before .before .before in
     let at-find-field = c .before .before .before .before in
     let at-part = c .before .before in
-    field-there (entry .args .ty .now) (λ i. omega (arith, at-shared-slice-known .shared-slice-known .given i)) (entry .pre) (at-index-of .index-of .result) (at-find-field .find-field .ensures ∙ ap (λ p. accepted (partOf p)) (at-part .part .given .1))
+    let args = entry .args in
+    let small : Bytes (args .ty .now) = λ i. omega (arith, at-shared-slice-known .shared-slice-known .given i) in
+    let found = at-find-field .find-field .ensures ∙ ap (λ p. accepted (partOf p)) (at-part .part .given .1) in
+    field-there (args .ty .now) small (entry .pre) (at-index-of .index-of .result) found
 
 write-parts-requires : tie.Need-write-parts-requires
 write-parts-requires c κs = search needs
@@ -78,7 +81,10 @@ returns c =
     let at-part = c .before .before .before .before .before .before .before in
     let at-write-parts = c .before .before in
     let args = entry .args in
-    at-write-parts .write-parts .ensures ∙ (ap (λ w. deliver (accepted (writeShape (shapeFor (args .row)) ++ (boxStart 1 ++ w))) (args .result .now)) (stretch-is (args .ty .now) (at-part .part .given .0 .0) (at-part .part .given .0 .1 .0)) ∙ ap (λ o. deliver o (args .result .now)) (sym (take-found (args .ty .now) (λ i. omega (arith, at-shared-slice-known .shared-slice-known .given i)) (entry .pre) (shapeFor (args .row)) (args .which) (at-index-of .index-of .ensures) (at-find-field .find-field .ensures ∙ ap (λ p. accepted (partOf p)) (at-part .part .given .1)))))
+    let small : Bytes (args .ty .now) = λ i. omega (arith, at-shared-slice-known .shared-slice-known .given i) in
+    let found = at-find-field .find-field .ensures ∙ ap (λ p. accepted (partOf p)) (at-part .part .given .1) in
+    delivers (args .result .now) (at-write-parts .write-parts .ensures)
+    (take-found (args .ty .now) small (entry .pre) (shapeFor (args .row)) (args .which) (at-index-of .index-of .ensures) found)
 
 same-length-2 : tie.Need-same-length-2
 same-length-2 c = search needs
@@ -92,7 +98,10 @@ returns-2 c =
     let at-enum-told = c .before .before .before .before .before .before in
     let at-write-parts2 = c .before .before in
     let args = entry .args in
-    at-write-parts2 .write-parts2 .ensures ∙ ap (λ o. deliver o (args .result .now)) (sym (take-none (args .ty .now) (λ i. omega (arith, at-shared-slice-known .shared-slice-known .given i)) (entry .pre) (shapeFor (args .row)) (args .which) (at-index-of .index-of .ensures) (at-find-field .find-field .ensures ∙ ap (λ p. accepted (partOf p)) (at-enum-told .enum-told .given .1))))
+    let small : Bytes (args .ty .now) = λ i. omega (arith, at-shared-slice-known .shared-slice-known .given i) in
+    let lacks = at-find-field .find-field .ensures ∙ ap (λ p. accepted (partOf p)) (at-enum-told .enum-told .given .1) in
+    delivers (args .result .now) (at-write-parts2 .write-parts2 .ensures)
+    (take-none (args .ty .now) small (entry .pre) (shapeFor (args .row)) (args .which) (at-index-of .index-of .ensures) lacks)
 
 pub take-field-spec : {M : Type 1} → statement M
 take-field-spec =

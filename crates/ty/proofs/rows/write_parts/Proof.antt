@@ -1,9 +1,7 @@
-use mathlib.Core.Path.{refl, sym}
-use native.Mathlib.Omega.{arith}
+use mathlib.Core.Path.{refl}
 use Rattle.format.specs.Records.{writeShape}
 use Rattle.record.specs.Answers.{shapeFor}
-use Rattle.lent.specs.Delivers.{deliver-short, deliver-wrote}
-use Rattle.ty.proofs.RowLaws.{parts-length, lay-parts}
+use Rattle.ty.proofs.RowLaws.{parts-short, parts-wrote}
 use borrow.Author.Needs.{needs}
 use Rattle.ty.proofs.rows.write_parts.Statement.{statement}
 use Rattle.ty.proofs.rows.write_parts.Tie as tie
@@ -26,7 +24,8 @@ returns : tie.Need-returns
 returns c =
     let entry = c .before .before .before .before .before in
     let args = entry .args in
-    sym (deliver-short _ refl (omega (arith, c .if1 .taken, parts-length (writeShape (shapeFor (args .shape))) (args .head .now) (args .tail .now) (c .before .shape-length .ensures .0) refl refl)))
+    let front = writeShape (shapeFor (args .shape)) in
+    parts-short front (args .head .now) (args .tail .now) (c .before .shape-length .ensures .0) refl refl (args .result .now) (c .if1 .taken)
 
 put-shape-requires : tie.Need-put-shape-requires
 put-shape-requires c κs = search needs
@@ -49,7 +48,9 @@ returns-2 c =
     let at-lay = c .before .before .before .before .before .before in
     let at-lay2 = c .before .before in
     let args = entry .args in
-    deliver-wrote _ refl (omega (arith, at-if1 .if1 .left, parts-length (writeShape (shapeFor (args .shape))) (args .head .now) (args .tail .now) (at-shape-length .shape-length .ensures .0) refl refl)) (parts-length (writeShape (shapeFor (args .shape))) (args .head .now) (args .tail .now) (at-shape-length .shape-length .ensures .0) refl refl) (lay-parts (writeShape (shapeFor (args .shape))) (args .head .now) (args .tail .now) (at-shape-length .shape-length .ensures .0) refl refl (args .result .now) (at-if1 .if1 .left) (at-put-shape .put-shape .ensures .1) (at-lay .lay .ensures) (at-lay2 .lay2 .ensures))
+    let front = writeShape (shapeFor (args .shape)) in
+    parts-wrote front (args .head .now) (args .tail .now) (at-shape-length .shape-length .ensures .0) refl refl (args .result .now)
+    (at-if1 .if1 .left) (at-put-shape .put-shape .ensures .1) (at-lay .lay .ensures) (at-lay2 .lay2 .ensures)
 
 pub write-parts-spec : {M : Type 1} → statement M
 write-parts-spec =

@@ -1,0 +1,3 @@
+mod ShapeLaws
+mod SpanLaws
+mod KindLaws

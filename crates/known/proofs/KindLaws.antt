@@ -20,4 +20,7 @@ kind-changed s at d k l {x} h e =
     let mark : take 2 (drop at s) ≡ markBytes scalarMark = stands-part s at (markBytes scalarMark) (stands-first s at (markBytes scalarMark) (code k ∷ []) (h .stands)) in
     let front : take (at + 2) s ≡ take at s ++ markBytes scalarMark = take-add at 2 s ∙ ap (λ w. take at s ++ w) mark in
     let three : suc (at + 2) ≡ at + 3 = omega arith in
-    set-split s (at + 2) x inside ∙ rw (front, three, e) (sym (append-assoc (take at s ++ markBytes scalarMark) (code l ∷ []) (drop (at + 3) s)) ∙ ap (λ w. w ++ drop (at + 3) s) (append-assoc (take at s) (markBytes scalarMark) (code l ∷ [])))
+    let rest = drop (at + 3) s in
+    let grouped = sym (append-assoc (take at s ++ markBytes scalarMark) (code l ∷ []) rest) in
+    set-split s (at + 2) x inside
+    ∙ rw (front, three, e) (grouped ∙ ap (λ w. w ++ rest) (append-assoc (take at s) (markBytes scalarMark) (code l ∷ [])))

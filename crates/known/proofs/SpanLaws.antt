@@ -10,39 +10,50 @@ use Rattle.model.specs.Limits.{maxTypes}
 use Rattle.model.specs.Types.{Scalar, plain, boxAny, boxAll, boxDef, Fields, noFields, field, Ty, ty, shapeOf, scalarOf, fieldCount, inside, among, below, deepest}
 use Rattle.format.specs.Records.{boxStart, countOf, listOf, writeShape, writeScalar, writeFields, writeTy}
 use Rattle.rules.specs.Types.{fieldIn, stretch, stretchIn}
-use Rattle.known.specs.Known.{TypeAt, ScalarAt, FieldsAt, HasType, HasScalar, HasFields, SpanIs, ScalarSpan, FieldsSpan, FieldIs, SeenPlain, SeenAny, SeenAll, SeenDef}
+use Rattle.known.specs.Known.{TypeAt, ScalarAt, FieldsAt, HasType, HasScalar, HasFields, SpanIs, ScalarSpan, FieldsSpan, FieldIs, Seen}
 use Rattle.known.specs.KnownLaws.{scalar-behind, has-scalar, behind-ends, deep, first-field, rest-fields}
 use Rattle.known.specs.declared.Span.{Span}
+use Rattle.known.specs.declared.View.{View}
+use Rattle.known.specs.declared.View.the-variants.{Plain, BoxAny, BoxAll, BoxDef}
 
--- ---- a scalar
+-- ---- a scalar that was looked at
 
-module _ (s : List ℕ) (at d : ℕ) (k : Scalar) (r : Span) where
-  pub span-plain : {c end : ℕ} → SeenPlain at k c end → r .types ≡ 0 → r .depth ≡ 0 → r .end ≡ end → ScalarSpan at k r
-  unfolding inside below
-  span-plain h types depth end = record { types = types ∙ rw (h .is); depth = depth ∙ rw (h .is); ends = end ∙ h .ends }
+module _ (s : List ℕ) (at d : ℕ) (v : View) (looked : (d : ℕ) (k : Scalar) → ScalarAt s at d k → Seen s at d k v) where
+  module _ {w : View} (is : v ≡ w) where
+    seen-as : (k : Scalar) → ScalarAt s at d k → Seen s at d k w
+    seen-as k h = subst (Seen s at d k) is (looked d k h)
 
-  pub span-any : {end : ℕ} → SeenAny at k end → r .types ≡ 0 → r .depth ≡ 0 → r .end ≡ end → ScalarSpan at k r
-  unfolding inside below
-  span-any h types depth end = record { types = types ∙ rw (h .is); depth = depth ∙ rw (h .is); ends = end ∙ h .ends }
+  pub has-content : {c : ℕ} → v ≡ BoxAll c → HasScalar s at d → HasType s c d
+  has-content is h = let seen = seen-as is (h .scalar) (h .there) in record { type = ty (seen .shape) (seen .scalar); there = seen .there }
 
-  pub span-all : {c : ℕ} (h : SeenAll s at d k c) → ((t : Ty) → TypeAt s c d t → SpanIs c t r) → ScalarSpan at k r
-  unfolding inside below writeScalar writeTy
-  span-all h spans =
-      let span = spans (ty (h .shape) (h .scalar)) (h .there) in
-      record { types = span .types ∙ rw (h .is); depth = span .depth ∙ rw (h .is); ends = rw (h .is) (omega (arith, span .ends, h .place)) }
+  pub has-fields : {name fields count : ℕ} {named : Bool} → v ≡ BoxDef name named fields count → HasScalar s at d → HasFields s fields d count
+  has-fields is h = let seen = seen-as is (h .scalar) (h .there) in record { fields = seen .held; there = seen .there; counted = sym (seen .counted) }
 
-  pub span-def : {name fields count : ℕ} {named : Bool} (h : SeenDef s at d k name named fields count) → ((f : Fields) → FieldsAt s fields d f → fieldCount f ≡ count → FieldsSpan fields f r) → ScalarSpan at k r
-  unfolding inside below writeScalar
-  span-def h spans =
-      let span = spans (h .held) (h .there) (sym (h .counted)) in
-      let long = length-append (listOf (h .label)) (fieldCount (h .held) ∷ writeFields (h .held)) in
-      record { types = span .types ∙ rw (h .is); depth = span .depth ∙ rw (h .is); ends = rw (h .is) (omega (arith, long, span .ends, h .place, h .behind)) }
+  module _ (r : Span) (k : Scalar) (h : ScalarAt s at d k) where
+    pub span-plain : {c end : ℕ} → v ≡ Plain c end → r .types ≡ 0 → r .depth ≡ 0 → r .end ≡ end → ScalarSpan at k r
+    unfolding inside below
+    span-plain is types depth end = let seen = seen-as is k h in record { types = types ∙ sym (ap inside (seen .is)); depth = depth ∙ sym (ap below (seen .is)); ends = end ∙ seen .ends }
 
-pub has-content : {s : List ℕ} {at d c : ℕ} {k : Scalar} → SeenAll s at d k c → HasType s c d
-has-content h = record { type = ty (h .shape) (h .scalar); there = h .there }
+    pub span-any : {end : ℕ} → v ≡ BoxAny end → r .types ≡ 0 → r .depth ≡ 0 → r .end ≡ end → ScalarSpan at k r
+    unfolding inside below
+    span-any is types depth end = let seen = seen-as is k h in record { types = types ∙ sym (ap inside (seen .is)); depth = depth ∙ sym (ap below (seen .is)); ends = end ∙ seen .ends }
 
-pub has-fields : {s : List ℕ} {at d name fields count : ℕ} {named : Bool} {k : Scalar} → SeenDef s at d k name named fields count → HasFields s fields d count
-has-fields h = record { fields = h .held; there = h .there; counted = sym (h .counted) }
+    pub span-all : {c : ℕ} → v ≡ BoxAll c → ((t : Ty) → TypeAt s c d t → SpanIs c t r) → ScalarSpan at k r
+    unfolding inside below writeScalar writeTy
+    span-all is spans =
+        let seen = seen-as is k h in
+        let whole = ap (λ k. length (writeScalar k)) (seen .is) in
+        let span = spans (ty (seen .shape) (seen .scalar)) (seen .there) in
+        record { types = span .types ∙ sym (ap inside (seen .is)); depth = span .depth ∙ sym (ap below (seen .is)); ends = omega (arith, whole, span .ends, seen .place) }
+
+    pub span-def : {name fields count : ℕ} {named : Bool} → v ≡ BoxDef name named fields count → ((f : Fields) → FieldsAt s fields d f → fieldCount f ≡ count → FieldsSpan fields f r) → ScalarSpan at k r
+    unfolding inside below writeScalar
+    span-def is spans =
+        let seen = seen-as is k h in
+        let whole = ap (λ k. length (writeScalar k)) (seen .is) in
+        let span = spans (seen .held) (seen .there) (sym (seen .counted)) in
+        let long = length-append (listOf (seen .label)) (fieldCount (seen .held) ∷ writeFields (seen .held)) in
+        record { types = span .types ∙ sym (ap inside (seen .is)); depth = span .depth ∙ sym (ap below (seen .is)); ends = omega (arith, whole, long, span .ends, seen .place, seen .behind) }
 
 -- ---- a type, whose scalar begins at `place`
 
@@ -69,58 +80,65 @@ module _ (s : List ℕ) (at d : ℕ) {place : ℕ} (begins : (d : ℕ) (t : Ty) 
 
 -- ---- fields, of which `left` are not yet passed
 
-pub record Skipping (s : List ℕ) (start d : ℕ) (f : Fields) (types deep at left : ℕ) : Type 0 where
-  pub rest : Fields
+-- with the rest still to pass
+pub record Passed (s : List ℕ) (start d : ℕ) (f : Fields) (types deep at left : ℕ) (rest : Fields) : Type 0 where
   pub there : FieldsAt s at d rest
   pub counted : fieldCount rest ≡ left
   pub number : among f ≡ types + among rest
   pub deepest : deepest f ≡ max deep (deepest rest)
   pub ends : start + length (writeFields f) ≡ at + length (writeFields rest)
 
+pub record Skipping (s : List ℕ) (start d : ℕ) (f : Fields) (types deep at left : ℕ) : Type 0 where
+  pub rest : Fields
+  pub passed : Passed s start d f types deep at left rest
+
 pub skip-start : (s : List ℕ) (start d : ℕ) (f : Fields) (count : ℕ) → FieldsAt s start d f → fieldCount f ≡ count → Skipping s start d f 0 0 start count
-skip-start s start d f count h e = record { rest = f; there = h; counted = e; number = omega arith; deepest = omega arith; ends = refl }
+skip-start s start d f count h e = record { rest = f; passed = record { there = h; counted = e; number = omega arith; deepest = omega arith; ends = refl } }
 
 module _ {s : List ℕ} {start d : ℕ} {f : Fields} {types deep at left : ℕ} (g : Skipping s start d f types deep at left) where
   pub skip-has : 0 < left → HasType s at d
-  skip-has l = go (g .rest) (g .there) (g .counted)
+  skip-has l = go (g .rest) (g .passed)
     where
-      go : (r : Fields) → FieldsAt s at d r → fieldCount r ≡ left → HasType s at d
-      go noFields h c = absurd (omega arith)
-      go (field o k r) h c = record { type = ty o k; there = first-field s at d h }
+      go : (q : Fields) → Passed s start d f types deep at left q → HasType s at d
+      go noFields h = absurd (omega (arith, h .counted))
+      go (field o k q) h = record { type = ty o k; there = first-field s at d (h .there) }
 
   module _ (l : 0 < left) {r : Span} (spans : (t : Ty) → TypeAt s at d t → SpanIs at t r) where
     pub skip-few : FieldsAt s start d f → types + r .types < maxTypes
     unfolding among
-    skip-few whole = go (g .rest) (g .there) (g .counted) (g .number)
+    skip-few whole = go (g .rest) (g .passed)
       where
-        go : (q : Fields) → FieldsAt s at d q → fieldCount q ≡ left → among f ≡ types + among q → types + r .types < maxTypes
-        go noFields h c n = absurd (omega arith)
-        go (field o k q) h c n = omega (arith, whole .few, spans (ty o k) (first-field s at d h) .types)
+        go : (q : Fields) → Passed s start d f types deep at left q → types + r .types < maxTypes
+        go noFields h = absurd (omega (arith, h .counted))
+        go (field o k q) h = omega (arith, whole .few, h .number, spans (ty o k) (first-field s at d (h .there)) .types)
 
     pub skip-next : {m : ℕ} → m ≡ max deep (r .depth) → Skipping s start d f (types + r .types) m (r .end) (left - 1)
     unfolding among deepest writeFields writeTy
-    skip-next {m} e = go (g .rest) (g .there) (g .counted) (g .number) (g .deepest) (g .ends)
+    skip-next {m} e = go (g .rest) (g .passed)
       where
-        go : (q : Fields) → FieldsAt s at d q → fieldCount q ≡ left → among f ≡ types + among q → deepest f ≡ max deep (deepest q) → start + length (writeFields f) ≡ at + length (writeFields q) → Skipping s start d f (types + r .types) m (r .end) (left - 1)
-        go noFields h c n x y = absurd (omega arith)
-        go (field o k q) h c n x y =
-            let span = spans (ty o k) (first-field s at d h) in
-            record {
-              rest = q;
-              there = subst (λ p. FieldsAt s p d q) (sym (span .ends)) (rest-fields s at d h);
-              counted = omega (arith, c);
-              number = omega (arith, n, span .types);
-              deepest = omega (arith, x, e, span .depth);
-              ends = omega (arith, y, span .ends, length-append (writeShape o ++ writeScalar k) (writeFields q));
-            }
+        next : (q : Fields) → Passed s start d f (types + r .types) m (r .end) (left - 1) q → Skipping s start d f (types + r .types) m (r .end) (left - 1)
+        next q h = record { rest = q; passed = h }
+
+        go : (q : Fields) → Passed s start d f types deep at left q → Skipping s start d f (types + r .types) m (r .end) (left - 1)
+        go noFields h = absurd (omega (arith, h .counted))
+        go (field o k q) h =
+            let span = spans (ty o k) (first-field s at d (h .there)) in
+            let long = length-append (writeShape o ++ writeScalar k) (writeFields q) in
+            next q (record {
+              there = subst (λ p. FieldsAt s p d q) (sym (span .ends)) (rest-fields s at d (h .there));
+              counted = omega (arith, h .counted);
+              number = omega (arith, h .number, span .types);
+              deepest = omega (arith, h .deepest, e, span .depth);
+              ends = omega (arith, h .ends, span .ends, long);
+            })
 
   pub skip-end : left ≡ 0 → (r : Span) → r .types ≡ types → r .depth ≡ deep → r .end ≡ at → FieldsSpan start f r
   unfolding among deepest writeFields
-  skip-end z r a b c = go (g .rest) (g .counted) (g .number) (g .deepest) (g .ends)
+  skip-end z r a b c = go (g .rest) (g .passed)
     where
-      go : (q : Fields) → fieldCount q ≡ left → among f ≡ types + among q → deepest f ≡ max deep (deepest q) → start + length (writeFields f) ≡ at + length (writeFields q) → FieldsSpan start f r
-      go noFields h n x y = record { types = omega (arith, n); depth = omega (arith, x); ends = omega (arith, y) }
-      go (field o k q) h n x y = absurd (omega (arith, z))
+      go : (q : Fields) → Passed s start d f types deep at left q → FieldsSpan start f r
+      go noFields h = record { types = omega (arith, h .number); depth = omega (arith, h .deepest); ends = omega (arith, h .ends) }
+      go (field o k q) h = absurd (omega (arith, z, h .counted))
 
 -- ---- field n: `left` fields are passed before it is reached
 

@@ -7,9 +7,9 @@ use mathlib.Core.Option.{Option, none, some}
 use mathlib.Core.Path.{_≡_}
 use lib.ListN.{length, take, drop}
 use Rattle.model.specs.Limits.{maxFields, maxTypes}
-use Rattle.model.specs.Types.{Shape, Kind, Scalar, plain, boxAny, boxAll, boxDef, Fields, Ty, ty, fieldCount, types, inside, among, depth, below, deepest}
-use Rattle.model.specs.Within.{Each, NameWithin, ScalarWithin, FieldsWithin, RecordsWithin}
-use Rattle.format.specs.Records.{code, boxCode, boxStart, countOf, listOf, writeScalar, writeFields, writeTy}
+use Rattle.model.specs.Types.{Dim, Shape, Kind, Scalar, plain, boxAny, boxAll, boxDef, Fields, Ty, ty, fieldCount, types, inside, among, depth, below, deepest}
+use Rattle.model.specs.Within.{Each, DimsWithin, NameWithin, ScalarWithin, FieldsWithin, RecordsWithin}
+use Rattle.format.specs.Records.{code, boxCode, boxStart, countOf, listOf, writeDims, writeScalar, writeFields, writeTy}
 use Rattle.format.specs.Views.{Stands}
 use Rattle.rules.specs.Order.{codeOf}
 use Rattle.rules.specs.Types.{fieldIn, stretch, stretchIn}
@@ -25,6 +25,11 @@ pub record TypeAt (s : List ℕ) (at d : ℕ) (t : Ty) : Type 0 where
   pub shallow : depth t ≤ d
 
 -- ---- its parts
+
+-- sizes, one after the other
+pub record DimsAt (s : List ℕ) (at : ℕ) (ds : List Dim) : Type 0 where
+  pub stands : Stands s at (writeDims ds)
+  pub records : DimsWithin ds
 
 pub record ScalarAt (s : List ℕ) (at d : ℕ) (k : Scalar) : Type 0 where
   pub stands : Stands s at (writeScalar k)
@@ -46,6 +51,12 @@ pub record FieldsAt (s : List ℕ) (at d : ℕ) (f : Fields) : Type 0 where
   pub shallow : deepest f ≤ d
 
 -- ---- that one stands there
+
+-- as many sizes
+pub record HasDims (s : List ℕ) (at count : ℕ) : Type 0 where
+  pub dims : List Dim
+  pub there : DimsAt s at dims
+  pub counted : length dims ≡ count
 
 pub record HasType (s : List ℕ) (at d : ℕ) : Type 0 where
   pub type : Ty

@@ -9,10 +9,11 @@ use Rattle.model.specs.Limits.{maxDepth}
 use Rattle.model.specs.Types.{Scalar, Ty, ty, shapeOf, scalarOf}
 use Rattle.format.specs.Reader.{Bytes}
 use Rattle.format.specs.Records.{writeShape, writeScalar, writeTy}
-use Rattle.format.specs.Outcome.{accepted, mapped, both, lone}
+use Rattle.format.specs.Outcome.{accepted, mapped, both, lone, scalarRecord}
 use Rattle.format.specs.ReadWrite.{lone-parts, lone-write}
 use Rattle.format.specs.Views.{Stands, stands-all}
-use Rattle.record.specs.Answers.{nothing, nothings}
+use Rattle.record.specs.Answers.{nothing, nothings, shapeFor}
+use Rattle.record.specs.declared.DynShape.{DynShape}
 use Rattle.record.proofs.LoneLaws.{passed-accepted, both-accepted, both-passed}
 use Rattle.known.specs.Known.{TypeAt, ScalarAt, HasType, HasScalar}
 use Rattle.known.specs.KnownLaws.{scalar-behind, behind-within}
@@ -48,6 +49,18 @@ module _ (s : List ℕ) (small : Bytes s) {at : ℕ} (begins : Begins s at) wher
   pub scalar-inside : mapped nothing (lone s) ≡ accepted 0 → at ≤ length s
   scalar-inside good = behind-within s 0 begins maxDepth (has-type s small good)
 
+-- ---- the same, of what a call says of the type
+
+module _ (s : List ℕ) (small : Bytes s) (good : mapped nothing (lone s) ≡ accepted 0) where
+  pub whole-shape : (o : DynShape) → ((d : ℕ) (t : Ty) → TypeAt s 0 d t → shapeFor o ≡ shapeOf t) → mapped shapeOf (lone s) ≡ accepted (shapeFor o)
+  whole-shape o is = passed-accepted (lone s) good λ t e. rw e (ap accepted (sym (is maxDepth t (type-there s small t e))))
+
+  pub whole-scalar : {at : ℕ} → Begins s at → mapped scalarRecord (lone s) ≡ accepted (drop at s)
+  whole-scalar {at} begins = passed-accepted (lone s) good λ t e. go t e
+    where
+      go : (t : Ty) → lone s ≡ accepted t → mapped scalarRecord (lone s) ≡ accepted (drop at s)
+      go (ty o k) e = rw e (ap accepted (sym (record-there s small begins (ty o k) e)))
+
 -- ---- two types that were read
 
 module _ (a b : List ℕ) (good : both nothings (lone a) (lone b) ≡ accepted 0) where
@@ -66,7 +79,11 @@ module _ (a b : List ℕ) (good : both nothings (lone a) (lone b) ≡ accepted 0
 
     module _ {i j : ℕ} (first : Begins a i) (second : Begins b j) where
       -- two scalars, their records, and what f says of them
-      pub records-there : {A C : Type 0} (f : Scalar → Scalar → A) → ((k l : Scalar) → ScalarAt a i (maxDepth - 1) k → ScalarAt b j (maxDepth - 1) l → drop i a ≡ writeScalar k → drop j b ≡ writeScalar l → ofScalars f a b ≡ accepted (f k l) → C) → C
+      pub records-there :
+          {A C : Type 0}
+          (f : Scalar → Scalar → A) →
+          ((k l : Scalar) → ScalarAt a i (maxDepth - 1) k → ScalarAt b j (maxDepth - 1) l → drop i a ≡ writeScalar k → drop j b ≡ writeScalar l → ofScalars f a b ≡ accepted (f k l) → C) →
+          C
       records-there f go =
           both-accepted (lone a) (lone b) good λ t u e g.
           go (scalarOf t) (scalarOf u) (scalar-there a small first t e) (scalar-there b small′ second u g) (record-there a small first t e) (record-there b small′ second u g) (rw (e, g))

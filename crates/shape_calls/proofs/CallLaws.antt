@@ -6,11 +6,19 @@ use mathlib.Core.List.{List}
 use mathlib.Core.Path.{_≡_, refl, sym, _∙_, ap}
 use borrow.Author.Tests.{not-true, not-false}
 use Rattle.model.specs.Refusals.{oversized}
-use Rattle.model.specs.Types.{Dim, Shape, Ty, ty, shapeOf}
+use Rattle.model.specs.Limits.{maxDepth}
+use Rattle.model.specs.Types.{Dim, Shape, Ty, shapeOf}
+use Rattle.format.specs.Reader.{Bytes}
 use Rattle.format.specs.Records.{dimOf}
-use Rattle.format.specs.Outcome.{Outcome, accepted, refused, mapped, bound, both, lone}
-use Rattle.record.specs.Answers.{nothing, nothings}
-use Rattle.record.proofs.LoneLaws.{passed-refused, both-refused}
+use Rattle.format.specs.Outcome.{Outcome, accepted, refused, mapped, bound, both, refusalOf, lone}
+use Rattle.record.specs.Answers.{loneOf, twoOf, whicheverOf, nothing, nothings, shapeFor}
+use Rattle.record.specs.declared.DynShape.{DynShape}
+use Rattle.record.specs.declared.Lone.{Lone}
+use Rattle.record.specs.declared.Lone.the-variants.{Accepted, Refused}
+use Rattle.record.specs.declared.Two.{Two}
+use Rattle.record.proofs.LoneLaws.{passed-accepted, passed-refused, both-accepted, both-refused, both-read}
+use Rattle.known.specs.Known.{TypeAt, HasType}
+use Rattle.known.specs.WholeLaws.{type-there, has-type, has-types}
 use Rattle.shape_calls.specs.Calls.{isSize, sizeAt, onSizes, onShape, onShapes}
 
 -- ---- two sizes
@@ -41,26 +49,31 @@ module _ (a b : ℕ) where
 
 -- ---- a shape
 
-bound-shape : {C : Type 0} (f : Shape → Outcome C) (x : Outcome Ty) {s : Shape} → mapped shapeOf x ≡ accepted s → bound (λ t. f (shapeOf t)) x ≡ f s
-bound-shape f (accepted (ty r k)) {s} e = let h : r ≡ s = cc in rw h
-bound-shape f (refused k p) e = let z : _≡_ {A = ℕ} 0 1 = cc in absurd (omega arith)
+module _ {C : Type 0} (f : Shape → Outcome C) (a : List ℕ) (read : Lone) (reads : loneOf read ≡ mapped nothing (lone a)) where
+  pub shape-told : {k p : ℕ} → read ≡ Refused k p → onShape f a ≡ refused k p
+  shape-told e = ap (bound (λ t. f (shapeOf t))) (passed-refused (lone a) (sym reads ∙ ap loneOf e))
 
-module _ {C : Type 0} (f : Shape → Outcome C) (a : List ℕ) where
-  pub shape-told : {k p : ℕ} → mapped nothing (lone a) ≡ refused k p → onShape f a ≡ refused k p
-  shape-told e = ap (bound (λ t. f (shapeOf t))) (passed-refused (lone a) e)
+  module _ (small : Bytes a) (good : read ≡ Accepted) where
+    pub shape-there : HasType a 0 maxDepth
+    shape-there = has-type a small (sym reads ∙ ap loneOf good)
 
-  pub shape-is : {s : Shape} → mapped shapeOf (lone a) ≡ accepted s → onShape f a ≡ f s
-  shape-is e = bound-shape f (lone a) e
+    pub shape-is : {x : Outcome C} → ((d : ℕ) (t : Ty) → TypeAt a 0 d t → x ≡ f (shapeOf t)) → x ≡ onShape f a
+    shape-is {x} is = passed-accepted (lone a) (sym reads ∙ ap loneOf good) λ t e. is maxDepth t (type-there a small t e) ∙ sym (ap (bound (λ t. f (shapeOf t))) e)
 
 -- ---- two shapes
 
-both-shapes : {C : Type 0} (f : Shape → Shape → Outcome C) (x y : Outcome Ty) {s t : Shape} → mapped shapeOf x ≡ accepted s → mapped shapeOf y ≡ accepted t → both (λ t u. f (shapeOf t) (shapeOf u)) x y ≡ f s t
-both-shapes f (accepted (ty r k)) y {s} e h = let g : r ≡ s = cc in rw g (bound-shape (f s) y h)
-both-shapes f (refused k p) y e h = let z : _≡_ {A = ℕ} 0 1 = cc in absurd (omega arith)
+module _ {C : Type 0} (f : Shape → Shape → Outcome C) (a b : List ℕ) (two : Two) (reads-two : twoOf two ≡ refusalOf (lone a) (lone b)) (read : Lone) (either : loneOf read ≡ whicheverOf (twoOf two)) where
+  reads : loneOf read ≡ both nothings (lone a) (lone b)
+  reads = both-read (lone a) (lone b) two reads-two read either
 
-module _ {C : Type 0} (f : Shape → Shape → Outcome C) (a b : List ℕ) where
-  pub shapes-told : {k p : ℕ} → both nothings (lone a) (lone b) ≡ refused k p → onShapes f a b ≡ refused k p
-  shapes-told e = both-refused (lone a) (lone b) (λ t u. f (shapeOf t) (shapeOf u)) e
+  pub shapes-told : {k p : ℕ} → read ≡ Refused k p → onShapes f a b ≡ refused k p
+  shapes-told e = both-refused (lone a) (lone b) (λ t u. f (shapeOf t) (shapeOf u)) (sym reads ∙ ap loneOf e)
 
-  pub shapes-are : {s t : Shape} → mapped shapeOf (lone a) ≡ accepted s → mapped shapeOf (lone b) ≡ accepted t → onShapes f a b ≡ f s t
-  shapes-are e h = both-shapes f (lone a) (lone b) e h
+  module _ (small : Bytes a) (small′ : Bytes b) (good : read ≡ Accepted) where
+    pub shapes-there : HasType a 0 maxDepth × HasType b 0 maxDepth
+    shapes-there = has-types a b (sym reads ∙ ap loneOf good) small small′
+
+    module _ (o p : DynShape) (first : (d : ℕ) (t : Ty) → TypeAt a 0 d t → shapeFor o ≡ shapeOf t) (second : (d : ℕ) (t : Ty) → TypeAt b 0 d t → shapeFor p ≡ shapeOf t) where
+      pub shapes-are : onShapes f a b ≡ f (shapeFor o) (shapeFor p)
+      shapes-are = both-accepted (lone a) (lone b) (sym reads ∙ ap loneOf good) λ t u e g.
+          rw (e, g) (sym (rw (first maxDepth t (type-there a small t e), second maxDepth u (type-there b small′ u g))))

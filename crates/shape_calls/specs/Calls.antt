@@ -52,22 +52,22 @@ onShape f a = bound (λ t. f (shapeOf t)) (lone a)
 abbrev pub onShapes : {C : Type 0} → (Shape → Shape → Outcome C) → List ℕ → List ℕ → Outcome C
 onShapes f a b = both (λ t u. f (shapeOf t) (shapeOf u)) (lone a) (lone b)
 
-abbrev pub written : Shape → Outcome (List ℕ)
-written s = accepted (writeShape s)
+abbrev pub recorded : Shape → Outcome (List ℕ)
+recorded s = accepted (writeShape s)
 
 abbrev pub mergeCall : List ℕ → List ℕ → Outcome (List ℕ)
-mergeCall a b = onShapes (λ s t. written (mergeFrom s t)) a b
+mergeCall a b = onShapes (λ s t. recorded (mergeFrom s t)) a b
 
 abbrev pub joinCall : List ℕ → List ℕ → Outcome (List ℕ)
-joinCall a b = onShapes (λ s t. written (joinShapes s t)) a b
+joinCall a b = onShapes (λ s t. recorded (joinShapes s t)) a b
 
 abbrev pub rowCall : List ℕ → Outcome (List ℕ)
-rowCall a = onShape (λ s. written (rowShape s)) a
+rowCall a = onShape (λ s. recorded (rowShape s)) a
 
 -- a mismatch is refused at place 0
 abbrev pub pervaded : Option Shape → Outcome (List ℕ)
 pervaded none = refused unpervaded 0
-pervaded (some s) = written s
+pervaded (some s) = recorded s
 
 abbrev pub pervadeCall : Bool → Bool → List ℕ → List ℕ → Outcome (List ℕ)
 pervadeCall f g a b = onShapes (λ s t. pervaded (rules.pervade f g s t)) a b

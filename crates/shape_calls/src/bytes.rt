@@ -1,15 +1,16 @@
 // Shapes of types handed in as bytes: the calls of shape.rs.
+use known::any_shape_at;
+use known::shape_at;
 use lent::Counted;
 use lent::Tested;
 use lent::Written;
 use lent::tell;
 use record::Lone;
-use record::lone_shape;
-use record::read_both;
 use record::read_lone;
+use record::read_two;
+use record::whichever;
 use shape::compatible_with;
 use shape::into_row;
-use shape::is_any;
 use shape::is_scalar;
 use shape::join;
 use shape::merge_from;
@@ -29,21 +30,21 @@ ghost use Rattle.shape_calls.specs.Calls.{mergeCall, joinCall, rowCall, 
 pub fn merge(a: &[u8], b: &[u8], result: &mut [u8]) -> Written
     ensures { λ r. ⌜ delivered r (now (result .exit)) ≡ deliver (mergeCall (now (a .entry)) (now (b .entry))) (now (result .entry)) ⌝ }
 {
-    let read = read_both(a, b);
+    let read = whichever(read_two(a, b));
     let Lone::Accepted = read else {
         return as_written(read);
     };
-    write_shape(merge_from(lone_shape(a), lone_shape(b)), &mut *result)
+    write_shape(merge_from(shape_at(a, 0), shape_at(b, 0)), &mut *result)
 }
 
 pub fn join_shapes(a: &[u8], b: &[u8], result: &mut [u8]) -> Written
     ensures { λ r. ⌜ delivered r (now (result .exit)) ≡ deliver (joinCall (now (a .entry)) (now (b .entry))) (now (result .entry)) ⌝ }
 {
-    let read = read_both(a, b);
+    let read = whichever(read_two(a, b));
     let Lone::Accepted = read else {
         return as_written(read);
     };
-    write_shape(join(lone_shape(a), lone_shape(b)), &mut *result)
+    write_shape(join(shape_at(a, 0), shape_at(b, 0)), &mut *result)
 }
 
 pub fn row_shape(a: &[u8], result: &mut [u8]) -> Written
@@ -53,17 +54,17 @@ pub fn row_shape(a: &[u8], result: &mut [u8]) -> Written
     let Lone::Accepted = read else {
         return as_written(read);
     };
-    write_shape(into_row(lone_shape(a)), &mut *result)
+    write_shape(into_row(shape_at(a, 0)), &mut *result)
 }
 
 pub fn compatible_shapes(a: &[u8], b: &[u8]) -> Tested
     ensures { λ r. ⌜ testedOf r ≡ compatibleShapesCall (now (a .entry)) (now (b .entry)) ⌝ }
 {
-    let read = read_both(a, b);
+    let read = whichever(read_two(a, b));
     let Lone::Accepted = read else {
         return as_tested(read);
     };
-    tell(compatible_with(lone_shape(a), lone_shape(b)))
+    tell(compatible_with(shape_at(a, 0), shape_at(b, 0)))
 }
 
 pub fn shape_is_any(a: &[u8]) -> Tested
@@ -73,7 +74,7 @@ pub fn shape_is_any(a: &[u8]) -> Tested
     let Lone::Accepted = read else {
         return as_tested(read);
     };
-    tell(is_any(lone_shape(a)))
+    tell(any_shape_at(a, 0))
 }
 
 pub fn shape_is_scalar(a: &[u8]) -> Tested
@@ -83,7 +84,7 @@ pub fn shape_is_scalar(a: &[u8]) -> Tested
     let Lone::Accepted = read else {
         return as_tested(read);
     };
-    tell(is_scalar(lone_shape(a)))
+    tell(is_scalar(shape_at(a, 0)))
 }
 
 pub fn count_rows(a: &[u8]) -> Counted
@@ -93,7 +94,7 @@ pub fn count_rows(a: &[u8]) -> Counted
     let Lone::Accepted = read else {
         return as_counted(read);
     };
-    Counted::Count(row_count(lone_shape(a)))
+    Counted::Count(row_count(shape_at(a, 0)))
 }
 
 pub fn shape_rank(a: &[u8]) -> Counted
@@ -103,5 +104,5 @@ pub fn shape_rank(a: &[u8]) -> Counted
     let Lone::Accepted = read else {
         return as_counted(read);
     };
-    Counted::Count(rank(lone_shape(a)) as u64)
+    Counted::Count(rank(shape_at(a, 0)) as u64)
 }

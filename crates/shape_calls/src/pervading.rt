@@ -1,9 +1,10 @@
 // The pervading of two shapes, of types handed in as bytes.
+use known::shape_at;
 use lent::Written;
 use limits::refusal::UNPERVADED;
 use record::Lone;
-use record::lone_shape;
-use record::read_both;
+use record::read_two;
+use record::whichever;
 use shape::Verdict;
 use shape::pervade_dyn_shapes;
 use writer::as_written;
@@ -17,11 +18,11 @@ ghost use Rattle.shape_calls.specs.Calls.{pervadeCall};
 pub fn pervade(a: &[u8], b: &[u8], fill_a: bool, fill_b: bool, result: &mut [u8]) -> Written
     ensures { λ r. ⌜ delivered r (now (result .exit)) ≡ deliver (pervadeCall «fill_a» «fill_b» (now (a .entry)) (now (b .entry))) (now (result .entry)) ⌝ }
 {
-    let read = read_both(a, b);
+    let read = whichever(read_two(a, b));
     let Lone::Accepted = read else {
         return as_written(read);
     };
-    let pervaded = pervade_dyn_shapes(lone_shape(a), lone_shape(b), fill_a, fill_b);
+    let pervaded = pervade_dyn_shapes(shape_at(a, 0), shape_at(b, 0), fill_a, fill_b);
     let verdict = pervaded.answer;
     if let Verdict::Clash(_) = verdict {
         return Written::Refused {

@@ -8,7 +8,7 @@ use mathlib.Core.Path.{_≡_, sym, _∙_, ap}
 use lib.ListN.{length, set, length-append}
 use lib.Seq.{sets, sets-eq}
 use Rattle.model.specs.Types.{Dim, Shape, shape, Ty, ty, shapeOf}
-use Rattle.format.specs.Records.{shapeMark, markBytes, countOf, listOf, writeDims, writeShape}
+use Rattle.format.specs.Records.{shapeMark, markBytes, boxCode, boxStart, countOf, listOf, writeDims, writeShape}
 use Rattle.format.specs.Suffices.{length-writeDims}
 use Rattle.format.specs.Outcome.{Outcome, accepted, refused, mapped, shapeRecord}
 use Rattle.lent.specs.Over.{over, over-over}
@@ -20,6 +20,12 @@ pub four-stores : (out : List ℕ) (at m n : ℕ) → at + 4 ≤ length out → 
 four-stores out at m n fits =
     let stores : set (set (set (set out at 0x53) (at + 1) 0x48) (at + 2) m) (at + 3) n ≡ sets out at (head m n) = simp unary-clauses in
     stores ∙ sets-eq (head m n) out at fits
+
+-- the six bytes of a box, each stored
+pub six-stores : (out : List ℕ) (at form : ℕ) → at + 6 ≤ length out → set (set (set (set (set (set out at 0x53) (at + 1) 0x43) (at + 2) boxCode) (at + 3) 0x42) (at + 4) 0x58) (at + 5) form ≡ over out at (boxStart form)
+six-stores out at form fits =
+    let stores : set (set (set (set (set (set out at 0x53) (at + 1) 0x43) (at + 2) boxCode) (at + 3) 0x42) (at + 4) 0x58) (at + 5) form ≡ sets out at (boxStart form) = simp unary-clauses in
+    stores ∙ sets-eq (boxStart form) out at fits
 
 pub length-record : (o : List Dim) (c : Option (List Dim)) → length (writeShape (shape o c)) ≡ 4 + 8 * length o + 8 * length (listOf c)
 unfolding writeShape

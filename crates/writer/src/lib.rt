@@ -1,11 +1,15 @@
-// Writing records: a shape by value, and the shape and the scalar of a whole type. And a reading as the answer of a call.
+// Writing records: a shape by value, the start of a box, and the shape and the scalar of a whole type. And a reading as the answer
+// of a call.
 mod readings;
 
+use known::scalar_at;
+use known::shape_at;
 use lent::Written;
 use lent::hand_over;
 use limits::ABSENT;
+use limits::BOX;
 use limits::MAX_SIZES;
-use limits::marks::SHAPE;
+use limits::marks;
 use limits::refusal::TOO_SHORT;
 pub use readings::as_counted;
 pub use readings::as_tested;
@@ -13,17 +17,15 @@ pub use readings::as_written;
 use record::Dims;
 use record::DynShape;
 use record::Lone;
-use record::lone_scalar;
-use record::lone_shape;
 use record::read_lone;
 ghost use mathlib.Core.Path.{_≡_};
 ghost use mathlib.Core.List.{[], _∷_, _++_};
-ghost use Prim.Native.Nat.{_+_, _*_, _≤_};
+ghost use Prim.Native.Nat.{_+_, _*_, _≤_, _<_};
 ghost use lib.ListN.{length};
 ghost use Rattle.format.specs.Suffices.{shapeBytes};
 ghost use Rattle.model.specs.Limits.{maxSizes};
 ghost use Rattle.format.specs.Reader.{bytesOf};
-ghost use Rattle.format.specs.Records.{shapeMark, markBytes, countOf, writeDims, writeShape};
+ghost use Rattle.format.specs.Records.{shapeMark, markBytes, boxStart, countOf, writeDims, writeShape};
 ghost use Rattle.format.specs.Outcome.{accepted, deliver, mapped, lone, shapeRecord, scalarRecord};
 ghost use Rattle.lent.specs.Over.{over};
 ghost use Rattle.lent.specs.Written.{delivered};
@@ -102,8 +104,8 @@ fn put_head(out: &mut [u8], at: usize, opening: u8, closing: u8)
     requires { ⌜ at + 4 ≤ length (now out) ⌝ }
     ensures { λ _. ⌜ now (out .exit) ≡ over (now (out .entry)) at (markBytes shapeMark ++ (opening ∷ closing ∷ [])) ⌝ }
 {
-    out[at] = SHAPE.first;
-    out[at + 1] = SHAPE.second;
+    out[at] = marks::SHAPE.first;
+    out[at + 1] = marks::SHAPE.second;
     out[at + 2] = opening;
     out[at + 3] = closing;
 }
@@ -122,6 +124,20 @@ pub fn put_shape(out: &mut [u8], at: usize, shape: DynShape) -> usize
     }
     let suffix = shape.suffix;
     put_dims(&mut *out, next, suffix)
+}
+
+// A box's record up to its form, from `at` on. Answers the place after it.
+pub fn put_box(out: &mut [u8], at: usize, form: u64) -> usize
+    requires { ⌜ (at + length (boxStart form) ≤ length (now out)) × (form < 256) ⌝ }
+    ensures { λ r. ⌜ (r ≡ at + length (boxStart form)) × (now (out .exit) ≡ over (now (out .entry)) at (boxStart form)) ⌝ }
+{
+    out[at] = marks::SCALAR.first;
+    out[at + 1] = marks::SCALAR.second;
+    out[at + 2] = BOX as u8;
+    out[at + 3] = marks::BOX.first;
+    out[at + 4] = marks::BOX.second;
+    out[at + 5] = form as u8;
+    at + 6
 }
 
 // A shape's record, to the front of the result.
@@ -147,7 +163,7 @@ pub fn shape_record(ty: &[u8], result: &mut [u8]) -> Written
     let Lone::Accepted = read else {
         return as_written(read);
     };
-    write_shape(lone_shape(ty), &mut *result)
+    write_shape(shape_at(ty, 0), &mut *result)
 }
 
 // The record of a type's scalar.
@@ -158,6 +174,6 @@ pub fn scalar_record(ty: &[u8], result: &mut [u8]) -> Written
     let Lone::Accepted = read else {
         return as_written(read);
     };
-    let start = lone_scalar(ty);
+    let start = scalar_at(ty, 0);
     hand_over(&ty[start..], &mut *result)
 }

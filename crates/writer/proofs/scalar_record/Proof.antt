@@ -1,3 +1,6 @@
+use native.Mathlib.Omega.{arith}
+use Rattle.model.specs.Limits.{maxDepth}
+use Rattle.known.specs.WholeLaws.{has-type, scalar-inside, whole-scalar}
 use mathlib.Core.Path.{sym, ap, _∙_}
 use Rattle.format.specs.Outcome.{accepted, lone, deliver, scalarRecord}
 use Rattle.lent.specs.Delivers.{deliver-handed}
@@ -29,16 +32,23 @@ returns c =
     let told = ap loneOf (c .before .enum-told2 .given .1) in
     deliver-handed _ (c .as-written .result) (c .as-written .ensures ∙ told) (mapped-refused scalarRecord (passed-refused (lone (entry .args .ty .now)) (sym (at-read-lone .read-lone .ensures) ∙ told)))
 
-lone-scalar-requires : tie.Need-lone-scalar-requires
-lone-scalar-requires c κs =
+scalar-at-requires : tie.Need-scalar-at-requires
+scalar-at-requires c κs =
+    let at-shared-slice-known = c .before .before .before .before in
     let at-read-lone = c .before .before in
-    (sym (at-read-lone .read-lone .ensures) ∙ ap loneOf (c .enum-told .given .1))
+    (maxDepth, has-type _ (λ i. omega (arith, at-shared-slice-known .shared-slice-known .given i)) (sym (at-read-lone .read-lone .ensures) ∙ ap loneOf (c .enum-told .given .1)))
 
 sub-hand-over : tie.Need-sub-hand-over
-sub-hand-over c = search needs
+sub-hand-over c =
+    let at-shared-slice-known = c .before .before .before .before .before in
+    let at-read-lone = c .before .before .before in
+    omega (arith, scalar-inside _ (λ i. omega (arith, at-shared-slice-known .shared-slice-known .given i)) (c .scalar-at .ensures) (sym (at-read-lone .read-lone .ensures) ∙ ap loneOf (c .before .enum-told .given .1)))
 
 part-hand-over-start : tie.Need-part-hand-over-start
-part-hand-over-start c = search needs
+part-hand-over-start c =
+    let at-shared-slice-known = c .before .before .before .before .before in
+    let at-read-lone = c .before .before .before in
+    omega (arith, scalar-inside _ (λ i. omega (arith, at-shared-slice-known .shared-slice-known .given i)) (c .scalar-at .ensures) (sym (at-read-lone .read-lone .ensures) ∙ ap loneOf (c .before .enum-told .given .1)))
 
 part-hand-over-end : tie.Need-part-hand-over-end
 part-hand-over-end c = search needs
@@ -52,10 +62,13 @@ same-length c = search needs
 returns-2 : tie.Need-returns-2
 returns-2 c =
     let entry = c .before .before .before .before .before .before .before .before .before .before .before in
-    let at-lone-scalar = c .before .before .before .before .before in
+    let at-shared-slice-known = c .before .before .before .before .before .before .before .before .before .before in
+    let at-read-lone = c .before .before .before .before .before .before .before .before in
+    let at-enum-told = c .before .before .before .before .before .before in
+    let at-scalar-at = c .before .before .before .before .before in
     let at-hand-over = c .before .before in
     let args = entry .args in
-    at-hand-over .hand-over .ensures ∙ (ap (λ w. deliver (accepted w) (args .result .now)) (rest-is (args .ty .now) (at-lone-scalar .lone-scalar .result)) ∙ ap (λ o. deliver o (args .result .now)) (sym (at-lone-scalar .lone-scalar .ensures .0)))
+    at-hand-over .hand-over .ensures ∙ (ap (λ w. deliver (accepted w) (args .result .now)) (rest-is (args .ty .now) (at-scalar-at .scalar-at .result)) ∙ ap (λ o. deliver o (args .result .now)) (sym (whole-scalar _ (λ i. omega (arith, at-shared-slice-known .shared-slice-known .given i)) (sym (at-read-lone .read-lone .ensures) ∙ ap loneOf (at-enum-told .enum-told .given .1)) (at-scalar-at .scalar-at .ensures))))
 
 pub scalar-record-spec : {M : Type 1} → statement M
 scalar-record-spec =
@@ -66,7 +79,7 @@ scalar-record-spec =
     enum-told-2
     as-written-requires
     returns
-    lone-scalar-requires
+    scalar-at-requires
     sub-hand-over
     part-hand-over-start
     part-hand-over-end

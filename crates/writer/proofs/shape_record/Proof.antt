@@ -1,3 +1,6 @@
+use native.Mathlib.Omega.{arith}
+use Rattle.model.specs.Limits.{maxDepth}
+use Rattle.known.specs.WholeLaws.{has-type, whole-shape}
 use mathlib.Core.Path.{sym, ap, _∙_}
 use Rattle.format.specs.Outcome.{lone, deliver, shapeRecord}
 use Rattle.lent.specs.Delivers.{deliver-handed}
@@ -29,10 +32,11 @@ returns c =
     let told = ap loneOf (c .before .enum-told2 .given .1) in
     deliver-handed _ (c .as-written .result) (c .as-written .ensures ∙ told) (mapped-refused shapeRecord (passed-refused (lone (entry .args .ty .now)) (sym (at-read-lone .read-lone .ensures) ∙ told)))
 
-lone-shape-requires : tie.Need-lone-shape-requires
-lone-shape-requires c κs =
+shape-at-requires : tie.Need-shape-at-requires
+shape-at-requires c κs =
+    let at-shared-slice-known = c .before .before .before .before in
     let at-read-lone = c .before .before in
-    (sym (at-read-lone .read-lone .ensures) ∙ ap loneOf (c .enum-told .given .1))
+    (maxDepth, has-type _ (λ i. omega (arith, at-shared-slice-known .shared-slice-known .given i)) (sym (at-read-lone .read-lone .ensures) ∙ ap loneOf (c .enum-told .given .1)))
 
 write-shape-requires : tie.Need-write-shape-requires
 write-shape-requires c κs = search needs
@@ -43,10 +47,13 @@ same-length c = search needs
 returns-2 : tie.Need-returns-2
 returns-2 c =
     let entry = c .before .before .before .before .before .before .before .before .before .before in
-    let at-lone-shape = c .before .before .before .before in
+    let at-shared-slice-known = c .before .before .before .before .before .before .before .before .before in
+    let at-read-lone = c .before .before .before .before .before .before .before in
+    let at-enum-told = c .before .before .before .before .before in
+    let at-shape-at = c .before .before .before .before in
     let at-write-shape = c .before .before in
     let args = entry .args in
-    at-write-shape .write-shape .ensures ∙ ap (λ o. deliver o (args .result .now)) (sym (shape-record-is (lone (args .ty .now)) (at-lone-shape .lone-shape .ensures)))
+    at-write-shape .write-shape .ensures ∙ ap (λ o. deliver o (args .result .now)) (sym (shape-record-is (lone (args .ty .now)) (whole-shape _ (λ i. omega (arith, at-shared-slice-known .shared-slice-known .given i)) (sym (at-read-lone .read-lone .ensures) ∙ ap loneOf (at-enum-told .enum-told .given .1)) (at-shape-at .shape-at .result) (at-shape-at .shape-at .ensures))))
 
 pub shape-record-spec : {M : Type 1} → statement M
 shape-record-spec =
@@ -57,7 +64,7 @@ shape-record-spec =
     enum-told-2
     as-written-requires
     returns
-    lone-shape-requires
+    shape-at-requires
     write-shape-requires
     same-length
     returns-2)

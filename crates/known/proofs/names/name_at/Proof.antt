@@ -10,7 +10,9 @@ use Rattle.record.proofs.wide.Reads as wide-reads
 
 -- src/names.rt:14:18
 shared-slice-read-wide : tie.Need-shared-slice-read-wide
-shared-slice-read-wide c = omega (arith, name-within _ _ (c .before .before .pre .name) (c .before .before .pre .there))
+shared-slice-read-wide c =
+    let entry = c .before .before in
+    omega (arith, name-within _ _ (entry .pre .name) (entry .pre .there))
 
 -- src/names.rt:14:9
 wide-requires : tie.Need-wide-requires
@@ -18,7 +20,9 @@ wide-requires c κs = search needs
 
 -- src/names.rt:15:17
 add-start : tie.Need-add-start
-add-start c = omega (arith, name-within _ _ (c .before .before .before .pre .name) (c .before .before .before .pre .there))
+add-start c =
+    let entry = c .before .before .before in
+    omega (arith, name-within _ _ (entry .pre .name) (entry .pre .there))
 
 -- src/names.rt:17:9
 returns : tie.Need-returns
@@ -26,7 +30,9 @@ returns c = λ n h. unnamed-is _ _ (c .before .wide .ensures .0) n h (c .if1 .ta
 
 -- src/names.rt:26:14
 add-t9 : tie.Need-add-t9
-add-t9 c = omega (arith, named-within _ _ (c .before .wide .ensures .0) (c .before .before .before .before .pre .name) (c .before .before .before .before .pre .there) (c .if1 .left))
+add-t9 c =
+    let entry = c .before .before .before .before in
+    omega (arith, named-within _ _ (c .before .wide .ensures .0) (entry .pre .name) (entry .pre .there) (c .if1 .left))
 
 -- src/names.rt:10:1
 returns-2 : tie.Need-returns-2

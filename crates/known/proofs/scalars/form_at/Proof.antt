@@ -14,7 +14,9 @@ add-wide c = omega (arith, box-within _ _ (c .before .pre .0) (c .before .pre .1
 
 -- src/scalars.rt:30:10
 shared-slice-read-wide : tie.Need-shared-slice-read-wide
-shared-slice-read-wide c = omega (arith, box-within _ _ (c .before .before .pre .0) (c .before .before .pre .1 .scalar) (c .before .before .pre .1 .there) (c .before .before .pre .1 .boxed))
+shared-slice-read-wide c =
+    let entry = c .before .before in
+    omega (arith, box-within _ _ (entry .pre .0) (entry .pre .1 .scalar) (entry .pre .1 .there) (entry .pre .1 .boxed))
 
 -- src/scalars.rt:30:5
 wide-requires : tie.Need-wide-requires

@@ -14,7 +14,9 @@ add-wide c = omega (arith, scalar-kind _ _ (c .before .pre .0) (c .before .pre .
 
 -- src/scalars.rt:22:10
 shared-slice-read-wide : tie.Need-shared-slice-read-wide
-shared-slice-read-wide c = omega (arith, scalar-kind _ _ (c .before .before .pre .0) (c .before .before .pre .1 .scalar) (c .before .before .pre .1 .there))
+shared-slice-read-wide c =
+    let entry = c .before .before in
+    omega (arith, scalar-kind _ _ (entry .pre .0) (entry .pre .1 .scalar) (entry .pre .1 .there))
 
 -- src/scalars.rt:22:5
 wide-requires : tie.Need-wide-requires

@@ -1,6 +1,6 @@
 use native.Mathlib.Omega.{arith}
-use mathlib.Core.Path.{sym, _∙_}
-use Rattle.known.specs.KnownLaws.{scalar-kind, box-within, seen-plain, seen-any, seen-all, name-there, count-there, seen-def}
+use Rattle.known.specs.KnownLaws.{scalar-kind, seen-plain, seen-any, seen-all, seen-def}
+use Rattle.known.proofs.LookLaws.{has-box, box-inside, has-name, count-inside}
 use borrow.Author.Needs.{needs}
 use Rattle.known.proofs.scalars.look.Statement.{statement}
 use Rattle.known.proofs.scalars.look.Tie as tie
@@ -17,7 +17,9 @@ kind-at-requires c κs = search needs
 
 -- src/scalars.rt:40:41
 add-t8 : tie.Need-add-t8
-add-t8 c = omega (arith, scalar-kind _ _ (c .before .before .before .pre .0) (c .before .before .before .pre .1 .scalar) (c .before .before .before .pre .1 .there))
+add-t8 c =
+    let entry = c .before .before .before in
+    omega (arith, scalar-kind _ _ (entry .pre .0) (entry .pre .1 .scalar) (entry .pre .1 .there))
 
 -- src/scalars.rt:40:9
 returns : tie.Need-returns
@@ -25,43 +27,88 @@ returns c = λ d k h. seen-plain _ _ d k h (c .before .kind-at .ensures d k h) (
 
 -- src/scalars.rt:42:9
 form-at-requires : tie.Need-form-at-requires
-form-at-requires c κs = (c .before .before .before .pre .0, record { scalar = c .before .before .before .pre .1 .scalar; there = c .before .before .before .pre .1 .there; boxed = sym (c .before .kind-at .ensures (c .before .before .before .pre .0) (c .before .before .before .pre .1 .scalar) (c .before .before .before .pre .1 .there)) ∙ c .if1 .left })
+form-at-requires c κs =
+    let entry = c .before .before .before in
+    (entry .pre .0, has-box _ _ _ (entry .pre .1) (c .before .kind-at .ensures) (c .if1 .left))
 
 -- src/scalars.rt:44:36
 add-t9 : tie.Need-add-t9
-add-t9 c = omega (arith, box-within _ _ (c .before .before .before .before .before .pre .0) (c .before .before .before .before .before .pre .1 .scalar) (c .before .before .before .before .before .pre .1 .there) (sym (c .before .before .before .kind-at .ensures (c .before .before .before .before .before .pre .0) (c .before .before .before .before .before .pre .1 .scalar) (c .before .before .before .before .before .pre .1 .there)) ∙ c .before .before .if1 .left))
+add-t9 c =
+    let entry = c .before .before .before .before .before in
+    let at-kind-at = c .before .before .before in
+    let at-if1 = c .before .before in
+    omega (arith, box-inside _ _ _ (entry .pre .1) (at-kind-at .kind-at .ensures) (at-if1 .if1 .left))
 
 -- src/scalars.rt:44:9
 returns-2 : tie.Need-returns-2
-returns-2 c = λ d k h. seen-any _ _ d k h (c .before .before .before .kind-at .ensures d k h) (c .before .before .if1 .left) (c .before .form-at .ensures d k h) (c .if2 .taken)
+returns-2 c =
+    let at-kind-at = c .before .before .before in
+    let at-if1 = c .before .before in
+    λ d k h.
+    seen-any _ _ d k h (at-kind-at .kind-at .ensures d k h) (at-if1 .if1 .left) (c .before .form-at .ensures d k h) (c .if2 .taken)
 
 -- src/scalars.rt:47:40
 add-t10 : tie.Need-add-t10
-add-t10 c = omega (arith, box-within _ _ (c .before .before .before .before .before .before .pre .0) (c .before .before .before .before .before .before .pre .1 .scalar) (c .before .before .before .before .before .before .pre .1 .there) (sym (c .before .before .before .before .kind-at .ensures (c .before .before .before .before .before .before .pre .0) (c .before .before .before .before .before .before .pre .1 .scalar) (c .before .before .before .before .before .before .pre .1 .there)) ∙ c .before .before .before .if1 .left))
+add-t10 c =
+    let entry = c .before .before .before .before .before .before in
+    let at-kind-at = c .before .before .before .before in
+    let at-if1 = c .before .before .before in
+    omega (arith, box-inside _ _ _ (entry .pre .1) (at-kind-at .kind-at .ensures) (at-if1 .if1 .left))
 
 -- src/scalars.rt:47:9
 returns-3 : tie.Need-returns-3
-returns-3 c = λ d k h. seen-all _ _ d k h (c .before .before .before .before .kind-at .ensures d k h) (c .before .before .before .if1 .left) (c .before .before .form-at .ensures d k h) (c .if3 .taken)
+returns-3 c =
+    let at-kind-at = c .before .before .before .before in
+    let at-if1 = c .before .before .before in
+    let at-form-at = c .before .before in
+    λ d k h.
+    seen-all _ _ d k h (at-kind-at .kind-at .ensures d k h) (at-if1 .if1 .left) (at-form-at .form-at .ensures d k h) (c .if3 .taken)
 
 -- src/scalars.rt:49:27
 add-name-at : tie.Need-add-name-at
-add-name-at c = omega (arith, box-within _ _ (c .before .before .before .before .before .before .pre .0) (c .before .before .before .before .before .before .pre .1 .scalar) (c .before .before .before .before .before .before .pre .1 .there) (sym (c .before .before .before .before .kind-at .ensures (c .before .before .before .before .before .before .pre .0) (c .before .before .before .before .before .before .pre .1 .scalar) (c .before .before .before .before .before .before .pre .1 .there)) ∙ c .before .before .before .if1 .left))
+add-name-at c =
+    let entry = c .before .before .before .before .before .before in
+    let at-kind-at = c .before .before .before .before in
+    let at-if1 = c .before .before .before in
+    omega (arith, box-inside _ _ _ (entry .pre .1) (at-kind-at .kind-at .ensures) (at-if1 .if1 .left))
 
 -- src/scalars.rt:49:9
 name-at-requires : tie.Need-name-at-requires
-name-at-requires c κs = name-there _ _ (c .before .before .before .before .before .before .pre .0) (c .before .before .before .before .before .before .pre .1 .scalar) (c .before .before .before .before .before .before .pre .1 .there) (c .before .before .before .before .kind-at .ensures (c .before .before .before .before .before .before .pre .0) (c .before .before .before .before .before .before .pre .1 .scalar) (c .before .before .before .before .before .before .pre .1 .there)) (c .before .before .before .if1 .left) (c .before .before .form-at .ensures (c .before .before .before .before .before .before .pre .0) (c .before .before .before .before .before .before .pre .1 .scalar) (c .before .before .before .before .before .before .pre .1 .there)) (c .before .if2 .left) (c .if3 .left)
+name-at-requires c κs =
+    let entry = c .before .before .before .before .before .before in
+    let at-kind-at = c .before .before .before .before in
+    let at-if1 = c .before .before .before in
+    let at-form-at = c .before .before in
+    has-name _ _ _ (entry .pre .1) (at-kind-at .kind-at .ensures) (at-if1 .if1 .left) (at-form-at .form-at .ensures) (c .before .if2 .left) (c .if3 .left)
 
 -- src/scalars.rt:52:15
 add-t11 : tie.Need-add-t11
-add-t11 c = omega (arith, box-within _ _ (c .before .before .before .before .before .before .before .pre .0) (c .before .before .before .before .before .before .before .pre .1 .scalar) (c .before .before .before .before .before .before .before .pre .1 .there) (sym (c .before .before .before .before .before .kind-at .ensures (c .before .before .before .before .before .before .before .pre .0) (c .before .before .before .before .before .before .before .pre .1 .scalar) (c .before .before .before .before .before .before .before .pre .1 .there)) ∙ c .before .before .before .before .if1 .left))
+add-t11 c =
+    let entry = c .before .before .before .before .before .before .before in
+    let at-kind-at = c .before .before .before .before .before in
+    let at-if1 = c .before .before .before .before in
+    omega (arith, box-inside _ _ _ (entry .pre .1) (at-kind-at .kind-at .ensures) (at-if1 .if1 .left))
 
 -- src/scalars.rt:54:17
 add-t12 : tie.Need-add-t12
-add-t12 c = omega (arith, count-there _ _ (c .before .before .before .before .before .before .before .pre .0) (c .before .before .before .before .before .before .before .pre .1 .scalar) (c .before .before .before .before .before .before .before .pre .1 .there) (c .before .before .before .before .before .kind-at .ensures (c .before .before .before .before .before .before .before .pre .0) (c .before .before .before .before .before .before .before .pre .1 .scalar) (c .before .before .before .before .before .before .before .pre .1 .there)) (c .before .before .before .before .if1 .left) (c .before .before .before .form-at .ensures (c .before .before .before .before .before .before .before .pre .0) (c .before .before .before .before .before .before .before .pre .1 .scalar) (c .before .before .before .before .before .before .before .pre .1 .there)) (c .before .before .if2 .left) (c .before .if3 .left) (c .name-at .result) (c .name-at .ensures))
+add-t12 c =
+    let entry = c .before .before .before .before .before .before .before in
+    let at-kind-at = c .before .before .before .before .before in
+    let at-if1 = c .before .before .before .before in
+    let at-form-at = c .before .before .before in
+    let at-if2 = c .before .before in
+    omega (arith, count-inside _ _ _ (entry .pre .1) (at-kind-at .kind-at .ensures) (at-if1 .if1 .left) (at-form-at .form-at .ensures) (at-if2 .if2 .left) (c .before .if3 .left) _ (c .name-at .ensures))
 
 -- src/scalars.rt:55:21
 shared-slice-read-wide : tie.Need-shared-slice-read-wide
-shared-slice-read-wide c = count-there _ _ (c .before .before .before .before .before .before .before .before .pre .0) (c .before .before .before .before .before .before .before .before .pre .1 .scalar) (c .before .before .before .before .before .before .before .before .pre .1 .there) (c .before .before .before .before .before .before .kind-at .ensures (c .before .before .before .before .before .before .before .before .pre .0) (c .before .before .before .before .before .before .before .before .pre .1 .scalar) (c .before .before .before .before .before .before .before .before .pre .1 .there)) (c .before .before .before .before .before .if1 .left) (c .before .before .before .before .form-at .ensures (c .before .before .before .before .before .before .before .before .pre .0) (c .before .before .before .before .before .before .before .before .pre .1 .scalar) (c .before .before .before .before .before .before .before .before .pre .1 .there)) (c .before .before .before .if2 .left) (c .before .before .if3 .left) (c .before .name-at .result) (c .before .name-at .ensures)
+shared-slice-read-wide c =
+    let entry = c .before .before .before .before .before .before .before .before in
+    let at-kind-at = c .before .before .before .before .before .before in
+    let at-if1 = c .before .before .before .before .before in
+    let at-form-at = c .before .before .before .before in
+    let at-if2 = c .before .before .before in
+    let at-if3 = c .before .before in
+    count-inside _ _ _ (entry .pre .1) (at-kind-at .kind-at .ensures) (at-if1 .if1 .left) (at-form-at .form-at .ensures) (at-if2 .if2 .left) (at-if3 .if3 .left) _ (c .before .name-at .ensures)
 
 -- src/scalars.rt:55:16
 wide-requires : tie.Need-wide-requires
@@ -69,7 +116,15 @@ wide-requires c κs = search needs
 
 -- src/scalars.rt:34:1
 returns-4 : tie.Need-returns-4
-returns-4 c = λ d k h. seen-def _ _ d k h (c .before .before .before .before .before .before .before .kind-at .ensures d k h) (c .before .before .before .before .before .before .if1 .left) (c .before .before .before .before .before .form-at .ensures d k h) (c .before .before .before .before .if2 .left) (c .before .before .before .if3 .left) (c .before .before .name-at .result) (c .before .before .name-at .ensures) (c .wide .ensures .0)
+returns-4 c =
+    let at-kind-at = c .before .before .before .before .before .before .before in
+    let at-if1 = c .before .before .before .before .before .before in
+    let at-form-at = c .before .before .before .before .before in
+    let at-if2 = c .before .before .before .before in
+    let at-if3 = c .before .before .before in
+    let at-name-at = c .before .before in
+    λ d k h.
+    seen-def _ _ d k h (at-kind-at .kind-at .ensures d k h) (at-if1 .if1 .left) (at-form-at .form-at .ensures d k h) (at-if2 .if2 .left) (at-if3 .if3 .left) _ (at-name-at .name-at .ensures) (c .wide .ensures .0)
 
 pub look-spec : {M : Type 1} → statement M
 look-spec =

@@ -19,11 +19,15 @@ returns c = λ d t h. any-opened _ _ d (c .if1 .taken) t h
 
 -- src/shapes.rt:38:7
 add-result : tie.Need-add-result
-add-result c = omega (arith, counts-inside _ _ (c .before .before .pre .0) (c .before .before .pre .1))
+add-result c =
+    let entry = c .before .before in
+    omega (arith, counts-inside _ _ (entry .pre .0) (entry .pre .1))
 
 -- src/shapes.rt:38:5
 shared-slice-read-result : tie.Need-shared-slice-read-result
-shared-slice-read-result c = omega (arith, counts-inside _ _ (c .before .before .before .pre .0) (c .before .before .before .pre .1))
+shared-slice-read-result c =
+    let entry = c .before .before .before in
+    omega (arith, counts-inside _ _ (entry .pre .0) (entry .pre .1))
 
 -- src/shapes.rt:31:1
 returns-2 : tie.Need-returns-2

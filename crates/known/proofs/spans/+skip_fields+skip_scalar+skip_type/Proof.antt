@@ -1,9 +1,9 @@
-use mathlib.Core.Path.{_≡_, refl, subst}
+use mathlib.Core.Path.{_≡_, refl}
 use native.Mathlib.Omega.{arith}
 use borrow.Author.Needs.{needs}
 use Prim.Native.Nat.{_+_, _*_}
 use Rattle.model.specs.Types.{Fields, fieldCount}
-use Rattle.known.specs.Known.{FieldsAt, Seen}
+use Rattle.known.specs.Known.{FieldsAt}
 use Rattle.known.specs.KnownLaws.{has-scalar, deep}
 use Rattle.known.proofs.SpanLaws.{span-plain, span-any, span-all, span-def, has-content, has-fields, few-inside, shallow-inside, span-type, Skipping, skip-start, skip-has, skip-few, skip-next, skip-end}
 use Prim.Native.Nat.{ℕ, _<_}
@@ -78,7 +78,9 @@ skip-fields-skip-type-requires : (t : ℕ) → skip-fields-lts.Need-skip-type-re
   deeper-reads.Asked,
   deeper-reads.Learnt,
 ) (skip-fields-at t) skip-fields.Post skip-fields-Inv-loop skip-fields-μ-loop
-skip-fields-skip-type-requires t c κs = (omega (arith, c .before .before .before .pre .0), skip-has (c .before .loop .inv (c .before .before .before .pre .1 .fields) (c .before .before .before .pre .1 .there) (c .before .before .before .pre .1 .counted)) (c .loop-test .taken))
+skip-fields-skip-type-requires t c κs =
+    let entry = c .before .before .before in
+    (omega (arith, entry .pre .0), skip-has (c .before .loop .inv (entry .pre .1 .fields) (entry .pre .1 .there) (entry .pre .1 .counted)) (c .loop-test .taken))
 
 -- src/spans.rt:70:9
 skip-fields-add-types : (t : ℕ) → skip-fields-lts.Need-add-types (
@@ -87,7 +89,11 @@ skip-fields-add-types : (t : ℕ) → skip-fields-lts.Need-add-types (
   deeper-reads.Asked,
   deeper-reads.Learnt,
 ) (skip-fields-at t) skip-fields.Post skip-fields-Inv-loop skip-fields-μ-loop
-skip-fields-add-types t c = omega (arith, skip-few (c .before .before .before .loop .inv (c .before .before .before .before .before .pre .1 .fields) (c .before .before .before .before .before .pre .1 .there) (c .before .before .before .before .before .pre .1 .counted)) (c .before .before .loop-test .taken) (c .before .skip-type .ensures) (c .before .before .before .before .before .pre .1 .there))
+skip-fields-add-types t c =
+    let entry = c .before .before .before .before .before in
+    let at-loop = c .before .before .before in
+    let at-loop-test = c .before .before in
+    omega (arith, skip-few (at-loop .loop .inv (entry .pre .1 .fields) (entry .pre .1 .there) (entry .pre .1 .counted)) (at-loop-test .loop-test .taken) (c .before .skip-type .ensures) (entry .pre .1 .there))
 
 -- src/spans.rt:71:9
 skip-fields-deeper-requires : (t : ℕ) → skip-fields-lts.Need-deeper-requires (
@@ -123,7 +129,12 @@ skip-fields-loop-again : (t : ℕ) → skip-fields-lts.Need-loop-again (
   deeper-reads.Asked,
   deeper-reads.Learnt,
 ) (skip-fields-at t) skip-fields.Post skip-fields-Inv-loop skip-fields-μ-loop
-skip-fields-loop-again t c = λ f h e. skip-next (c .before .before .before .before .loop .inv f h e) (c .before .before .before .loop-test .taken) (c .before .before .skip-type .ensures) (c .deeper .ensures)
+skip-fields-loop-again t c =
+    let at-loop = c .before .before .before .before in
+    let at-loop-test = c .before .before .before in
+    let at-skip-type = c .before .before in
+    λ f h e.
+    skip-next (at-loop .loop .inv f h e) (at-loop-test .loop-test .taken) (at-skip-type .skip-type .ensures) (c .deeper .ensures)
 
 -- src/spans.rt:60:1
 skip-fields-returns : (t : ℕ) → skip-fields-lts.Need-returns (
@@ -187,7 +198,10 @@ skip-scalar-skip-type-requires : (t : ℕ) → skip-scalar-lts.Need-skip-type-re
   skip-fields-below t,
   skip-fields.Post,
 ) (skip-scalar-at t) skip-scalar.Post
-skip-scalar-skip-type-requires t c κs = (omega (arith, c .before .before .before .before .before .pre .0), has-content (subst (Seen _ _ (c .before .before .before .before .before .args .depth) (c .before .before .before .before .before .pre .1 .scalar)) (c .before .view3 .given .1) (c .before .before .before .look .ensures (c .before .before .before .before .before .args .depth) (c .before .before .before .before .before .pre .1 .scalar) (c .before .before .before .before .before .pre .1 .there))))
+skip-scalar-skip-type-requires t c κs =
+    let entry = c .before .before .before .before .before in
+    let at-look = c .before .before .before in
+    (omega (arith, entry .pre .0), has-content _ _ _ _ (at-look .look .ensures) (c .before .view3 .given .1) (entry .pre .1))
 
 -- src/spans.rt:53:13
 skip-scalar-enum-known-view-4 : (t : ℕ) → skip-scalar-lts.Need-enum-known-view-4 (
@@ -209,7 +223,10 @@ skip-scalar-skip-fields-requires : (t : ℕ) → skip-scalar-lts.Need-skip-field
   skip-fields-below t,
   skip-fields.Post,
 ) (skip-scalar-at t) skip-scalar.Post
-skip-scalar-skip-fields-requires t c κs = (omega (arith, c .before .before .before .before .before .pre .0), has-fields (subst (Seen _ _ (c .before .before .before .before .before .args .depth) (c .before .before .before .before .before .pre .1 .scalar)) (c .before .view4 .given .1) (c .before .before .before .look .ensures (c .before .before .before .before .before .args .depth) (c .before .before .before .before .before .pre .1 .scalar) (c .before .before .before .before .before .pre .1 .there))))
+skip-scalar-skip-fields-requires t c κs =
+    let entry = c .before .before .before .before .before in
+    let at-look = c .before .before .before in
+    (omega (arith, entry .pre .0), has-fields _ _ _ _ (at-look .look .ensures) (c .before .view4 .given .1) (entry .pre .1))
 
 -- src/spans.rt:33:1
 skip-scalar-returns : (t : ℕ) → skip-scalar-lts.Need-returns (
@@ -220,7 +237,9 @@ skip-scalar-returns : (t : ℕ) → skip-scalar-lts.Need-returns (
   skip-fields-below t,
   skip-fields.Post,
 ) (skip-scalar-at t) skip-scalar.Post
-skip-scalar-returns t c = λ k h. span-plain (c .before .before .before .before .before .args .s .now) (c .before .before .before .before .before .args .at) (c .before .before .before .before .before .args .depth) k _ (subst (Seen _ _ (c .before .before .before .before .before .args .depth) k) (c .before .view .given .1) (c .before .before .before .look .ensures (c .before .before .before .before .before .args .depth) k h)) refl refl refl
+skip-scalar-returns t c =
+    let at-look = c .before .before .before in
+    λ k h. span-plain _ _ _ _ (at-look .look .ensures) _ k h (c .before .view .given .1) refl refl refl
 
 -- src/spans.rt:33:1
 skip-scalar-returns-2 : (t : ℕ) → skip-scalar-lts.Need-returns-2 (
@@ -231,7 +250,9 @@ skip-scalar-returns-2 : (t : ℕ) → skip-scalar-lts.Need-returns-2 (
   skip-fields-below t,
   skip-fields.Post,
 ) (skip-scalar-at t) skip-scalar.Post
-skip-scalar-returns-2 t c = λ k h. span-any (c .before .before .before .before .before .args .s .now) (c .before .before .before .before .before .args .at) (c .before .before .before .before .before .args .depth) k _ (subst (Seen _ _ (c .before .before .before .before .before .args .depth) k) (c .before .view2 .given .1) (c .before .before .before .look .ensures (c .before .before .before .before .before .args .depth) k h)) refl refl refl
+skip-scalar-returns-2 t c =
+    let at-look = c .before .before .before in
+    λ k h. span-any _ _ _ _ (at-look .look .ensures) _ k h (c .before .view2 .given .1) refl refl refl
 
 -- src/spans.rt:33:1
 skip-scalar-returns-3 : (t : ℕ) → skip-scalar-lts.Need-returns-3 (
@@ -242,7 +263,10 @@ skip-scalar-returns-3 : (t : ℕ) → skip-scalar-lts.Need-returns-3 (
   skip-fields-below t,
   skip-fields.Post,
 ) (skip-scalar-at t) skip-scalar.Post
-skip-scalar-returns-3 t c = λ k h. span-all _ _ _ k _ (subst (Seen _ _ (c .before .before .before .before .before .before .args .depth) k) (c .before .before .view3 .given .1) (c .before .before .before .before .look .ensures (c .before .before .before .before .before .before .args .depth) k h)) (c .skip-type .ensures)
+skip-scalar-returns-3 t c =
+    let at-look = c .before .before .before .before in
+    let at-view3 = c .before .before in
+    λ k h. span-all _ _ _ _ (at-look .look .ensures) _ k h (at-view3 .view3 .given .1) (c .skip-type .ensures)
 
 -- src/spans.rt:33:1
 skip-scalar-returns-4 : (t : ℕ) → skip-scalar-lts.Need-returns-4 (
@@ -253,7 +277,10 @@ skip-scalar-returns-4 : (t : ℕ) → skip-scalar-lts.Need-returns-4 (
   skip-fields-below t,
   skip-fields.Post,
 ) (skip-scalar-at t) skip-scalar.Post
-skip-scalar-returns-4 t c = λ k h. span-def _ _ _ k _ (subst (Seen _ _ (c .before .before .before .before .before .before .args .depth) k) (c .before .before .view4 .given .1) (c .before .before .before .before .look .ensures (c .before .before .before .before .before .before .args .depth) k h)) (c .skip-fields .ensures)
+skip-scalar-returns-4 t c =
+    let at-look = c .before .before .before .before in
+    let at-view4 = c .before .before in
+    λ k h. span-def _ _ _ _ (at-look .look .ensures) _ k h (at-view4 .view4 .given .1) (c .skip-fields .ensures)
 
 -- src/spans.rt:24:33
 skip-type-scalar-at-requires : (t : ℕ) → skip-type-lts.Need-scalar-at-requires (
@@ -271,7 +298,9 @@ skip-type-sub-skip-scalar : (t : ℕ) → skip-type-lts.Need-sub-skip-scalar (
   skip-scalar-below t,
   skip-scalar.Post,
 ) (skip-type-at t) skip-type.Post
-skip-type-sub-skip-scalar t c = omega (arith, deep _ _ _ (c .before .before .pre .1))
+skip-type-sub-skip-scalar t c =
+    let entry = c .before .before in
+    omega (arith, deep _ _ _ (entry .pre .1))
 
 -- src/spans.rt:24:9
 skip-type-skip-scalar-requires : (t : ℕ) → skip-type-lts.Need-skip-scalar-requires (
@@ -280,7 +309,9 @@ skip-type-skip-scalar-requires : (t : ℕ) → skip-type-lts.Need-skip-scalar-re
   skip-scalar-below t,
   skip-scalar.Post,
 ) (skip-type-at t) skip-type.Post
-skip-type-skip-scalar-requires t c κs = (omega (arith, c .before .before .pre .0, deep _ _ _ (c .before .before .pre .1)), has-scalar _ _ (c .scalar-at .ensures) _ (c .before .before .pre .1))
+skip-type-skip-scalar-requires t c κs =
+    let entry = c .before .before in
+    (omega (arith, entry .pre .0, deep _ _ _ (entry .pre .1)), has-scalar _ _ (c .scalar-at .ensures) _ (entry .pre .1))
 
 -- src/spans.rt:26:16
 skip-type-add-t6 : (t : ℕ) → skip-type-lts.Need-add-t6 (
@@ -289,7 +320,10 @@ skip-type-add-t6 : (t : ℕ) → skip-type-lts.Need-add-t6 (
   skip-scalar-below t,
   skip-scalar.Post,
 ) (skip-type-at t) skip-type.Post
-skip-type-add-t6 t c = omega (arith, few-inside _ _ _ (c .before .before .scalar-at .ensures) _ (c .before .skip-scalar .ensures) (c .before .before .before .before .pre .1))
+skip-type-add-t6 t c =
+    let entry = c .before .before .before .before in
+    let at-scalar-at = c .before .before in
+    omega (arith, few-inside _ _ _ (at-scalar-at .scalar-at .ensures) _ (c .before .skip-scalar .ensures) (entry .pre .1))
 
 -- src/spans.rt:27:16
 skip-type-add-t7 : (t : ℕ) → skip-type-lts.Need-add-t7 (
@@ -298,7 +332,11 @@ skip-type-add-t7 : (t : ℕ) → skip-type-lts.Need-add-t7 (
   skip-scalar-below t,
   skip-scalar.Post,
 ) (skip-type-at t) skip-type.Post
-skip-type-add-t7 t c = omega (arith, shallow-inside _ _ _ (c .before .before .before .scalar-at .ensures) _ (c .before .before .skip-scalar .ensures) (c .before .before .before .before .before .pre .1), c .before .before .before .before .before .fits .depth)
+skip-type-add-t7 t c =
+    let entry = c .before .before .before .before .before in
+    let at-scalar-at = c .before .before .before in
+    let at-skip-scalar = c .before .before in
+    omega (arith, shallow-inside _ _ _ (at-scalar-at .scalar-at .ensures) _ (at-skip-scalar .skip-scalar .ensures) (entry .pre .1), entry .fits .depth)
 
 -- src/spans.rt:20:1
 skip-type-returns : (t : ℕ) → skip-type-lts.Need-returns (
@@ -307,7 +345,10 @@ skip-type-returns : (t : ℕ) → skip-type-lts.Need-returns (
   skip-scalar-below t,
   skip-scalar.Post,
 ) (skip-type-at t) skip-type.Post
-skip-type-returns t c = λ t h. span-type _ _ _ (c .before .before .before .scalar-at .ensures) _ (c .before .before .skip-scalar .ensures) _ refl refl refl t h
+skip-type-returns t c =
+    let at-scalar-at = c .before .before .before in
+    let at-skip-scalar = c .before .before in
+    λ t h. span-type _ _ _ (at-scalar-at .scalar-at .ensures) _ (at-skip-scalar .skip-scalar .ensures) _ refl refl refl t h
 
 pub +skip-fields+skip-scalar+skip-type-spec : {M : Type 1} → statement M
 +skip-fields+skip-scalar+skip-type-spec =

@@ -1,75 +1,107 @@
+use native.Mathlib.Omega.{arith}
 use mathlib.Core.Bool.{true}
 use mathlib.Core.Path.{sym, ap, _∙_}
+use Rattle.model.specs.Limits.{maxDepth}
+use Rattle.format.specs.Outcome.{accepted, mapped}
 use Rattle.record.specs.Answers.{loneOf}
 use Rattle.rules.specs.Shapes.{compatibleShapes}
-use Rattle.format.specs.Outcome.{accepted, lone, mapped}
-use Rattle.record.proofs.LoneLaws.{both-passed}
-use Rattle.shape_calls.proofs.CallLaws.{shapes-told, shapes-are}
+use Rattle.shape_calls.proofs.CallLaws.{shapes-told, shapes-there, shapes-are}
 use borrow.Author.Needs.{needs}
 use Rattle.shape_calls.proofs.bytes.compatible_shapes.Statement.{statement}
 use Rattle.shape_calls.proofs.bytes.compatible_shapes.Tie as tie
 use Rattle.shape_calls.proofs.bytes.compatible_shapes.Reads as reads
 use Rattle.shape_calls.proofs.bytes.compatible_shapes.Lts as lts
+use Rattle.known.proofs.shape_at.Reads as shape-at-reads
+use Rattle.lent.proofs.tell.Reads as tell-reads
+use Rattle.record.proofs.read_two.Reads as read-two-reads
+use Rattle.record.proofs.whichever.Reads as whichever-reads
+use Rattle.shape.proofs.compatible_with.Reads as compatible-with-reads
+use Rattle.writer.proofs.as_tested.Reads as as-tested-reads
 
-read-both-requires : tie.Need-read-both-requires
-read-both-requires c κs = search needs
+-- src/bytes.rt:63:26
+read-two-requires : tie.Need-read-two-requires
+read-two-requires c κs = search needs
+
+-- src/bytes.rt:63:9
+whichever-requires : tie.Need-whichever-requires
+whichever-requires c κs = search needs
 
 enum-told : tie.Need-enum-told
 enum-told c = search needs
 
+-- src/bytes.rt:65:9
 enum-told-2 : tie.Need-enum-told-2
 enum-told-2 c = search needs
 
+-- src/bytes.rt:65:9
 as-tested-requires : tie.Need-as-tested-requires
 as-tested-requires c κs = search needs
 
+-- src/bytes.rt:65:9
 returns : tie.Need-returns
 returns c =
+    let entry = c .before .before .before .before .before .before .before in
+    let at-read-two = c .before .before .before .before in
+    let at-whichever = c .before .before .before in
+    let args = entry .args in
+    c .as-tested .ensures ∙ ap (mapped (λ _. true)) (ap loneOf (c .before .enum-told2 .given .1)) ∙ sym (shapes-told (λ s t. accepted (compatibleShapes s t)) (args .a .now) (args .b .now) (at-read-two .read-two .result) (at-read-two .read-two .ensures) (at-whichever .whichever .result) (at-whichever .whichever .ensures) (c .before .enum-told2 .given .1))
+
+-- src/bytes.rt:67:26
+shape-at-requires : tie.Need-shape-at-requires
+shape-at-requires c κs =
     let entry = c .before .before .before .before .before .before in
-    let at-read-both = c .before .before .before in
+    let at-shared-slice-known = c .before .before .before .before .before in
+    let at-shared-slice-known2 = c .before .before .before .before in
+    let at-read-two = c .before .before .before in
+    let at-whichever = c .before .before in
     let args = entry .args in
-    let told = ap loneOf (c .before .enum-told2 .given .1) in
-    c .as-tested .ensures ∙ (ap (mapped (λ _. true)) told ∙ sym (shapes-told (λ s t. accepted (compatibleShapes s t)) (args .a .now) (args .b .now) (sym (at-read-both .read-both .ensures) ∙ told)))
+    (maxDepth, shapes-there (λ s t. accepted (compatibleShapes s t)) (args .a .now) (args .b .now) (at-read-two .read-two .result) (at-read-two .read-two .ensures) (at-whichever .whichever .result) (at-whichever .whichever .ensures) (λ i. omega (arith, at-shared-slice-known .shared-slice-known .given i)) (λ i. omega (arith, at-shared-slice-known2 .shared-slice-known2 .given i)) (c .enum-told .given .1) .0)
 
-lone-shape-requires : tie.Need-lone-shape-requires
-lone-shape-requires c κs =
-    let entry = c .before .before .before .before .before in
-    let at-read-both = c .before .before in
+-- src/bytes.rt:67:42
+shape-at-requires-2 : tie.Need-shape-at-requires-2
+shape-at-requires-2 c κs =
+    let entry = c .before .before .before .before .before .before .before in
+    let at-shared-slice-known = c .before .before .before .before .before .before in
+    let at-shared-slice-known2 = c .before .before .before .before .before in
+    let at-read-two = c .before .before .before .before in
+    let at-whichever = c .before .before .before in
     let args = entry .args in
-    both-passed (lone (args .a .now)) (lone (args .b .now)) (sym (at-read-both .read-both .ensures) ∙ ap loneOf (c .enum-told .given .1)) .0
+    (maxDepth, shapes-there (λ s t. accepted (compatibleShapes s t)) (args .a .now) (args .b .now) (at-read-two .read-two .result) (at-read-two .read-two .ensures) (at-whichever .whichever .result) (at-whichever .whichever .ensures) (λ i. omega (arith, at-shared-slice-known .shared-slice-known .given i)) (λ i. omega (arith, at-shared-slice-known2 .shared-slice-known2 .given i)) (c .before .enum-told .given .1) .1)
 
-lone-shape-requires-2 : tie.Need-lone-shape-requires-2
-lone-shape-requires-2 c κs =
-    let entry = c .before .before .before .before .before .before in
-    let at-read-both = c .before .before .before in
-    let args = entry .args in
-    both-passed (lone (args .a .now)) (lone (args .b .now)) (sym (at-read-both .read-both .ensures) ∙ ap loneOf (c .before .enum-told .given .1)) .1
-
+-- src/bytes.rt:67:10
 compatible-with-requires : tie.Need-compatible-with-requires
 compatible-with-requires c κs = search needs
 
+-- src/bytes.rt:67:5
 tell-requires : tie.Need-tell-requires
 tell-requires c κs = search needs
 
+-- src/bytes.rt:60:1
 returns-2 : tie.Need-returns-2
 returns-2 c =
-    let entry = c .before .before .before .before .before .before .before .before .before in
-    let at-lone-shape = c .before .before .before in
-    let at-lone-shape2 = c .before .before in
+    let entry = c .before .before .before .before .before .before .before .before .before .before in
+    let at-shared-slice-known = c .before .before .before .before .before .before .before .before .before in
+    let at-shared-slice-known2 = c .before .before .before .before .before .before .before .before in
+    let at-read-two = c .before .before .before .before .before .before .before in
+    let at-whichever = c .before .before .before .before .before .before in
+    let at-enum-told = c .before .before .before .before in
+    let at-shape-at = c .before .before .before in
+    let at-shape-at2 = c .before .before in
     let args = entry .args in
-    c .tell .ensures ∙ (ap accepted (c .before .compatible-with .ensures) ∙ sym (shapes-are (λ s t. accepted (compatibleShapes s t)) (args .a .now) (args .b .now) (at-lone-shape .lone-shape .ensures) (at-lone-shape2 .lone-shape2 .ensures)))
+    c .tell .ensures ∙ ap accepted (c .before .compatible-with .ensures) ∙ sym (shapes-are (λ s t. accepted (compatibleShapes s t)) (args .a .now) (args .b .now) (at-read-two .read-two .result) (at-read-two .read-two .ensures) (at-whichever .whichever .result) (at-whichever .whichever .ensures) (λ i. omega (arith, at-shared-slice-known .shared-slice-known .given i)) (λ i. omega (arith, at-shared-slice-known2 .shared-slice-known2 .given i)) (at-enum-told .enum-told .given .1) (at-shape-at .shape-at .result) (at-shape-at2 .shape-at2 .result) (at-shape-at .shape-at .ensures) (at-shape-at2 .shape-at2 .ensures))
 
 pub compatible-shapes-spec : {M : Type 1} → statement M
 compatible-shapes-spec =
     tie.close
     (tie.spec
-    read-both-requires
+    read-two-requires
+    whichever-requires
     enum-told
     enum-told-2
     as-tested-requires
     returns
-    lone-shape-requires
-    lone-shape-requires-2
+    shape-at-requires
+    shape-at-requires-2
     compatible-with-requires
     tell-requires
     returns-2)

@@ -1,46 +1,63 @@
+use native.Mathlib.Omega.{arith}
 use mathlib.Core.Path.{sym, ap, _∙_}
+use Rattle.model.specs.Limits.{maxDepth}
 use Rattle.format.specs.Records.{dimOf}
+use Rattle.format.specs.Outcome.{accepted, mapped}
 use Rattle.record.specs.Answers.{loneOf}
 use Rattle.rules.specs.Shapes.{rowCount}
-use Rattle.format.specs.Outcome.{accepted, mapped}
-use Rattle.shape_calls.proofs.CallLaws.{shape-told, shape-is}
+use Rattle.shape_calls.proofs.CallLaws.{shape-told, shape-there, shape-is}
 use borrow.Author.Needs.{needs}
 use Rattle.shape_calls.proofs.bytes.count_rows.Statement.{statement}
 use Rattle.shape_calls.proofs.bytes.count_rows.Tie as tie
 use Rattle.shape_calls.proofs.bytes.count_rows.Reads as reads
 use Rattle.shape_calls.proofs.bytes.count_rows.Lts as lts
+use Rattle.known.proofs.shape_at.Reads as shape-at-reads
+use Rattle.record.proofs.read_lone.Reads as read-lone-reads
+use Rattle.shape.proofs.row_count.Reads as row-count-reads
+use Rattle.writer.proofs.as_counted.Reads as as-counted-reads
 
+-- src/bytes.rt:93:9
 read-lone-requires : tie.Need-read-lone-requires
 read-lone-requires c κs = search needs
 
 enum-told : tie.Need-enum-told
 enum-told c = search needs
 
+-- src/bytes.rt:95:9
 enum-told-2 : tie.Need-enum-told-2
 enum-told-2 c = search needs
 
+-- src/bytes.rt:95:9
 as-counted-requires : tie.Need-as-counted-requires
 as-counted-requires c κs = search needs
 
+-- src/bytes.rt:95:9
 returns : tie.Need-returns
 returns c =
     let entry = c .before .before .before .before .before in
     let at-read-lone = c .before .before .before in
-    let told = ap loneOf (c .before .enum-told2 .given .1) in
-    c .as-counted .ensures .1 ∙ (ap (mapped dimOf) told ∙ sym (shape-told (λ s. accepted (rowCount s)) (entry .args .a .now) (sym (at-read-lone .read-lone .ensures) ∙ told)))
+    c .as-counted .ensures .1 ∙ ap (mapped dimOf) (ap loneOf (c .before .enum-told2 .given .1)) ∙ sym (shape-told (λ s. accepted (rowCount s)) (entry .args .a .now) _ (at-read-lone .read-lone .ensures) (c .before .enum-told2 .given .1))
 
-lone-shape-requires : tie.Need-lone-shape-requires
-lone-shape-requires c κs =
+-- src/bytes.rt:97:30
+shape-at-requires : tie.Need-shape-at-requires
+shape-at-requires c κs =
+    let entry = c .before .before .before .before in
+    let at-shared-slice-known = c .before .before .before in
     let at-read-lone = c .before .before in
-    (sym (at-read-lone .read-lone .ensures) ∙ ap loneOf (c .enum-told .given .1))
+    (maxDepth, shape-there (λ s. accepted (rowCount s)) (entry .args .a .now) _ (at-read-lone .read-lone .ensures) (λ i. omega (arith, at-shared-slice-known .shared-slice-known .given i)) (c .enum-told .given .1))
 
+-- src/bytes.rt:97:20
 row-count-requires : tie.Need-row-count-requires
 row-count-requires c κs = search needs
 
+-- src/bytes.rt:90:1
 returns-2 : tie.Need-returns-2
 returns-2 c =
     let entry = c .before .before .before .before .before .before in
-    ap accepted (c .row-count .ensures) ∙ sym (shape-is (λ s. accepted (rowCount s)) (entry .args .a .now) (c .before .lone-shape .ensures))
+    let at-shared-slice-known = c .before .before .before .before .before in
+    let at-read-lone = c .before .before .before .before in
+    let at-enum-told = c .before .before in
+    shape-is (λ s. accepted (rowCount s)) (entry .args .a .now) _ (at-read-lone .read-lone .ensures) (λ i. omega (arith, at-shared-slice-known .shared-slice-known .given i)) (at-enum-told .enum-told .given .1) (λ d t h. ap accepted (c .row-count .ensures ∙ ap rowCount (c .before .shape-at .ensures d t h)))
 
 pub count-rows-spec : {M : Type 1} → statement M
 count-rows-spec =
@@ -51,6 +68,6 @@ count-rows-spec =
     enum-told-2
     as-counted-requires
     returns
-    lone-shape-requires
+    shape-at-requires
     row-count-requires
     returns-2)

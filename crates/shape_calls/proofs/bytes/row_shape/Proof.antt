@@ -1,58 +1,78 @@
+use native.Mathlib.Omega.{arith}
 use mathlib.Core.Path.{sym, ap, _∙_}
-use Rattle.record.specs.Answers.{loneOf}
-use Rattle.lent.specs.Delivers.{deliver-handed}
-use Rattle.rules.specs.Shapes.{rowShape}
+use Rattle.model.specs.Limits.{maxDepth}
 use Rattle.format.specs.Outcome.{deliver}
-use Rattle.shape_calls.specs.Calls.{written}
-use Rattle.shape_calls.proofs.CallLaws.{shape-told, shape-is}
+use Rattle.lent.specs.Delivers.{deliver-handed}
+use Rattle.record.specs.Answers.{loneOf}
+use Rattle.rules.specs.Shapes.{rowShape}
+use Rattle.shape_calls.specs.Calls.{recorded}
+use Rattle.shape_calls.proofs.CallLaws.{shape-told, shape-there, shape-is}
 use borrow.Author.Needs.{needs}
 use Rattle.shape_calls.proofs.bytes.row_shape.Statement.{statement}
 use Rattle.shape_calls.proofs.bytes.row_shape.Tie as tie
 use Rattle.shape_calls.proofs.bytes.row_shape.Reads as reads
 use Rattle.shape_calls.proofs.bytes.row_shape.Lts as lts
+use Rattle.known.proofs.shape_at.Reads as shape-at-reads
+use Rattle.record.proofs.read_lone.Reads as read-lone-reads
+use Rattle.shape.proofs.into_row.Reads as into-row-reads
+use Rattle.writer.proofs.as_written.Reads as as-written-reads
+use Rattle.writer.proofs.write_shape.Reads as write-shape-reads
 
+-- src/bytes.rt:53:9
 read-lone-requires : tie.Need-read-lone-requires
 read-lone-requires c κs = search needs
 
 enum-told : tie.Need-enum-told
 enum-told c = search needs
 
+-- src/bytes.rt:55:9
 enum-told-2 : tie.Need-enum-told-2
 enum-told-2 c = search needs
 
+-- src/bytes.rt:55:9
 as-written-requires : tie.Need-as-written-requires
 as-written-requires c κs = search needs
 
+-- src/bytes.rt:55:9
 returns : tie.Need-returns
 returns c =
     let entry = c .before .before .before .before .before .before in
     let at-read-lone = c .before .before .before in
     let args = entry .args in
-    let told = ap loneOf (c .before .enum-told2 .given .1) in
-    deliver-handed (args .result .now) (c .as-written .result) (c .as-written .ensures ∙ told) (shape-told (λ s. written (rowShape s)) (args .a .now) (sym (at-read-lone .read-lone .ensures) ∙ told))
+    deliver-handed (args .result .now) (c .as-written .result) (c .as-written .ensures ∙ ap loneOf (c .before .enum-told2 .given .1)) (shape-told (λ s. recorded (rowShape s)) (args .a .now) _ (at-read-lone .read-lone .ensures) (c .before .enum-told2 .given .1))
 
-lone-shape-requires : tie.Need-lone-shape-requires
-lone-shape-requires c κs =
+-- src/bytes.rt:57:26
+shape-at-requires : tie.Need-shape-at-requires
+shape-at-requires c κs =
+    let entry = c .before .before .before .before .before in
+    let at-shared-slice-known = c .before .before .before .before in
     let at-read-lone = c .before .before in
-    (sym (at-read-lone .read-lone .ensures) ∙ ap loneOf (c .enum-told .given .1))
+    (maxDepth, shape-there (λ s. recorded (rowShape s)) (entry .args .a .now) _ (at-read-lone .read-lone .ensures) (λ i. omega (arith, at-shared-slice-known .shared-slice-known .given i)) (c .enum-told .given .1))
 
+-- src/bytes.rt:57:17
 into-row-requires : tie.Need-into-row-requires
 into-row-requires c κs = search needs
 
+-- src/bytes.rt:57:5
 write-shape-requires : tie.Need-write-shape-requires
 write-shape-requires c κs = search needs
 
+-- src/bytes.rt:50:1
 same-length : tie.Need-same-length
 same-length c = search needs
 
+-- src/bytes.rt:50:1
 returns-2 : tie.Need-returns-2
 returns-2 c =
     let entry = c .before .before .before .before .before .before .before .before .before .before .before in
-    let at-lone-shape = c .before .before .before .before .before in
+    let at-shared-slice-known = c .before .before .before .before .before .before .before .before .before .before in
+    let at-read-lone = c .before .before .before .before .before .before .before .before in
+    let at-enum-told = c .before .before .before .before .before .before in
+    let at-shape-at = c .before .before .before .before .before in
     let at-into-row = c .before .before .before .before in
     let at-write-shape = c .before .before in
     let args = entry .args in
-    at-write-shape .write-shape .ensures ∙ ap (λ o. deliver o (args .result .now)) (ap written (at-into-row .into-row .ensures) ∙ sym (shape-is (λ s. written (rowShape s)) (args .a .now) (at-lone-shape .lone-shape .ensures)))
+    at-write-shape .write-shape .ensures ∙ ap (λ o. deliver o (args .result .now)) (shape-is (λ s. recorded (rowShape s)) (args .a .now) _ (at-read-lone .read-lone .ensures) (λ i. omega (arith, at-shared-slice-known .shared-slice-known .given i)) (at-enum-told .enum-told .given .1) (λ d t h. ap recorded (at-into-row .into-row .ensures ∙ ap rowShape (at-shape-at .shape-at .ensures d t h))))
 
 pub row-shape-spec : {M : Type 1} → statement M
 row-shape-spec =
@@ -63,7 +83,7 @@ row-shape-spec =
     enum-told-2
     as-written-requires
     returns
-    lone-shape-requires
+    shape-at-requires
     into-row-requires
     write-shape-requires
     same-length

@@ -1,45 +1,62 @@
+use native.Mathlib.Omega.{arith}
 use mathlib.Core.Path.{sym, ap, _∙_}
+use Rattle.model.specs.Limits.{maxDepth}
+use Rattle.format.specs.Outcome.{accepted}
 use Rattle.record.specs.Answers.{loneOf}
 use Rattle.rules.specs.Shapes.{rank}
-use Rattle.format.specs.Outcome.{accepted}
-use Rattle.shape_calls.proofs.CallLaws.{shape-told, shape-is}
+use Rattle.shape_calls.proofs.CallLaws.{shape-told, shape-there, shape-is}
 use borrow.Author.Needs.{needs}
 use Rattle.shape_calls.proofs.bytes.shape_rank.Statement.{statement}
 use Rattle.shape_calls.proofs.bytes.shape_rank.Tie as tie
 use Rattle.shape_calls.proofs.bytes.shape_rank.Reads as reads
 use Rattle.shape_calls.proofs.bytes.shape_rank.Lts as lts
+use Rattle.known.proofs.shape_at.Reads as shape-at-reads
+use Rattle.record.proofs.read_lone.Reads as read-lone-reads
+use Rattle.shape.proofs.rank.Reads as rank-reads
+use Rattle.writer.proofs.as_counted.Reads as as-counted-reads
 
+-- src/bytes.rt:103:9
 read-lone-requires : tie.Need-read-lone-requires
 read-lone-requires c κs = search needs
 
 enum-told : tie.Need-enum-told
 enum-told c = search needs
 
+-- src/bytes.rt:105:9
 enum-told-2 : tie.Need-enum-told-2
 enum-told-2 c = search needs
 
+-- src/bytes.rt:105:9
 as-counted-requires : tie.Need-as-counted-requires
 as-counted-requires c κs = search needs
 
+-- src/bytes.rt:105:9
 returns : tie.Need-returns
 returns c =
     let entry = c .before .before .before .before .before in
     let at-read-lone = c .before .before .before in
-    let told = ap loneOf (c .before .enum-told2 .given .1) in
-    c .as-counted .ensures .0 ∙ (told ∙ sym (shape-told (λ s. accepted (rank s)) (entry .args .a .now) (sym (at-read-lone .read-lone .ensures) ∙ told)))
+    c .as-counted .ensures .0 ∙ ap loneOf (c .before .enum-told2 .given .1) ∙ sym (shape-told (λ s. accepted (rank s)) (entry .args .a .now) _ (at-read-lone .read-lone .ensures) (c .before .enum-told2 .given .1))
 
-lone-shape-requires : tie.Need-lone-shape-requires
-lone-shape-requires c κs =
+-- src/bytes.rt:107:25
+shape-at-requires : tie.Need-shape-at-requires
+shape-at-requires c κs =
+    let entry = c .before .before .before .before in
+    let at-shared-slice-known = c .before .before .before in
     let at-read-lone = c .before .before in
-    (sym (at-read-lone .read-lone .ensures) ∙ ap loneOf (c .enum-told .given .1))
+    (maxDepth, shape-there (λ s. accepted (rank s)) (entry .args .a .now) _ (at-read-lone .read-lone .ensures) (λ i. omega (arith, at-shared-slice-known .shared-slice-known .given i)) (c .enum-told .given .1))
 
+-- src/bytes.rt:107:20
 rank-requires : tie.Need-rank-requires
 rank-requires c κs = search needs
 
+-- src/bytes.rt:100:1
 returns-2 : tie.Need-returns-2
 returns-2 c =
     let entry = c .before .before .before .before .before .before in
-    ap accepted (c .rank .ensures .0) ∙ sym (shape-is (λ s. accepted (rank s)) (entry .args .a .now) (c .before .lone-shape .ensures))
+    let at-shared-slice-known = c .before .before .before .before .before in
+    let at-read-lone = c .before .before .before .before in
+    let at-enum-told = c .before .before in
+    shape-is (λ s. accepted (rank s)) (entry .args .a .now) _ (at-read-lone .read-lone .ensures) (λ i. omega (arith, at-shared-slice-known .shared-slice-known .given i)) (at-enum-told .enum-told .given .1) (λ d t h. ap accepted (c .rank .ensures .0 ∙ ap rank (c .before .shape-at .ensures d t h)))
 
 pub shape-rank-spec : {M : Type 1} → statement M
 shape-rank-spec =
@@ -50,6 +67,6 @@ shape-rank-spec =
     enum-told-2
     as-counted-requires
     returns
-    lone-shape-requires
+    shape-at-requires
     rank-requires
     returns-2)

@@ -1,41 +1,49 @@
 -- `check_shape`: what it comes to on two types that were read.
-use Prim.Native.Nat.{ℕ}
-use native.Mathlib.Omega.{arith}
-use mathlib.Core.Bool.{true, false}
-use mathlib.Core.List.{List, _++_}
+use Prim.Native.Nat.{ℕ, _-_}
+use mathlib.Core.List.{List, [], _++_}
 use mathlib.Core.Path.{_≡_, refl, sym, _∙_, ap}
-use Rattle.model.specs.Refusals.{wrongShape}
-use Rattle.model.specs.Types.{Shape, Scalar, Ty, ty, shapeOf}
+use lib.ListN.{length, take, drop}
+use Rattle.model.specs.Types.{Shape, Scalar, Ty, ty}
+use Rattle.format.specs.Reader.{Bytes}
 use Rattle.format.specs.Records.{writeShape, writeScalar, writeTy}
-use Rattle.format.specs.Outcome.{Outcome, accepted, refused, mapped, both, scalarRecord}
+use Rattle.format.specs.Views.{rest-is}
+use Rattle.format.specs.Outcome.{Outcome, accepted, refused, mapped, both, lone}
 use Rattle.record.specs.Answers.{shapeFor}
-use Rattle.validation.specs.CheckShape.{Side, checkShape}
+use Rattle.validation.specs.CheckShape.{Side, refusedBy}
 use Rattle.validation.specs.Validate.{checkShapeOnly}
-use Rattle.validate.specs.Answers.{checkedOf}
-use Rattle.validate.specs.declared.Checked.{Checked}
+use Rattle.known.specs.WholeLaws.{Begins, record-there}
+use Rattle.validate.specs.Answers.{clashOf, checkedOf}
+use Rattle.validate.specs.Plans.{shapeAfter}
+use Rattle.validate.specs.declared.Clash.the-variants.{Clear, Numbered}
+use Rattle.validate.specs.declared.ShapeChecked.{ShapeChecked}
+use Rattle.validate.proofs.WholeLaws.{Lones}
 
-module _ (side : Side) (x y : Outcome Ty) {s t : Shape} {w : List ℕ} (first : mapped shapeOf x ≡ accepted s) (second : mapped shapeOf y ≡ accepted t) (rest : mapped scalarRecord y ≡ accepted w) where
-  shape-only : both (λ a b. mapped writeTy (checkShapeOnly side a b)) x y ≡ mapped (λ u. writeShape u ++ w) (checkShape side s t)
+module _ {s t : List ℕ} (v : Lones s t) (side : Side) where
+  -- what the call comes to
+  abbrev pub shapeCheck : Outcome (List ℕ)
+  shapeCheck = both (λ a b. mapped writeTy (checkShapeOnly side a b)) (lone s) (lone t)
+
+  -- the type's scalar stays
+  abbrev with-scalar : Shape → List ℕ
+  with-scalar u = writeShape u ++ writeScalar (v .pair .type-scalar)
+
+  shape-only : shapeCheck ≡ mapped with-scalar (shapeAfter side (v .pair))
   unfolding checkShapeOnly writeTy
-  shape-only = go x y first second rest
+  shape-only = rw (v .first, v .second) (out (shapeAfter side (v .pair)) (v .pair .type-scalar))
     where
       out : (o : Outcome Shape) (l : Scalar) → mapped writeTy (mapped (λ u. ty u l) o) ≡ mapped (λ u. writeShape u ++ writeScalar l) o
       out (accepted u) l = refl
       out (refused k p) l = refl
 
-      go : (x y : Outcome Ty) → mapped shapeOf x ≡ accepted s → mapped shapeOf y ≡ accepted t → mapped scalarRecord y ≡ accepted w → both (λ a b. mapped writeTy (checkShapeOnly side a b)) x y ≡ mapped (λ u. writeShape u ++ w) (checkShape side s t)
-      go (accepted (ty a k)) (accepted (ty b l)) e f g =
-          let i : a ≡ s = cc in
-          let j : b ≡ t = cc in
-          let h : writeScalar l ≡ w = cc in
-          rw (← i, ← j, ← h) (out (checkShape side a b) l)
-      go (accepted (ty a k)) (refused j q) e f g = let z : _≡_ {A = ℕ} 0 1 = cc in absurd (omega arith)
-      go (refused j q) y e f g = let z : _≡_ {A = ℕ} 0 1 = cc in absurd (omega arith)
+  module _ (r : ShapeChecked) (checked : checkedOf r ≡ shapeAfter side (v .pair)) where
+    answered : shapeCheck ≡ mapped with-scalar (refusedBy (clashOf (r .clash)) (shapeFor (r .shape)))
+    answered = shape-only ∙ ap (mapped with-scalar) (sym checked)
 
-  pub shape-merged : (r : Checked) → checkedOf r ≡ checkShape side s t → r .clash ≡ false → both (λ a b. mapped writeTy (checkShapeOnly side a b)) x y ≡ accepted (writeShape (shapeFor (r .shape)) ++ w)
-  shape-merged r checked e = shape-only ∙ ap (mapped (λ u. writeShape u ++ w)) (sym checked) ∙ rw e
+    pub shape-clash : {n : ℕ} → r .clash ≡ Numbered n → shapeCheck ≡ refused n 0
+    shape-clash e = answered ∙ ap (λ c. mapped with-scalar (refusedBy (clashOf c) (shapeFor (r .shape)))) e
 
--- the type's scalar is not looked at
-pub shape-clash : (side : Side) (x y : Outcome Ty) {s t : Shape} → mapped shapeOf x ≡ accepted s → mapped shapeOf y ≡ accepted t → (r : Checked) → checkedOf r ≡ checkShape side s t → r .clash ≡ true → both (λ a b. mapped writeTy (checkShapeOnly side a b)) x y ≡ refused wrongShape 0
-shape-clash side x (accepted (ty b l)) first second r checked e = shape-only side x (accepted (ty b l)) first second refl ∙ ap (mapped (λ u. writeShape u ++ writeScalar l)) (sym checked) ∙ rw e
-shape-clash side x (refused k p) first second r checked e = let z : _≡_ {A = ℕ} 0 1 = cc in absurd (omega arith)
+    pub shape-merged : Bytes t → {at : ℕ} → Begins t at → r .clash ≡ Clear → shapeCheck ≡ accepted (writeShape (shapeFor (r .shape)) ++ ([] ++ take (length t - at) (drop at t)))
+    shape-merged small {at} begins e =
+        let scalar : drop at t ≡ writeScalar (v .pair .type-scalar) = record-there t small begins (ty (v .pair .type-shape) (v .pair .type-scalar)) (v .second) in
+        let bytes = ap (λ w. accepted (writeShape (shapeFor (r .shape)) ++ w)) (sym (rest-is t at ∙ scalar)) in
+        answered ∙ ap (λ c. mapped with-scalar (refusedBy (clashOf c) (shapeFor (r .shape)))) e ∙ bytes

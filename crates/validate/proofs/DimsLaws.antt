@@ -5,7 +5,7 @@ use native.Mathlib.Numerals.{add-one}
 use mathlib.Core.Bool.{Bool, true, false, not, _&&_, cond}
 use mathlib.Core.List.{List, [], _∷_, _++_, reverse}
 use mathlib.Core.Path.{_≡_, refl, sym, _∙_, ap}
-use lib.ListN.{length, drop, getD, length-append, List·getD-eq-default, List·getD-append}
+use lib.ListN.{length, drop, getD, length-append, length-reverse, List·getD-eq-default, List·getD-append}
 use lib.Dec.{eqb}
 use borrow.Author.Tests.{eqb-true, eqb-false, eq-eqb, ne-eqb, not-true, not-false}
 use Rattle.model.specs.Limits.{ones}
@@ -18,11 +18,11 @@ use Rattle.rules.specs.Sizes.{compatible}
 use Rattle.rules.specs.Lists.{getD-reverse}
 use Rattle.validation.specs.CheckShape.{agree, equalDim, equalDims}
 use Rattle.validation.specs.CheckShapeLaws.{equalDims-true}
-use Rattle.validation.specs.CheckShapeSteps.{agree-step, equal-step}
+use Rattle.validation.specs.CheckShapeSteps.{agree-step, equal-step, equal-end}
 
 -- ---- what stands at an index
 
-pub size-from-end : (d : Dims) (i : ℕ) {n : ℕ} → n ≡ length (dimsOf d) → i < n → dimOf (getD (d .sizes) (n - 1 - i) 0) ≡ getD (reverse (dimsOf d)) i unknown
+size-from-end : (d : Dims) (i : ℕ) {n : ℕ} → n ≡ length (dimsOf d) → i < n → dimOf (getD (d .sizes) (n - 1 - i) 0) ≡ getD (reverse (dimsOf d)) i unknown
 size-from-end d i {n} e h = size-at d (n - 1 - i) (omega arith) ∙ sym (getD-reverse (dimsOf d) i (n - 1 - i) unknown (omega arith))
 
 getD-behind : (l m : List Dim) (i : ℕ) → getD (l ++ m) (length l + i) unknown ≡ getD m i unknown
@@ -47,10 +47,10 @@ module _ (o p : List Dim) (i : ℕ) (m : i < length o) (n : i < length p) {x y :
   both-agree : agree (drop i o) (drop i p) ≡ (t && agree (drop (i + 1) o) (drop (i + 1) p))
   both-agree = agree-step i o p unknown m n ∙ rw (w, e, f, add-one)
 
-  pub agree-more : not t ≡ false → agree (drop i o) (drop i p) ≡ agree (drop (i + 1) o) (drop (i + 1) p)
+  agree-more : not t ≡ false → agree (drop i o) (drop i p) ≡ agree (drop (i + 1) o) (drop (i + 1) p)
   agree-more u = rw (not-false t u) at both-agree
 
-  pub agree-stop : not t ≡ true → agree (drop i o) (drop i p) ≡ false
+  agree-stop : not t ≡ true → agree (drop i o) (drop i p) ≡ false
   agree-stop u = rw (not-true t u) at both-agree
 
 -- ---- equal sizes
@@ -69,15 +69,67 @@ module _ (o p : List Dim) (i : ℕ) (m : i < length o) (n : i < length p) (x y :
   both-equal : equalDims (drop i o) (drop i p) ≡ (eqb x y && equalDims (drop (i + 1) o) (drop (i + 1) p))
   both-equal = equal-step i o p unknown m n ∙ rw (← e, ← f, equal-numbers x y, add-one)
 
-  pub equal-more : x ≡ y → equalDims (drop i o) (drop i p) ≡ equalDims (drop (i + 1) o) (drop (i + 1) p)
+  equal-more : x ≡ y → equalDims (drop i o) (drop i p) ≡ equalDims (drop (i + 1) o) (drop (i + 1) p)
   equal-more u = rw (eq-eqb x y u) at both-equal
 
-  pub equal-stop : (x ≡ y → ⊥) → equalDims (drop i o) (drop i p) ≡ false
+  equal-stop : (x ≡ y → ⊥) → equalDims (drop i o) (drop i p) ≡ false
   equal-stop u = rw (ne-eqb x y u) at both-equal
 
-pub equal-uneven : (o p : List Dim) → (length o ≡ length p → ⊥) → equalDims o p ≡ false
+equal-uneven : (o p : List Dim) → (length o ≡ length p → ⊥) → equalDims o p ≡ false
 equal-uneven o p h = go (equalDims o p) refl
   where
     go : (t : Bool) → equalDims o p ≡ t → t ≡ false
     go true e = absurd (h (ap length (equalDims-true o p e)))
     go false e = refl
+
+-- ---- by value: lists of m and n sizes, at an index of both
+
+module _ (a b : Dims) (i : ℕ) {m n : ℕ} (e : m ≡ length (dimsOf a)) (f : n ≡ length (dimsOf b)) (h : i < m) (k : i < n) {t : Bool} where
+  module _ (w : t ≡ compatible (dimOf (getD (a .sizes) i 0)) (dimOf (getD (b .sizes) i 0))) where
+    pub sizes-more : not t ≡ false → agree (drop i (dimsOf a)) (drop i (dimsOf b)) ≡ agree (drop (i + 1) (dimsOf a)) (drop (i + 1) (dimsOf b))
+    sizes-more = agree-more (dimsOf a) (dimsOf b) i (omega arith) (omega arith) (size-at a i (omega arith)) (size-at b i (omega arith)) w
+
+    pub sizes-stop : not t ≡ true → agree (drop i (dimsOf a)) (drop i (dimsOf b)) ≡ false
+    sizes-stop = agree-stop (dimsOf a) (dimsOf b) i (omega arith) (omega arith) (size-at a i (omega arith)) (size-at b i (omega arith)) w
+
+  -- the same from the end
+  module _ (w : t ≡ compatible (dimOf (getD (a .sizes) (m - 1 - i) 0)) (dimOf (getD (b .sizes) (n - 1 - i) 0))) where
+    abbrev ra : List Dim
+    ra = reverse (dimsOf a)
+
+    abbrev rb : List Dim
+    rb = reverse (dimsOf b)
+
+    in-first : i < length ra
+    in-first = omega (arith, length-reverse (dimsOf a))
+
+    in-second : i < length rb
+    in-second = omega (arith, length-reverse (dimsOf b))
+
+    pub ends-more : not t ≡ false → agree (drop i ra) (drop i rb) ≡ agree (drop (i + 1) ra) (drop (i + 1) rb)
+    ends-more = agree-more ra rb i in-first in-second (size-from-end a i e h) (size-from-end b i f k) w
+
+    pub ends-stop : not t ≡ true → agree (drop i ra) (drop i rb) ≡ false
+    ends-stop = agree-stop ra rb i in-first in-second (size-from-end a i e h) (size-from-end b i f k) w
+
+-- l sizes and m after them against n
+module _ (a b c : Dims) {l m n : ℕ} (f : l ≡ length (dimsOf a)) (g : m ≡ length (dimsOf b)) (e : n ≡ length (dimsOf c)) where
+  abbrev ab : List Dim
+  ab = dimsOf a ++ dimsOf b
+
+  pub parts-uneven : (l + m ≡ n → ⊥) → false ≡ equalDims ab (dimsOf c)
+  parts-uneven h = sym (equal-uneven ab (dimsOf c) (λ q. h (omega (arith, q, length-append (dimsOf a) (dimsOf b)))))
+
+  module _ (q : l + m ≡ n) (i : ℕ) where
+    pub parts-end : n ≤ i → equalDims (drop i ab) (drop i (dimsOf c)) ≡ true
+    parts-end h = equal-end i ab (dimsOf c) (omega (arith, length-append (dimsOf a) (dimsOf b))) (omega arith)
+
+    module _ (h : i < n) (x : ℕ) (w : dimOf x ≡ getD ab i unknown) where
+      in-parts : i < length ab
+      in-parts = omega (arith, length-append (dimsOf a) (dimsOf b))
+
+      pub parts-more : x ≡ getD (c .sizes) i 0 → equalDims (drop i ab) (drop i (dimsOf c)) ≡ equalDims (drop (i + 1) ab) (drop (i + 1) (dimsOf c))
+      parts-more = equal-more ab (dimsOf c) i in-parts (omega arith) x (getD (c .sizes) i 0) w (size-at c i (omega arith))
+
+      pub parts-stop : (x ≡ getD (c .sizes) i 0 → ⊥) → equalDims (drop i ab) (drop i (dimsOf c)) ≡ false
+      parts-stop = equal-stop ab (dimsOf c) i in-parts (omega arith) x (getD (c .sizes) i 0) w (size-at c i (omega arith))

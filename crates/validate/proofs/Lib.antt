@@ -1,8 +1,9 @@
 mod DimsLaws
 mod ShapesLaws
 mod CallLaws
-mod PlacesLaws
+mod ListLaws
 mod PlanLaws
+mod HeadLaws
 mod CopyLaws
 mod WalkLaws
 mod WholeLaws

@@ -1,18 +1,23 @@
 -- `check_shape` on shapes by value: one law for each way out of a function.
-use Prim.Native.Nat.{_+_, _≤_, _<_}
+use Prim.Native.Nat.{ℕ, _+_}
 use native.Mathlib.Omega.{arith}
-use mathlib.Core.Bool.{Bool, true, false, not}
+use mathlib.Core.Bool.{Bool, true, false}
 use mathlib.Core.List.{List, [], _++_, reverse}
-use mathlib.Core.Option.{some}
-use mathlib.Core.Path.{_≡_, refl}
+use mathlib.Core.Option.{none, some}
+use mathlib.Core.Path.{_≡_, refl, sym, _∙_, ap}
 use lib.ListN.{length}
-use borrow.Author.Tests.{lt-ltb, le-ltb, eq-eqb, ne-eqb, not-true, not-false}
+use lib.Dec.{eqb, leb}
 use Rattle.model.specs.Types.{Dim, Shape, shape}
 use Rattle.record.specs.Answers.{dimsOf, shapeFor}
 use Rattle.record.specs.declared.Dims.{Dims}
 use Rattle.record.specs.declared.DynShape.{DynShape}
-use Rattle.rules.specs.Shapes.{isAny, rank}
-use Rattle.validation.specs.CheckShape.{Side, unsided, left, right, agree, equalDims, mismatch, shapeMismatch, sidedShape}
+use Rattle.format.specs.Outcome.{accepted}
+use Rattle.rules.specs.Shapes.{isAny, rank, mergeFrom}
+use Rattle.validation.specs.CheckShape.{Side, unsided, left, right, agree, equalDims, clash, mismatch, shapeMismatch, sidedShape, refusedBy, checkShape}
+use Rattle.validation.specs.CheckShapeLaws.{checkShape-match, checkShape-mismatch}
+use Rattle.validate.specs.Answers.{clashOf}
+use Rattle.validate.specs.declared.Clash.{Clash}
+use Rattle.validate.specs.declared.Clash.the-variants.{Clear, Numbered}
 
 module _ (o : List Dim) (t : DynShape) where
   abbrev p : List Dim
@@ -21,67 +26,57 @@ module _ (o : List Dim) (t : DynShape) where
   abbrev d : List Dim
   d = dimsOf (t .suffix)
 
-  -- ---- a closed type
-
-  module _ (e : t .closed ≡ true) where
-    pub unsided-uneven : (length p ≡ length o → ⊥) → true ≡ mismatch unsided o (shapeFor t)
+  -- m sizes of the type, n of the spec, and whether they agree
+  module _ (e : t .closed ≡ true) {m n : ℕ} (f : m ≡ length p) (g : n ≡ length o) {b : Bool} where
+    pub unsided-closed : b ≡ agree p o → clash (eqb m n) b ≡ mismatch unsided o (shapeFor t)
     unfolding mismatch
-    unsided-uneven h = rw (e, ne-eqb (length p) (length o) h)
+    unsided-closed a = rw (e, f, g, a)
 
-    pub unsided-even : {b : Bool} → length p ≡ length o → b ≡ agree p o → not b ≡ mismatch unsided o (shapeFor t)
+    pub left-closed : b ≡ agree p o → clash (leb n m) b ≡ mismatch left o (shapeFor t)
     unfolding mismatch
-    unsided-even h a = rw (e, a, eq-eqb (length p) (length o) h)
+    left-closed a = rw (e, f, g, a)
 
-    pub left-fewer : length p < length o → true ≡ mismatch left o (shapeFor t)
-    unfolding mismatch
-    left-fewer h = rw (e, lt-ltb (length p) (length o) h)
-
-    pub left-closed : {b : Bool} → length o ≤ length p → b ≡ agree p o → not b ≡ mismatch left o (shapeFor t)
-    unfolding mismatch
-    left-closed h a = rw (e, a, le-ltb (length p) (length o) h)
-
-    pub right-fewer : length p < length o → true ≡ mismatch right o (shapeFor t)
+    pub right-closed : b ≡ agree (reverse p) (reverse o) → clash (leb n m) b ≡ mismatch right o (shapeFor t)
     unfolding mismatch rank
-    right-fewer h = rw (e, lt-ltb (length p + 0) (length o) (omega arith))
+    right-closed a = let q : m ≡ length p + 0 = omega (arith, f) in rw (e, q, g, a)
 
-    pub right-closed : {b : Bool} → length o ≤ length p → b ≡ agree (reverse p) (reverse o) → not b ≡ mismatch right o (shapeFor t)
-    unfolding mismatch rank
-    right-closed h a = rw (e, a, le-ltb (length p + 0) (length o) (omega arith))
-
-  -- ---- an open type
-
-  module _ (e : t .closed ≡ false) where
-    pub unsided-open : {b : Bool} → b ≡ equalDims (p ++ d) o → not b ≡ mismatch unsided o (shapeFor t)
+  module _ (e : t .closed ≡ false) {b : Bool} where
+    pub unsided-open : b ≡ equalDims (p ++ d) o → clash true b ≡ mismatch unsided o (shapeFor t)
     unfolding mismatch
     unsided-open a = rw (e, a)
 
-    pub left-open : {b : Bool} → b ≡ agree p o → not b ≡ mismatch left o (shapeFor t)
+    pub left-open : b ≡ agree p o → clash true b ≡ mismatch left o (shapeFor t)
     unfolding mismatch
     left-open a = rw (e, a)
 
-    pub right-short : length p + length d < length o → true ≡ mismatch right o (shapeFor t)
+    pub right-open : {l m n : ℕ} → l ≡ length p → m ≡ length d → n ≡ length o → b ≡ agree (reverse d) (reverse o) → clash (leb n (l + m)) b ≡ mismatch right o (shapeFor t)
     unfolding mismatch rank
-    right-short h = rw (e, lt-ltb (length p + length d) (length o) h)
-
-    pub right-open : {b : Bool} → length o ≤ length p + length d → b ≡ agree (reverse d) (reverse o) → not b ≡ mismatch right o (shapeFor t)
-    unfolding mismatch rank
-    right-open h a = rw (e, a, le-ltb (length p + length d) (length o) h)
+    right-open x f g a = rw (e, x, f, g, a)
 
 -- ---- with what excuses it
 
-module _ (side : Side) (o : List Dim) (c : _) (t : Shape) {m : Bool} (e : m ≡ mismatch side o t) where
-  pub fits : not m ≡ true → false ≡ shapeMismatch side (shape o c) t
+module _ (side : Side) (o : List Dim) (c : _) (t : Shape) {a : Bool} (f : a ≡ isAny (shape o c)) where
+  pub excused-spec : a ≡ true → none ≡ shapeMismatch side (shape o c) t
   unfolding shapeMismatch
-  fits h = rw (← e, not-true m h)
+  excused-spec h = rw (← f, h)
 
-  module _ (h : not m ≡ false) where
-    pub excused : {a : Bool} → a ≡ isAny (shape o c) → a ≡ true → false ≡ shapeMismatch side (shape o c) t
+  module _ (h : a ≡ false) {b : Bool} (g : b ≡ isAny t) where
+    pub excused-type : b ≡ true → none ≡ shapeMismatch side (shape o c) t
     unfolding shapeMismatch
-    excused f k = rw (← e, not-false m h, ← f, k)
+    excused-type k = rw (← f, h, ← g, k)
 
-    pub unless : {a b : Bool} → a ≡ isAny (shape o c) → a ≡ false → b ≡ isAny t → not b ≡ shapeMismatch side (shape o c) t
+    pub not-excused : b ≡ false → mismatch side o t ≡ shapeMismatch side (shape o c) t
     unfolding shapeMismatch
-    unless f k g = rw (← e, not-false m h, ← f, k, g)
+    not-excused k = rw (← f, h, ← g, k)
+
+-- ---- the answer
+
+module _ (side : Side) (s t : Shape) {r : Clash} (e : clashOf r ≡ shapeMismatch side s t) where
+  pub clashed : (u : Shape) {n : ℕ} → r ≡ Numbered n → refusedBy (clashOf r) u ≡ checkShape side s t
+  clashed u h = ap (λ c. refusedBy (clashOf c) u) h ∙ sym (checkShape-mismatch side s t (sym e ∙ ap clashOf h))
+
+  pub merged : {u : Shape} → r ≡ Clear → u ≡ mergeFrom t (sidedShape side s) → refusedBy (clashOf r) u ≡ checkShape side s t
+  merged {u} h m = ap (λ c. refusedBy (clashOf c) u) h ∙ ap accepted m ∙ sym (checkShape-match side s t (sym e ∙ ap clashOf h))
 
 -- ---- what is merged
 

@@ -1,4 +1,4 @@
 pub mod Answers
-pub mod Places
+pub mod Lists
 pub mod Plans
 pub mod Walk

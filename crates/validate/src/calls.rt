@@ -1,19 +1,18 @@
 // The public calls: the spec is read whole first, then the type; a result that is too short is found last.
+use crate::Clash;
 use crate::Side;
-use crate::Wrote;
+use crate::Validated;
 use crate::descent::check_scalar_at;
 use crate::descent::check_type;
 use crate::shapes::check_shapes;
+use known::scalar_at;
+use known::shape_at;
 use lent::Written;
 use lent::hand_over;
 use limits::MAX_BYTES;
-use limits::refusal::WRONG_SHAPE;
 use record::Lone;
-use record::lone_scalar;
-use record::lone_shape;
 use record::read_both;
 use ty::write_parts;
-use walk::shape_at;
 use writer::as_written;
 use writer::put_shape;
 use writer::shape_length;
@@ -36,16 +35,16 @@ pub fn check_shape(side: Side, spec: &[u8], ty: &[u8], result: &mut [u8]) -> Wri
     let Lone::Accepted = read else {
         return as_written(read);
     };
-    let checked = check_shapes(side, lone_shape(spec), lone_shape(ty));
-    if checked.clash {
-        return Written::Refused {
-            number: WRONG_SHAPE,
-            place: 0,
-        };
+    let checked = check_shapes(side, shape_at(spec, 0), shape_at(ty, 0));
+    let clash = checked.clash;
+    match clash {
+        Clash::Clear => {
+            let shape = checked.shape;
+            let start = scalar_at(ty, 0);
+            write_parts(shape, b"", &ty[start..], &mut *result)
+        }
+        Clash::Numbered { number } => Written::Refused { number, place: 0 },
     }
-    let shape = checked.shape;
-    let start = lone_scalar(ty);
-    write_parts(shape, b"", &ty[start..], &mut *result)
 }
 
 // `validate`: scalar first, then shape. What the type then is goes to bytes of its own first, so that a refusal leaves the result
@@ -72,8 +71,8 @@ pub fn validate_known(side: Side, spec: &[u8], ty: &[u8], out: &mut [u8]) -> Wri
 {
     let w = check_type(side, spec, 0, ty, 0, 0, 0, &mut *out, 0);
     match w {
-        Wrote::Done { end, types: _ } => Written::Wrote(end),
-        Wrote::Refused { number } => Written::Refused { number, place: 0 },
+        Validated::Done { end, types: _ } => Written::Wrote(end),
+        Validated::Refused { number } => Written::Refused { number, place: 0 },
     }
 }
 
@@ -91,7 +90,7 @@ pub fn check_scalar(spec: &[u8], ty: &[u8], result: &mut [u8]) -> Written
     put_shape(&mut out, 0, shape);
     let w = check_scalar_at(spec, 0, ty, 0, 0, 0, &mut out, n);
     match w {
-        Wrote::Done { end, types: _ } => hand_over(&out[..end], &mut *result),
-        Wrote::Refused { number } => Written::Refused { number, place: 0 },
+        Validated::Done { end, types: _ } => hand_over(&out[..end], &mut *result),
+        Validated::Refused { number } => Written::Refused { number, place: 0 },
     }
 }

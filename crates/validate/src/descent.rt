@@ -2,35 +2,36 @@
 // contents, unsided. The spec's type stands at i and the type's at j; of the outermost type, `others` types stand elsewhere and `above`
 // around this one. What the type then is goes to a buffer from `to` on; a refusal says nothing of the buffer. The merged shape is
 // written first, since its length is needed, though a clash of shapes is answered only after one of scalars.
+use crate::Clash;
+use crate::Extent;
+use crate::Items;
 use crate::Plan;
 use crate::Side;
-use crate::Wrote;
+use crate::Validated;
 use crate::copies::copy_fields;
 use crate::copies::copy_scalar;
-use crate::copies::put_box;
-use crate::copies::put_name;
-use crate::places::next_place;
-use crate::places::next_type;
-use crate::places::span_at;
-use crate::places::types_in;
+use crate::heads::put_box;
+use crate::heads::put_name;
+use crate::lists::next_place;
+use crate::lists::next_type;
+use crate::lists::types_in;
 use crate::plans::plan_scalar;
 use crate::shapes::check_shapes;
+use known::shape_at;
+use known::span_at;
 use limits::BOX_ALL;
 use limits::records::ANY_TYPE;
-use limits::refusal::WRONG_SHAPE;
-use walk::shape_at;
 use writer::put_shape;
 use writer::shape_length;
 ghost use mathlib.Core.Path.{_≡_};
 ghost use Prim.Native.Nat.{_+_, _-_, _*_, _≤_};
-ghost use lib.ListN.{length, take};
-ghost use Rattle.format.specs.Suffices.{shapeBytes, boxBytes};
+ghost use lib.ListN.{length};
+ghost use Rattle.format.specs.Suffices.{boxBytes};
 ghost use Rattle.model.specs.Limits.{maxTypes};
-ghost use Rattle.format.specs.Outcome.{mapped};
-ghost use Rattle.validation.specs.CheckScalar.{inTurn};
 ghost use Rattle.validate.specs.Answers.{sideOf};
-ghost use Rattle.validate.specs.Plans.{Pair, scalarOf, sidedOf, Lists, fieldsOf};
-ghost use Rattle.validate.specs.Walk.{wroteOf, scalarPiece, typePiece, fieldsPiece, Roomy};
+ghost use Rattle.validate.specs.Plans.{Pair, TwoLists};
+ghost use Rattle.validate.specs.Walk.{typeBytes, TypeDone, ScalarDone, FieldsDone};
+ghost use Rattle.validate.specs.declared.Validated.the-variants.{Done};
 
 pub fn check_type(
     side: Side,
@@ -42,26 +43,25 @@ pub fn check_type(
     above: u64,
     out: &mut [u8],
     to: usize,
-) -> Wrote
-    requires { ⌜ Pair (now spec) i (now ty) j others above × (to + (shapeBytes + boxBytes) * (maxTypes - others) ≤ length (now out)) ⌝ }
-    ensures { λ r. ⌜ ((w : Pair (now (spec .entry)) i (now (ty .entry)) j others above) → (wroteOf r (now (out .exit)) ≡ mapped (typePiece (take to (now (out .entry)))) (inTurn (scalarOf others above w) (sidedOf (sideOf side) w))) × Roomy r to) ⌝ }
+) -> Validated
+    requires { ⌜ Pair (now spec) i (now ty) j others above × (to + typeBytes * (maxTypes - others) ≤ length (now out)) ⌝ }
+    ensures { λ r. ⌜ ((w : Pair (now (spec .entry)) i (now (ty .entry)) j others above) → TypeDone (sideOf side) w to (now (out .entry)) r (now (out .exit))) ⌝ }
 {
     let checked = check_shapes(side, shape_at(spec, i), shape_at(ty, j));
     let shape = checked.shape;
     let n = shape_length(shape);
     put_shape(&mut *out, to, shape);
     let w = check_scalar_at(spec, i, ty, j, others, above, &mut *out, to + n);
-    let Wrote::Done { end, types } = w else {
+    let Validated::Done { end, types } = w else {
         return w;
     };
-    if checked.clash {
-        return Wrote::Refused {
-            number: WRONG_SHAPE,
-        };
-    }
-    Wrote::Done {
-        end,
-        types: types + 1,
+    let clash = checked.clash;
+    match clash {
+        Clash::Clear => Validated::Done {
+            end,
+            types: types + 1,
+        },
+        Clash::Numbered { number } => Validated::Refused { number },
     }
 }
 
@@ -74,17 +74,17 @@ pub fn check_scalar_at(
     above: u64,
     out: &mut [u8],
     to: usize,
-) -> Wrote
-    requires { ⌜ Pair (now spec) i (now ty) j others above × (to + boxBytes + (shapeBytes + boxBytes) * (maxTypes - 1 - others) ≤ length (now out)) ⌝ }
-    ensures { λ r. ⌜ ((w : Pair (now (spec .entry)) i (now (ty .entry)) j others above) → (wroteOf r (now (out .exit)) ≡ mapped (scalarPiece (take to (now (out .entry)))) (scalarOf others above w)) × Roomy r (to + boxBytes)) ⌝ }
+) -> Validated
+    requires { ⌜ Pair (now spec) i (now ty) j others above × (to + boxBytes + typeBytes * (maxTypes - 1 - others) ≤ length (now out)) ⌝ }
+    ensures { λ r. ⌜ ((w : Pair (now (spec .entry)) i (now (ty .entry)) j others above) → ScalarDone w to (now (out .entry)) r (now (out .exit))) ⌝ }
 {
     let plan = plan_scalar(spec, i, ty, j, others, above);
     match plan {
-        Plan::Refuse { number } => Wrote::Refused { number },
-        Plan::Keep => copy_scalar(ty, j, &mut *out, to),
-        Plan::Take => copy_scalar(spec, i, &mut *out, to),
+        Plan::Refuse { number } => Validated::Refused { number },
+        Plan::Keep => done(copy_scalar(ty, j, &mut *out, to)),
+        Plan::Take => done(copy_scalar(spec, i, &mut *out, to)),
         Plan::Inside { content, other } => {
-            put_box(&mut *out, to, BOX_ALL);
+            let inner = put_box(&mut *out, to, BOX_ALL);
             check_type(
                 Side::Unsided,
                 spec,
@@ -94,31 +94,23 @@ pub fn check_scalar_at(
                 others + 1,
                 above + 1,
                 &mut *out,
-                to + 6,
+                inner,
             )
         }
         Plan::Pairs {
-            content,
-            limit,
-            moves,
-            other,
-            count,
-            steps,
+            wanted,
+            own,
             fresh,
             name,
             borrowed,
         } => {
-            let start = put_name(spec, ty, borrowed, name, count as u8, &mut *out, to);
+            let start = put_name(spec, ty, borrowed, name, own.count as u8, &mut *out, to);
             if fresh {
                 return check_fields(
                     spec,
-                    content,
-                    limit,
-                    moves,
+                    wanted,
                     &ANY_TYPE,
-                    other,
-                    count,
-                    steps,
+                    own,
                     others + 1,
                     above + 1,
                     &mut *out,
@@ -127,13 +119,9 @@ pub fn check_scalar_at(
             }
             check_fields(
                 spec,
-                content,
-                limit,
-                moves,
+                wanted,
                 ty,
-                other,
-                count,
-                steps,
+                own,
                 others + 1,
                 above + 1,
                 &mut *out,
@@ -143,34 +131,40 @@ pub fn check_scalar_at(
     }
 }
 
+// What was copied is not refused.
+fn done(x: Extent) -> Validated
+    ensures { λ r. ⌜ r ≡ Done (x .end) (x .types) ⌝ }
+{
+    Validated::Done {
+        end: x.end,
+        types: x.types,
+    }
+}
+
 // Two lists of fields, pair by pair as far as both go; what is left of the type's stays.
 fn check_fields(
     spec: &[u8],
-    first: usize,
-    limit: u64,
-    moves: bool,
+    wanted: Items,
     source: &[u8],
-    second: usize,
-    count: u64,
-    steps: bool,
+    own: Items,
     others: u64,
     above: u64,
     out: &mut [u8],
     to: usize,
-) -> Wrote
-    requires { ⌜ Lists (now spec) first limit moves (now source) second count steps others above × (to + (shapeBytes + boxBytes) * (maxTypes - others) ≤ length (now out)) ⌝ }
-    ensures { λ r. ⌜ ((w : Lists (now (spec .entry)) first limit moves (now (source .entry)) second count steps others above) → (wroteOf r (now (out .exit)) ≡ mapped (fieldsPiece (take to (now (out .entry))) 0) (fieldsOf others above w)) × Roomy r to) ⌝ }
+) -> Validated
+    requires { ⌜ TwoLists (now spec) wanted (now source) own others above × (to + typeBytes * (maxTypes - others) ≤ length (now out)) ⌝ }
+    ensures { λ r. ⌜ ((w : TwoLists (now (spec .entry)) wanted (now (source .entry)) own others above) → FieldsDone w to (now (out .entry)) r (now (out .exit))) ⌝ }
 {
-    let mut i = first;
-    let mut j = second;
+    let mut i = wanted.at;
+    let mut j = own.at;
     let mut end = to;
     let mut before = others;
-    let mut rest = types_in(source, second, count, steps);
-    let mut left = count;
-    let mut todo = limit;
+    let mut rest = types_in(source, own.at, own.count, own.moves);
+    let mut left = own.count;
+    let mut todo = wanted.count;
     while 0 < todo {
         if left == 0 {
-            return Wrote::Done {
+            return Validated::Done {
                 end,
                 types: before - others,
             };
@@ -188,22 +182,19 @@ fn check_fields(
             &mut *out,
             end,
         );
-        let Wrote::Done { end: e, types } = w else {
+        let Validated::Done { end: e, types } = w else {
             return w;
         };
-        i = next_type(spec, i, moves);
-        j = next_place(j, span.end, steps);
+        i = next_type(spec, i, wanted.moves);
+        j = next_place(j, span.end, own.moves);
         end = e;
         before += types;
         left -= 1;
         todo -= 1;
     }
-    let w = copy_fields(source, j, left, steps, &mut *out, end);
-    let Wrote::Done { end: e, types } = w else {
-        return w;
-    };
-    Wrote::Done {
-        end: e,
-        types: before - others + types,
+    let tail = copy_fields(source, j, left, own.moves, &mut *out, end);
+    Validated::Done {
+        end: tail.end,
+        types: before - others + tail.types,
     }
 }

@@ -4,7 +4,8 @@ mod calls;
 mod copies;
 mod descent;
 mod dims;
-mod places;
+mod heads;
+mod lists;
 mod plans;
 mod shapes;
 
@@ -21,33 +22,23 @@ pub enum Side {
     Right,
 }
 
-// Whether a spec's shape clashes with a type's, and the shape that the type has if it does not.
-struct Checked {
-    pub clash: bool,
+// Whether a spec's shape clashes with a type's, and the number of the refusal if it does.
+enum Clash {
+    Clear,
+    Numbered { number: u8 },
+}
+
+// The same, and the shape that the type has if it does not.
+struct ShapeChecked {
+    pub clash: Clash,
     pub shape: DynShape,
 }
 
-// How many types a type is, itself counted, and the place after it.
-struct Span {
-    pub types: u64,
-    pub end: usize,
-}
-
-// What a type's scalar is, and where what it holds begins: an All box's content; a Def's name, its fields and their count.
-enum View {
-    Plain {
-        code: u64,
-    },
-    BoxAny,
-    BoxAll {
-        content: usize,
-    },
-    BoxDef {
-        name: usize,
-        named: bool,
-        fields: usize,
-        count: u64,
-    },
+// A list of types: where it stands, how many they are, and whether they stand one after the other or all at that place.
+struct Items {
+    pub at: usize,
+    pub count: u64,
+    pub moves: bool,
 }
 
 // What a spec's scalar asks of a type's: a refusal; the type's scalar as it is; the spec's; the contents of two All boxes, at
@@ -62,23 +53,25 @@ enum Plan {
         content: usize,
         other: usize,
     },
-    // The spec's list: its place and count, and whether its types stand one after the other or all at that place. The type's
-    // list likewise, which stands in the type's bytes or is made of [..] Any. The Def's name, in the spec's bytes or the type's.
+    // The spec's list, and the type's, which stands in the type's bytes or is made of [..] Any. The Def's name, in the spec's
+    // bytes or the type's.
     Pairs {
-        content: usize,
-        limit: u64,
-        moves: bool,
-        other: usize,
-        count: u64,
-        steps: bool,
+        wanted: Items,
+        own: Items,
         fresh: bool,
         name: usize,
         borrowed: bool,
     },
 }
 
-// Where the bytes written end and how many types they are, or the number of a refusal.
-enum Wrote {
+// Where the bytes written end, and how many types they are.
+struct Extent {
+    pub end: usize,
+    pub types: u64,
+}
+
+// The same, or the number of a refusal.
+enum Validated {
     Done { end: usize, types: u64 },
     Refused { number: u8 },
 }

@@ -1,9 +1,11 @@
 // `check_shape` on shapes by value.
-use crate::Checked;
+use crate::Clash;
+use crate::ShapeChecked;
 use crate::Side;
 use crate::dims::agree;
 use crate::dims::agree_ends;
 use crate::dims::equal_dims;
+use limits::refusal::WRONG_SHAPE;
 use record::Dims;
 use record::DynShape;
 use record::no_dims;
@@ -12,56 +14,64 @@ use shape::merge_from;
 use writer::size_count;
 ghost use mathlib.Core.Path.{_≡_};
 ghost use Rattle.record.specs.Answers.{dimsOf, shapeFor};
-ghost use Rattle.validation.specs.CheckShape.{unsided, left, right, mismatch, shapeMismatch, sidedShape, checkShape};
-ghost use Rattle.validate.specs.Answers.{sideOf, checkedOf};
+ghost use Rattle.validation.specs.CheckShape.{unsided, left, right, clash, mismatch, shapeMismatch, sidedShape, checkShape};
+ghost use Rattle.validate.specs.Answers.{sideOf, clashOf, checkedOf};
+
+// Counts were tested, then sizes: what a mismatch is refused with. This alone chooses the number.
+fn judge(counts: bool, sizes: bool) -> Clash
+    ensures { λ r. ⌜ clashOf r ≡ clash counts sizes ⌝ }
+{
+    if !counts {
+        return Clash::Numbered {
+            number: WRONG_SHAPE,
+        };
+    }
+    if !sizes {
+        return Clash::Numbered {
+            number: WRONG_SHAPE,
+        };
+    }
+    Clash::Clear
+}
 
 // The opening sizes of a spec against a type's shape, without a side.
-fn mismatch_unsided(o: Dims, t: DynShape) -> bool
-    ensures { λ r. ⌜ r ≡ mismatch unsided (dimsOf o) (shapeFor t) ⌝ }
+fn mismatch_unsided(o: Dims, t: DynShape) -> Clash
+    ensures { λ r. ⌜ clashOf r ≡ mismatch unsided (dimsOf o) (shapeFor t) ⌝ }
 {
     let dims = t.dims;
     if t.closed {
-        if size_count(dims) != size_count(o) {
-            return true;
-        }
-        return !agree(dims, o);
+        return judge(size_count(dims) == size_count(o), agree(dims, o));
     }
     let suffix = t.suffix;
-    !equal_dims(dims, suffix, o)
+    judge(true, equal_dims(dims, suffix, o))
 }
 
-fn mismatch_left(o: Dims, t: DynShape) -> bool
-    ensures { λ r. ⌜ r ≡ mismatch left (dimsOf o) (shapeFor t) ⌝ }
+fn mismatch_left(o: Dims, t: DynShape) -> Clash
+    ensures { λ r. ⌜ clashOf r ≡ mismatch left (dimsOf o) (shapeFor t) ⌝ }
 {
     let dims = t.dims;
     if t.closed {
-        if size_count(dims) < size_count(o) {
-            return true;
-        }
-        return !agree(dims, o);
+        return judge(size_count(o) <= size_count(dims), agree(dims, o));
     }
-    !agree(dims, o)
+    judge(true, agree(dims, o))
 }
 
-fn mismatch_right(o: Dims, t: DynShape) -> bool
-    ensures { λ r. ⌜ r ≡ mismatch right (dimsOf o) (shapeFor t) ⌝ }
+fn mismatch_right(o: Dims, t: DynShape) -> Clash
+    ensures { λ r. ⌜ clashOf r ≡ mismatch right (dimsOf o) (shapeFor t) ⌝ }
 {
     let dims = t.dims;
     if t.closed {
-        if size_count(dims) < size_count(o) {
-            return true;
-        }
-        return !agree_ends(dims, o);
+        return judge(size_count(o) <= size_count(dims), agree_ends(dims, o));
     }
     let suffix = t.suffix;
-    if size_count(dims) + size_count(suffix) < size_count(o) {
-        return true;
-    }
-    !agree_ends(suffix, o)
+    judge(
+        size_count(o) <= size_count(dims) + size_count(suffix),
+        agree_ends(suffix, o),
+    )
 }
 
-fn mismatch(side: Side, o: Dims, t: DynShape) -> bool
-    ensures { λ r. ⌜ r ≡ mismatch (sideOf side) (dimsOf o) (shapeFor t) ⌝ }
+fn mismatch(side: Side, o: Dims, t: DynShape) -> Clash
+    ensures { λ r. ⌜ clashOf r ≡ mismatch (sideOf side) (dimsOf o) (shapeFor t) ⌝ }
 {
     match side {
         Side::Unsided => mismatch_unsided(o, t),
@@ -71,17 +81,17 @@ fn mismatch(side: Side, o: Dims, t: DynShape) -> bool
 }
 
 // [..] on either side excuses a mismatch.
-fn clashes(side: Side, spec: DynShape, t: DynShape) -> bool
-    ensures { λ r. ⌜ r ≡ shapeMismatch (sideOf side) (shapeFor spec) (shapeFor t) ⌝ }
+fn find_clash(side: Side, spec: DynShape, t: DynShape) -> Clash
+    ensures { λ r. ⌜ clashOf r ≡ shapeMismatch (sideOf side) (shapeFor spec) (shapeFor t) ⌝ }
 {
-    let dims = spec.dims;
-    if !mismatch(side, dims, t) {
-        return false;
-    }
     if is_any(spec) {
-        return false;
+        return Clash::Clear;
     }
-    !is_any(t)
+    if is_any(t) {
+        return Clash::Clear;
+    }
+    let dims = spec.dims;
+    mismatch(side, dims, t)
 }
 
 // What is merged: for a side the spec's opening sizes alone, open, and for the right side as closing sizes.
@@ -105,18 +115,16 @@ fn sided_shape(side: Side, spec: DynShape) -> DynShape
 }
 
 // A spec's shape on a type's.
-pub fn check_shapes(side: Side, spec: DynShape, t: DynShape) -> Checked
+pub fn check_shapes(side: Side, spec: DynShape, t: DynShape) -> ShapeChecked
     ensures { λ r. ⌜ checkedOf r ≡ checkShape (sideOf side) (shapeFor spec) (shapeFor t) ⌝ }
 {
-    if clashes(side, spec, t) {
-        return Checked {
-            clash: true,
-            shape: t,
-        };
-    }
+    let clash = find_clash(side, spec, t);
+    let Clash::Clear = clash else {
+        return ShapeChecked { clash, shape: t };
+    };
     let merged = merge_from(t, sided_shape(side, spec));
-    Checked {
-        clash: false,
+    ShapeChecked {
+        clash,
         shape: merged,
     }
 }

@@ -35,6 +35,10 @@ unlessAny keeps k t l rest = cond (whollyAny (ty t l)) (measured keeps k) rest
 abbrev pub Content : Type 0
 Content = (Scalar → Bool) → Shape → Scalar → Outcome Scalar
 
+-- The rule for a list of contents: `keeps`, then the fields.
+abbrev pub Contents : Type 0
+Contents = (Fields → Bool) → Fields → Outcome Fields
+
 -- An All spec goes against each field of a Def.
 unfoldable pub eachField : Content → Shape → (Fields → Bool) → Fields → Outcome Fields
 eachField content s keeps noFields = accepted noFields
@@ -51,7 +55,7 @@ onAll content s k keeps (boxAll t l) = mapped boxOf (inTurn (content (λ x. keep
 onAll content s k keeps (boxDef m g) = mapped (boxDef m) (eachField content s (λ h. keeps (boxDef m h)) g)
 
 -- A Def spec on each scalar: box Any takes it, an All box passes.
-unfoldable pub onDef : ((Fields → Bool) → Fields → Outcome Fields) → Option (List ℕ) → Fields → (Scalar → Bool) → Scalar → Outcome Scalar
+unfoldable pub onDef : Contents → Option (List ℕ) → Fields → (Scalar → Bool) → Scalar → Outcome Scalar
 onDef contents n f keeps (plain l) = superset (boxDef n f) (plain l)
 onDef contents n f keeps boxAny = measured keeps (boxDef n f)
 onDef contents n f keeps (boxAll t l) = accepted (boxAll t l)

@@ -2,16 +2,17 @@
 -- lists end (`..-end`), from the front and from the end. And the test of an open type in the three parts that the file has.
 use Prim.Native.Nat.{ℕ, zero, suc, _+_, _-_, _≤_, _<_}
 use native.Mathlib.Omega.{arith}
-use mathlib.Core.Bool.{Bool, true, false, _&&_, _||_, not, and-assoc}
+use mathlib.Core.Bool.{Bool, true, false, _&&_, and-assoc}
 use mathlib.Core.List.{List, [], _∷_, _++_, reverse}
 use mathlib.Core.Option.{some}
 use mathlib.Core.Path.{_≡_, refl, sym, ap}
 use lib.ListN.{length, take, drop, getD, length-append, length-reverse, drop-of-length-le}
-use lib.Dec.{ltb}
-use borrow.Author.Tests.{ltb-true}
+use lib.Dec.{leb}
+use borrow.Author.Tests.{leb-false}
+use Rattle.model.specs.Refusals.{wrongShape}
 use Rattle.model.specs.Types.{Dim, shape}
 use Rattle.rules.specs.Sizes.{compatible}
-use Rattle.validation.specs.CheckShape.{unsided, agree, equalDim, equalDims, mismatch}
+use Rattle.validation.specs.CheckShape.{unsided, agree, equalDim, equalDims, clash, mismatch}
 use Rattle.validation.specs.CheckShapeLaws.{equalDims-true}
 
 -- ---- from the front
@@ -64,19 +65,15 @@ equal-parts [] d o = refl
 equal-parts (x ∷ p) d [] = refl
 equal-parts (x ∷ p) d (e ∷ o) = rw (equal-parts p d o) (sym (and-assoc (equalDim x e) (equalDims p (take (length p) o)) (equalDims d (drop (length p) o))))
 
-not-both : (a b : Bool) → not (a && b) ≡ (not a || not b)
-not-both true b = refl
-not-both false b = refl
-
--- The file's three tests of an open type without a side: more sizes than the spec, its opening sizes, its closing sizes.
-pub open-in-parts : (o p d : List Dim) → mismatch unsided o (shape p (some d)) ≡ (ltb (length o) (length p + length d) || (not (equalDims p (take (length p) o)) || not (equalDims d (drop (length p) o))))
+-- The file's three tests of an open type without a side: no more sizes than the spec, its opening sizes, its closing sizes.
+pub open-in-parts : (o p d : List Dim) → mismatch unsided o (shape p (some d)) ≡ clash (leb (length p + length d) (length o)) (equalDims p (take (length p) o) && equalDims d (drop (length p) o))
 unfolding mismatch
-open-in-parts o p d = go (ltb (length o) (length p + length d)) refl
+open-in-parts o p d = go (leb (length p + length d) (length o)) refl
   where
-    short : (t : Bool) → equalDims (p ++ d) o ≡ t → length o < length p + length d → not t ≡ true
-    short true e h = let q : length (p ++ d) ≡ length o = ap length (equalDims-true (p ++ d) o e) in absurd (omega (arith, length-append p d))
-    short false e h = refl
+    uneven : (t : Bool) → equalDims (p ++ d) o ≡ t → length o < length p + length d → clash true t ≡ some wrongShape
+    uneven true e h = let q : length (p ++ d) ≡ length o = ap length (equalDims-true (p ++ d) o e) in absurd (omega (arith, length-append p d))
+    uneven false e h = refl
 
-    go : (t : Bool) → ltb (length o) (length p + length d) ≡ t → not (equalDims (p ++ d) o) ≡ (t || (not (equalDims p (take (length p) o)) || not (equalDims d (drop (length p) o))))
-    go true h = short (equalDims (p ++ d) o) refl (ltb-true (length o) (length p + length d) h)
-    go false h = rw (equal-parts p d o) (not-both (equalDims p (take (length p) o)) (equalDims d (drop (length p) o)))
+    go : (t : Bool) → leb (length p + length d) (length o) ≡ t → clash true (equalDims (p ++ d) o) ≡ clash t (equalDims p (take (length p) o) && equalDims d (drop (length p) o))
+    go true h = ap (clash true) (equal-parts p d o)
+    go false h = uneven (equalDims (p ++ d) o) refl (leb-false (length p + length d) (length o) h)

@@ -26,9 +26,9 @@ pub data Example : Type 0 where
   -- the shape of a spec on the shape of a type
   theShapeCheck : Side → Shape → Shape → Outcome Shape → Example
 
-abbrev pub Holds : Example → Type 0
-Holds (theValidation side s t x) = validate side s t ≡ x
-Holds (theShapeCheck side s t x) = checkShape side s t ≡ x
+abbrev pub Shown : Example → Type 0
+Shown (theValidation side s t x) = validate side s t ≡ x
+Shown (theShapeCheck side s t x) = checkShape side s t ≡ x
 
 -- ---- how the examples are written
 
@@ -114,9 +114,89 @@ examples =
     ∷ theValidation unsided (def (of num scalar ∷ defN anyShape [] ∷ [])) (def (of char scalar ∷ of any (sized 31) ∷ [])) (refused wrongScalar 0)
     ∷ theValidation unsided (def (defN anyShape [] ∷ defN (sized 0) [] ∷ [])) (def (of any (sized 29) ∷ ty (sized 0) (boxOf (of num scalar)) ∷ [])) (refused tooMany 0)
     -- The same two the other way round: what was replaced no longer counts.
-    ∷ theValidation unsided (def (defN (sized 0) [] ∷ defN anyShape [] ∷ [])) (def (ty (sized 0) (boxOf (of num scalar)) ∷ of any (sized 29) ∷ [])) (accepted (def (defN (sized 0) [] ∷ ty (starting (29 ∷ [])) (boxDef (some (110 ∷ [])) (copies 29 anyTy)) ∷ [])))
+    ∷ theValidation unsided (def (defN (sized 0) [] ∷ defN anyShape [] ∷ [])) (def (ty (sized 0) (boxOf (of num scalar)) ∷ of any (sized 29) ∷ []))
+    (accepted (def (defN (sized 0) [] ∷ ty (starting (29 ∷ [])) (boxDef (some (110 ∷ [])) (copies 29 anyTy)) ∷ [])))
     ∷ []
 
-pub examples-hold : All Holds examples
-unfolding examples inside below cmpDim larger compatible isAny rank mergeDims mergeClosing mergeFrom code codeOf supersetCodes supersetOf whollyAny copies agree equalDim equalDims mismatch shapeMismatch sidedShape checkShape keepsLimits fieldsFor asBox copied named asFields eachField onAll onDef checkScalar validate
-examples-hold = (refl, (refl, (refl, (refl, (refl, (refl, (refl, (refl, (refl, (refl, (refl, (refl, (refl, (refl, (refl, (refl, (refl, (refl, (refl, (refl, (refl, (refl, (refl, (refl, (refl, (refl, (refl, (refl, (refl, (refl, (refl, (refl, (refl, (refl, (refl, (refl, (refl, (refl, tt))))))))))))))))))))))))))))))))))))))
+pub examples-shown : All Shown examples
+unfolding examples inside below cmpDim larger compatible isAny rank mergeDims mergeClosing mergeFrom code codeOf supersetCodes supersetOf whollyAny copies
+    agree equalDim equalDims mismatch shapeMismatch sidedShape checkShape keepsLimits fieldsFor asBox copied named asFields eachField onAll onDef checkScalar validate
+examples-shown = (
+  refl,
+  (
+    refl,
+    (
+      refl,
+      (
+        refl,
+        (
+          refl,
+          (
+            refl,
+            (
+              refl,
+              (
+                refl,
+                (
+                  refl,
+                  (
+                    refl,
+                    (
+                      refl,
+                      (
+                        refl,
+                        (
+                          refl,
+                          (
+                            refl,
+                            (
+                              refl,
+                              (
+                                refl,
+                                (
+                                  refl,
+                                  (
+                                    refl,
+                                    (
+                                      refl,
+                                      (
+                                        refl,
+                                        (
+                                          refl,
+                                          (
+                                            refl,
+                                            (
+                                              refl,
+                                              (
+                                                refl,
+                                                (
+                                                  refl,
+                                                  (
+                                                    refl,
+                                                    (refl, (refl, (refl, (refl, (refl, (refl, (refl, (refl, (refl, (refl, (refl, (refl, tt)))))))))))),
+                                                  ),
+                                                ),
+                                              ),
+                                            ),
+                                          ),
+                                        ),
+                                      ),
+                                    ),
+                                  ),
+                                ),
+                              ),
+                            ),
+                          ),
+                        ),
+                      ),
+                    ),
+                  ),
+                ),
+              ),
+            ),
+          ),
+        ),
+      ),
+    ),
+  ),
+)

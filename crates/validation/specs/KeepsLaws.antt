@@ -14,7 +14,7 @@ use Rattle.format.specs.Outcome.{Outcome, accepted}
 use Rattle.rules.specs.Types.{anyTy, copies}
 use Rattle.validation.specs.CheckShape.{unsided, checkShape}
 use Rattle.validation.specs.AsFields.{measured, fieldsFor, asBox, copied, orName, named, asFields}
-use Rattle.validation.specs.CheckScalar.{superset, Content, eachField, onAll, onDef, checkScalar, checkFields}
+use Rattle.validation.specs.CheckScalar.{superset, Content, Contents, eachField, onAll, onDef, checkScalar, checkFields}
 use Rattle.validation.specs.OutcomeLaws.{held, measured-accepted, superset-accepted, any-accepted, then-accepted, mapped-accepted, box-accepted, field-accepted}
 
 -- ---- a measure goes by count and depth
@@ -88,15 +88,16 @@ abbrev pub Keeping : Content → Type 0
 Keeping content = (keeps : Scalar → Bool) → Counts keeps → (t : Shape) (l x : Scalar) → keeps l ≡ true → content keeps t l ≡ accepted x → keeps x ≡ true
 
 -- a field as validated, the rest as it was
-pub field-keeps : (content : Content) → Keeping content → (keeps : Fields → Bool) → FieldsCount keeps → (t v : Shape) (l x : Scalar) (g : Fields) → keeps (field t l g) ≡ true → content (λ y. keeps (field t y g)) t l ≡ accepted x → keeps (field v x g) ≡ true
-field-keeps content keeping keeps c t v l x g h e = reshaped-field keeps c v t x g ∙ keeping (λ y. keeps (field t y g)) (at-field keeps c t g) t l x h e
+module _ (content : Content) (keeping : Keeping content) (keeps : Fields → Bool) (c : FieldsCount keeps) where
+  pub field-keeps : (t v : Shape) (l x : Scalar) (g : Fields) → keeps (field t l g) ≡ true → content (λ y. keeps (field t y g)) t l ≡ accepted x → keeps (field v x g) ≡ true
+  field-keeps t v l x g h e = reshaped-field keeps c v t x g ∙ keeping (λ y. keeps (field t y g)) (at-field keeps c t g) t l x h e
 
 module _ (content : Content) (keeping : Keeping content) (s : Shape) where
   pub eachField-keeps : (keeps : Fields → Bool) → FieldsCount keeps → (g h : Fields) → keeps g ≡ true → eachField content s keeps g ≡ accepted h → keeps h ≡ true
   unfolding eachField
   eachField-keeps keeps c noFields h i e = let w : noFields ≡ h = cc in rw (← w) i
   eachField-keeps keeps c (field t l g) h i e =
-      field-accepted (content (λ x. keeps (field t x g)) t l) (checkShape unsided s t) (λ r. eachField content s (λ f. keeps (fieldOf r f)) g) e λ x v f e₁ e₂ e₃ w.
+      field-accepted (content (λ x. keeps (field t x g)) t l) (checkShape unsided s t) (λ r. eachField content s (λ f. keeps (fieldOf r f)) g) e λ x v f (e₁, e₂, e₃, w).
       rw (← w) (eachField-keeps (λ f. keeps (field v x f)) (past-field keeps c v x) g f (field-keeps content keeping keeps c t v l x g i e₁) e₃)
 
   onAll-keeps : (k : Scalar) (keeps : Scalar → Bool) → Counts keeps → (l x : Scalar) → keeps l ≡ true → onAll content s k keeps l ≡ accepted x → keeps x ≡ true
@@ -110,17 +111,18 @@ module _ (content : Content) (keeping : Keeping content) (s : Shape) where
       mapped-accepted (boxDef m) (eachField content s (λ f. keeps (boxDef m f)) g) e λ f e₁ w.
       rw (← w) (eachField-keeps (λ f. keeps (boxDef m f)) (in-def keeps c m) g f h e₁)
 
-abbrev pub FieldsKeeping : ((Fields → Bool) → Fields → Outcome Fields) → Type 0
+abbrev pub FieldsKeeping : Contents → Type 0
 FieldsKeeping contents = (keeps : Fields → Bool) → FieldsCount keeps → (g h : Fields) → keeps g ≡ true → contents keeps g ≡ accepted h → keeps h ≡ true
 
-onDef-keeps : (contents : (Fields → Bool) → Fields → Outcome Fields) → FieldsKeeping contents → (n : Option (List ℕ)) (f : Fields) (keeps : Scalar → Bool) → Counts keeps → (l x : Scalar) → keeps l ≡ true → onDef contents n f keeps l ≡ accepted x → keeps x ≡ true
-unfolding onDef
-onDef-keeps contents keeping n f keeps c (plain l) x h e = superset-accepted (boxDef n f) (plain l) e λ _ w. rw (← w) h
-onDef-keeps contents keeping n f keeps c boxAny x h e = measured-accepted keeps (boxDef n f) e λ i w. rw (← w) i
-onDef-keeps contents keeping n f keeps c (boxAll t l) x h e = let w : boxAll t l ≡ x = cc in rw (← w) h
-onDef-keeps contents keeping n f keeps c (boxDef m g) x h e =
-    mapped-accepted (boxDef m) (contents (λ q. keeps (boxDef m q)) g) e λ q e₁ w.
-    rw (← w) (keeping (λ q. keeps (boxDef m q)) (in-def keeps c m) g q h e₁)
+module _ (contents : Contents) (keeping : FieldsKeeping contents) (n : Option (List ℕ)) (f : Fields) (keeps : Scalar → Bool) (c : Counts keeps) where
+  onDef-keeps : (l x : Scalar) → keeps l ≡ true → onDef contents n f keeps l ≡ accepted x → keeps x ≡ true
+  unfolding onDef
+  onDef-keeps (plain l) x h e = superset-accepted (boxDef n f) (plain l) e λ _ w. rw (← w) h
+  onDef-keeps boxAny x h e = measured-accepted keeps (boxDef n f) e λ i w. rw (← w) i
+  onDef-keeps (boxAll t l) x h e = let w : boxAll t l ≡ x = cc in rw (← w) h
+  onDef-keeps (boxDef m g) x h e =
+      mapped-accepted (boxDef m) (contents (λ q. keeps (boxDef m q)) g) e λ q e₁ w.
+      rw (← w) (keeping (λ q. keeps (boxDef m q)) (in-def keeps c m) g q h e₁)
 
 -- ---- `check_scalar`
 
@@ -146,5 +148,5 @@ mutual
   checkFields-keeps noFields keeps c g h i e = let w : g ≡ h = cc in rw (← w) i
   checkFields-keeps (field s k f) keeps c noFields h i e = let w : noFields ≡ h = cc in rw (← w) i
   checkFields-keeps (field s k f) keeps c (field t l g) h i e =
-      field-accepted (checkScalar k (λ x. keeps (field t x g)) t l) (checkShape unsided s t) (λ r. checkFields f (λ q. keeps (fieldOf r q)) g) e λ x v q e₁ e₂ e₃ w.
+      field-accepted (checkScalar k (λ x. keeps (field t x g)) t l) (checkShape unsided s t) (λ r. checkFields f (λ q. keeps (fieldOf r q)) g) e λ x v q (e₁, e₂, e₃, w).
       rw (← w) (checkFields-keeps f (λ q. keeps (field v x q)) (past-field keeps c v x) g q (field-keeps (λ d u y. checkScalar k d u y) (λ d i u y z j e₄. checkScalar-keeps k d i u y z j e₄) keeps c t v l x g i e₁) e₃)

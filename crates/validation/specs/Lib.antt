@@ -9,7 +9,7 @@ pub mod CheckShapeLaws
 pub mod CheckShapeSteps
 pub mod RecordsLaws
 pub mod KeepsLaws
-pub mod FitsLaws
+pub mod MeasureLaws
 pub mod CheckScalarSteps
 pub mod LimitsLaws
 pub mod RefusalsLaws

@@ -1,5 +1,5 @@
 -- The limits change no answer but to 5: validation is refused by 5, or answers what it answers where nothing is measured. (The number
--- of copies is not measured but tested beforehand; `copied-fits` says that this is the same.)
+-- of copies is not measured but tested beforehand; `copied-limited` says that this is the same.)
 use Prim.Native.Nat.{ℕ}
 use mathlib.Core.Bool.{Bool, true, false, cond}
 use mathlib.Core.List.{List}
@@ -13,9 +13,9 @@ use Rattle.format.specs.Outcome.{Outcome, accepted, refused, mapped}
 use Rattle.rules.specs.Types.{anyTy, whollyAny, copies}
 use Rattle.validation.specs.CheckShape.{Side, unsided, checkShape}
 use Rattle.validation.specs.AsFields.{measured, fieldsFor, asBox, copied, named, asFields}
-use Rattle.validation.specs.CheckScalar.{_>>=_, inTurn, superset, unlessAny, Content, eachField, onAll, onDef, checkScalar, checkFields}
+use Rattle.validation.specs.CheckScalar.{_>>=_, inTurn, superset, unlessAny, Content, Contents, eachField, onAll, onDef, checkScalar, checkFields}
 use Rattle.validation.specs.Validate.{outermost, validate}
-use Rattle.validation.specs.OutcomeLaws.{scalar-first, over-at-once}
+use Rattle.validation.specs.OutcomeLaws.{scalar-first, over-at-once, andRest}
 use Rattle.validation.specs.Claims.{unlimited, validateUnlimited, LimitsOnly, over, free}
 
 -- ---- what the rules are made of
@@ -71,7 +71,7 @@ abbrev ContentLimits : Content → Type 0
 ContentLimits content = (keeps : Scalar → Bool) (t : Shape) (l : Scalar) → LimitsOnly (content keeps t l) (content unlimited t l)
 
 -- a field, then those after it
-field-limits : (r q : Outcome Scalar) (s : Outcome Shape) (f g : Ty → Outcome Fields) → LimitsOnly r q → ((u : Ty) → LimitsOnly (f u) (g u)) → LimitsOnly (inTurn r s >>= λ u. f u >>= λ h. accepted (fieldOf u h)) (inTurn q s >>= λ u. g u >>= λ h. accepted (fieldOf u h))
+field-limits : (r q : Outcome Scalar) (s : Outcome Shape) (f g : Ty → Outcome Fields) → LimitsOnly r q → ((u : Ty) → LimitsOnly (f u) (g u)) → LimitsOnly (andRest (inTurn r s) f) (andRest (inTurn q s) g)
 field-limits r q s f g h k =
     then-limits (inTurn r s) (inTurn q s) _ _ (inTurn-limits r q s h) λ u.
     then-limits (f u) (g u) _ _ (k u) λ _. free refl
@@ -91,7 +91,10 @@ module _ (content : Content) (only : ContentLimits content) (s : Shape) where
   onAll-limits k keeps (boxAll t l) = mapped-limits boxOf _ _ (inTurn-limits (content (λ x. keeps (boxAll t x)) t l) (content unlimited t l) (checkShape unsided s t) (only (λ x. keeps (boxAll t x)) t l))
   onAll-limits k keeps (boxDef m g) = mapped-limits (boxDef m) _ _ (eachField-limits (λ h. keeps (boxDef m h)) g)
 
-onDef-limits : (contents : (Fields → Bool) → Fields → Outcome Fields) → ((keeps : Fields → Bool) (g : Fields) → LimitsOnly (contents keeps g) (contents unlimited g)) → (n : Option (List ℕ)) (f : Fields) (keeps : Scalar → Bool) (l : Scalar) → LimitsOnly (onDef contents n f keeps l) (onDef contents n f unlimited l)
+abbrev ContentsLimits : Contents → Type 0
+ContentsLimits contents = (keeps : Fields → Bool) (g : Fields) → LimitsOnly (contents keeps g) (contents unlimited g)
+
+onDef-limits : (contents : Contents) → ContentsLimits contents → (n : Option (List ℕ)) (f : Fields) (keeps : Scalar → Bool) (l : Scalar) → LimitsOnly (onDef contents n f keeps l) (onDef contents n f unlimited l)
 unfolding onDef
 onDef-limits contents only n f keeps (plain l) = free refl
 onDef-limits contents only n f keeps boxAny = measured-limits keeps (boxDef n f)

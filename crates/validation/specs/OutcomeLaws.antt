@@ -13,7 +13,7 @@ use Rattle.rules.specs.Scalars.{supersetOf}
 use Rattle.rules.specs.Types.{whollyAny}
 use Rattle.validation.specs.CheckShape.{unsided, checkShape}
 use Rattle.validation.specs.AsFields.{measured}
-use Rattle.validation.specs.CheckScalar.{_>>=_, inTurn, superset, unlessAny, Content, onAll, onDef}
+use Rattle.validation.specs.CheckScalar.{_>>=_, inTurn, superset, unlessAny, Content, Contents, onAll, onDef}
 
 -- ---- the forms
 
@@ -31,7 +31,7 @@ unfolding onAll
 all-on-all content s t k l keeps = refl
 
 -- Of two Defs the contents are validated, and their counts are not compared.
-pub def-on-def : (contents : (Fields → Bool) → Fields → Outcome Fields) (n m : Option (List ℕ)) (f g : Fields) (keeps : Scalar → Bool) → onDef contents n f keeps (boxDef m g) ≡ mapped (boxDef m) (contents (λ h. keeps (boxDef m h)) g)
+pub def-on-def : (contents : Contents) (n m : Option (List ℕ)) (f g : Fields) (keeps : Scalar → Bool) → onDef contents n f keeps (boxDef m g) ≡ mapped (boxDef m) (contents (λ h. keeps (boxDef m h)) g)
 unfolding onDef
 def-on-def contents n m f g keeps = refl
 
@@ -41,14 +41,10 @@ pub both-true : (a b : Bool) → (a && b) ≡ true → (a ≡ true) × (b ≡ tr
 both-true true b h = (refl, h)
 both-true false b h = (cc, cc)
 
--- one that had to hold, and one that had to fail
+-- one that had to be true
 pub held {κ} : {A : Type 0} {C : Type κ} (t : Bool) (r : Outcome A) (n p : ℕ) {a : A} → cond t r (refused n p) ≡ accepted a → (t ≡ true → r ≡ accepted a → C) → C
 held true r n p e k = k refl e
 held false r n p e k = let z : _≡_ {A = ℕ} 0 1 = cc in absurd (omega arith)
-
-pub failed {κ} : {A : Type 0} {C : Type κ} (t : Bool) (r : Outcome A) (n p : ℕ) {a : A} → cond t (refused n p) r ≡ accepted a → (t ≡ false → r ≡ accepted a → C) → C
-failed true r n p e k = let z : _≡_ {A = ℕ} 0 1 = cc in absurd (omega arith)
-failed false r n p e k = k refl e
 
 pub measured-accepted {κ} : {C : Type κ} (keeps : Scalar → Bool) (k : Scalar) {x : Scalar} → measured keeps k ≡ accepted x → (keeps k ≡ true → k ≡ x → C) → C
 measured-accepted keeps k e c = held (keeps k) (accepted k) tooMany 0 e λ h w. c h cc
@@ -57,12 +53,13 @@ pub superset-accepted {κ} : {C : Type κ} (k l : Scalar) {x : Scalar} → super
 superset-accepted k l e c = held (supersetOf k l) (accepted l) wrongScalar 0 e λ h w. c h cc
 
 -- a wholly Any type took the scalar, or it was not one
-pub any-accepted {κ} : {C : Type κ} (keeps : Scalar → Bool) (k : Scalar) (t : Shape) (l : Scalar) (rest : Outcome Scalar) {x : Scalar} → unlessAny keeps k t l rest ≡ accepted x → (whollyAny (ty t l) ≡ true → keeps k ≡ true → k ≡ x → C) → (whollyAny (ty t l) ≡ false → rest ≡ accepted x → C) → C
-any-accepted {C = C} keeps k t l rest {x} e c d = go (whollyAny (ty t l)) refl e
-  where
-    go : (b : Bool) → whollyAny (ty t l) ≡ b → cond b (measured keeps k) rest ≡ accepted x → C
-    go true h e = measured-accepted keeps k e (c h)
-    go false h e = d h e
+module _ (keeps : Scalar → Bool) (k : Scalar) (t : Shape) (l : Scalar) (rest : Outcome Scalar) {x : Scalar} (e : unlessAny keeps k t l rest ≡ accepted x) where
+  pub any-accepted {κ} : {C : Type κ} → (whollyAny (ty t l) ≡ true → keeps k ≡ true → k ≡ x → C) → (whollyAny (ty t l) ≡ false → rest ≡ accepted x → C) → C
+  any-accepted {C = C} c d = go (whollyAny (ty t l)) refl e
+    where
+      go : (b : Bool) → whollyAny (ty t l) ≡ b → cond b (measured keeps k) rest ≡ accepted x → C
+      go true h e = measured-accepted keeps k e (c h)
+      go false h e = d h e
 
 -- ---- sequences
 
@@ -86,7 +83,15 @@ box-accepted (accepted k) (refused n p) e c = let z : _≡_ {A = ℕ} 0 1 = cc i
 box-accepted (refused n p) q e c = let z : _≡_ {A = ℕ} 0 1 = cc in absurd (omega arith)
 
 -- a field, then those after it
-pub field-accepted {κ} : {C : Type κ} (r : Outcome Scalar) (q : Outcome Shape) (rest : Ty → Outcome Fields) {h : Fields} → (inTurn r q >>= λ u. rest u >>= λ g. accepted (fieldOf u g)) ≡ accepted h → ((k : Scalar) (s : Shape) (g : Fields) → r ≡ accepted k → q ≡ accepted s → rest (ty s k) ≡ accepted g → field s k g ≡ h → C) → C
-field-accepted (accepted k) (accepted s) rest e c = then-accepted (rest (ty s k)) _ e λ g e₁ e₂. c k s g refl refl e₁ cc
+abbrev pub andRest : Outcome Ty → (Ty → Outcome Fields) → Outcome Fields
+andRest u rest = u >>= λ r. rest r >>= λ g. accepted (fieldOf r g)
+
+-- the parts of accepted fields
+abbrev pub FieldParts : Outcome Scalar → Outcome Shape → (Ty → Outcome Fields) → Fields → Scalar → Shape → Fields → Type 0
+FieldParts r q rest h k s g = (r ≡ accepted k) × (q ≡ accepted s) × (rest (ty s k) ≡ accepted g) × (field s k g ≡ h)
+
+pub field-accepted {κ} : {C : Type κ} (r : Outcome Scalar) (q : Outcome Shape) (rest : Ty → Outcome Fields) {h : Fields} → andRest (inTurn r q) rest ≡ accepted h
+    → ((k : Scalar) (s : Shape) (g : Fields) → FieldParts r q rest h k s g → C) → C
+field-accepted (accepted k) (accepted s) rest e c = then-accepted (rest (ty s k)) _ e λ g e₁ e₂. c k s g (refl, refl, e₁, cc)
 field-accepted (accepted k) (refused n p) rest e c = let z : _≡_ {A = ℕ} 0 1 = cc in absurd (omega arith)
 field-accepted (refused n p) q rest e c = let z : _≡_ {A = ℕ} 0 1 = cc in absurd (omega arith)

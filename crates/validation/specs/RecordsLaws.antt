@@ -18,7 +18,7 @@ use Rattle.rules.specs.Types.{anyTy, copies}
 use Rattle.rules.specs.FieldsLaws.{anyTy-within, copies-count, copies-within}
 use Rattle.validation.specs.CheckShape.{unsided, checkShape}
 use Rattle.validation.specs.AsFields.{measured, fieldsFor, asBox, copied, orName, named, asFields}
-use Rattle.validation.specs.CheckScalar.{superset, Content, eachField, onAll, onDef, checkScalar, checkFields}
+use Rattle.validation.specs.CheckScalar.{superset, Content, Contents, eachField, onAll, onDef, checkScalar, checkFields}
 use Rattle.validation.specs.CheckShapeLaws.{checkShape-within}
 use Rattle.validation.specs.OutcomeLaws.{held, measured-accepted, superset-accepted, any-accepted, then-accepted, mapped-accepted, box-accepted, field-accepted}
 
@@ -68,7 +68,7 @@ module _ (content : Content) (kept : RecordsKept content) (s : Shape) (hs : Shap
   unfolding eachField
   eachField-records keeps noFields h j e = let w : noFields ≡ h = cc in rw (← w) (tt, refl)
   eachField-records keeps (field t l g) h j e =
-      field-accepted (content (λ x. keeps (field t x g)) t l) (checkShape unsided s t) (λ r. eachField content s (λ f. keeps (fieldOf r f)) g) e λ x v f e₁ e₂ e₃ w.
+      field-accepted (content (λ x. keeps (field t x g)) t l) (checkShape unsided s t) (λ r. eachField content s (λ f. keeps (fieldOf r f)) g) e λ x v f (e₁, e₂, e₃, w).
       let r = eachField-records (λ f. keeps (field v x f)) g f (j .2) e₃ in
       rw (← w) ((checkShape-within unsided s t v hs (j .0) e₂, kept (λ x. keeps (field t x g)) t l x (j .1) e₁, r .0), ap suc (r .1))
 
@@ -84,15 +84,19 @@ module _ (content : Content) (kept : RecordsKept content) (s : Shape) (hs : Shap
       let r = eachField-records (λ f. keeps (boxDef m f)) g h (j .2) e₁ in
       rw (← w) (j .0, rw (r .1) (j .1), r .0)
 
-onDef-records : (contents : (Fields → Bool) → Fields → Outcome Fields) → ((keeps : Fields → Bool) (g h : Fields) → FieldsWithin g → contents keeps g ≡ accepted h → FieldsWithin h × (fieldCount h ≡ fieldCount g)) → (n : Option (List ℕ)) (f : Fields) → ScalarWithin (boxDef n f) → (keeps : Scalar → Bool) (l x : Scalar) → ScalarWithin l → onDef contents n f keeps l ≡ accepted x → ScalarWithin x
-unfolding onDef
-onDef-records contents kept n f hf keeps (plain l) x j e = superset-accepted (boxDef n f) (plain l) e λ _ w. rw (← w) tt
-onDef-records contents kept n f hf keeps boxAny x j e = measured-accepted keeps (boxDef n f) e λ _ w. rw (← w) hf
-onDef-records contents kept n f hf keeps (boxAll t l) x j e = let w : boxAll t l ≡ x = cc in rw (← w) j
-onDef-records contents kept n f hf keeps (boxDef m g) x j e =
-    mapped-accepted (boxDef m) (contents (λ h. keeps (boxDef m h)) g) e λ h e₁ w.
-    let r = kept (λ h. keeps (boxDef m h)) g h (j .2) e₁ in
-    rw (← w) (j .0, rw (r .1) (j .1), r .0)
+abbrev FieldsKept : Contents → Type 0
+FieldsKept contents = (keeps : Fields → Bool) (g h : Fields) → FieldsWithin g → contents keeps g ≡ accepted h → FieldsWithin h × (fieldCount h ≡ fieldCount g)
+
+module _ (contents : Contents) (kept : FieldsKept contents) (n : Option (List ℕ)) (f : Fields) (hf : ScalarWithin (boxDef n f)) where
+  onDef-records : (keeps : Scalar → Bool) (l x : Scalar) → ScalarWithin l → onDef contents n f keeps l ≡ accepted x → ScalarWithin x
+  unfolding onDef
+  onDef-records keeps (plain l) x j e = superset-accepted (boxDef n f) (plain l) e λ _ w. rw (← w) tt
+  onDef-records keeps boxAny x j e = measured-accepted keeps (boxDef n f) e λ _ w. rw (← w) hf
+  onDef-records keeps (boxAll t l) x j e = let w : boxAll t l ≡ x = cc in rw (← w) j
+  onDef-records keeps (boxDef m g) x j e =
+      mapped-accepted (boxDef m) (contents (λ h. keeps (boxDef m h)) g) e λ h e₁ w.
+      let r = kept (λ h. keeps (boxDef m h)) g h (j .2) e₁ in
+      rw (← w) (j .0, rw (r .1) (j .1), r .0)
 
 -- ---- `check_scalar`
 
@@ -118,6 +122,6 @@ mutual
   checkFields-records noFields i keeps g h j e = let w : g ≡ h = cc in rw (← w) (j, refl)
   checkFields-records (field s k f) i keeps noFields h j e = let w : noFields ≡ h = cc in rw (← w) (tt, refl)
   checkFields-records (field s k f) i keeps (field t l g) h j e =
-      field-accepted (checkScalar k (λ x. keeps (field t x g)) t l) (checkShape unsided s t) (λ r. checkFields f (λ q. keeps (fieldOf r q)) g) e λ x v q e₁ e₂ e₃ w.
+      field-accepted (checkScalar k (λ x. keeps (field t x g)) t l) (checkShape unsided s t) (λ r. checkFields f (λ q. keeps (fieldOf r q)) g) e λ x v q (e₁, e₂, e₃, w).
       let r = checkFields-records f (i .2) (λ q. keeps (field v x q)) g q (j .2) e₃ in
       rw (← w) ((checkShape-within unsided s t v (i .0) (j .0) e₂, checkScalar-records k (i .1) (λ x. keeps (field t x g)) t l x (j .1) e₁, r .0), ap suc (r .1))

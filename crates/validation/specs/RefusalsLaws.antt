@@ -3,18 +3,20 @@ use Prim.Native.Nat.{ℕ}
 use mathlib.Core.Bool.{Bool, true, false, cond}
 use mathlib.Core.List.{List}
 use mathlib.Core.Option.{Option, none, some}
-use mathlib.Core.Path.{refl}
+use mathlib.Core.Path.{_≡_, refl}
 use lib.Dec.{leb}
 use Rattle.model.specs.Limits.{maxFields}
-use Rattle.model.specs.Refusals.{tooMany, wrongScalar, wrongShape}
+use Rattle.model.specs.Refusals.{tooMany, wrongScalar}
 use Rattle.model.specs.Types.{Shape, Scalar, plain, boxAny, boxAll, boxDef, Fields, noFields, field, Ty, ty, boxOf, fieldOf, fieldCount}
 use Rattle.format.specs.Outcome.{Outcome, accepted, refused, mapped}
 use Rattle.rules.specs.Scalars.{supersetOf}
 use Rattle.rules.specs.Types.{anyTy, whollyAny, copies}
-use Rattle.validation.specs.CheckShape.{Side, unsided, shapeMismatch, checkShape}
+use Rattle.validation.specs.CheckShape.{Side, unsided, checkShape}
+use Rattle.validation.specs.CheckShapeLaws.{checkShape-refused}
 use Rattle.validation.specs.AsFields.{measured, fieldsFor, asBox, copied, named, asFields}
-use Rattle.validation.specs.CheckScalar.{_>>=_, inTurn, superset, unlessAny, Content, eachField, onAll, onDef, checkScalar, checkFields}
+use Rattle.validation.specs.CheckScalar.{_>>=_, inTurn, superset, unlessAny, Content, Contents, eachField, onAll, onDef, checkScalar, checkFields}
 use Rattle.validation.specs.Validate.{outermost, validate, checkScalarOnly, checkShapeOnly}
+use Rattle.validation.specs.OutcomeLaws.{andRest}
 use Rattle.validation.specs.Claims.{Listed}
 
 -- ---- what the rules are made of
@@ -45,14 +47,17 @@ inTurn-listed (accepted k) (accepted s) h j = tt
 inTurn-listed (accepted k) (refused n p) h j = j
 inTurn-listed (refused n p) q h j = h
 
-field-listed : (r : Outcome Scalar) (q : Outcome Shape) (f : Ty → Outcome Fields) → Listed r → Listed q → ((u : Ty) → Listed (f u)) → Listed (inTurn r q >>= λ u. f u >>= λ h. accepted (fieldOf u h))
+field-listed : (r : Outcome Scalar) (q : Outcome Shape) (f : Ty → Outcome Fields) → Listed r → Listed q → ((u : Ty) → Listed (f u)) → Listed (andRest (inTurn r q) f)
 field-listed r q f h j k = then-listed (inTurn r q) _ (inTurn-listed r q h j) λ u. then-listed (f u) _ (k u) λ _. tt
 
 -- ---- `check_shape` and `as_mut_fields`
 
 pub checkShape-listed : (side : Side) (s t : Shape) → Listed (checkShape side s t)
-unfolding checkShape
-checkShape-listed side s t = either-listed (shapeMismatch side s t) (refused wrongShape 0) (accepted _) (refl, refl) tt
+checkShape-listed side s t = go (checkShape side s t) refl
+  where
+    go : (r : Outcome Shape) → checkShape side s t ≡ r → Listed r
+    go (accepted u) e = tt
+    go (refused n p) e = let h = checkShape-refused side s t e in (rw (h .0) refl, h .1)
 
 copied-listed : (keeps : Scalar → Bool) (name : List ℕ) (n : ℕ) (t : Ty) → Listed (copied keeps name n t)
 unfolding copied
@@ -84,10 +89,12 @@ module _ (content : Content) (listed : (keeps : Scalar → Bool) (t : Shape) (l 
   unfolding onAll
   onAll-listed k keeps (plain l) = superset-listed (boxAll s k) (plain l)
   onAll-listed k keeps boxAny = measured-listed keeps (boxAll s k)
-  onAll-listed k keeps (boxAll t l) = mapped-listed boxOf (inTurn (content (λ x. keeps (boxAll t x)) t l) (checkShape unsided s t)) (inTurn-listed (content (λ x. keeps (boxAll t x)) t l) (checkShape unsided s t) (listed (λ x. keeps (boxAll t x)) t l) (checkShape-listed unsided s t))
+  onAll-listed k keeps (boxAll t l) =
+      let inner : Outcome Scalar = content (λ x. keeps (boxAll t x)) t l in
+      mapped-listed boxOf (inTurn inner (checkShape unsided s t)) (inTurn-listed inner (checkShape unsided s t) (listed (λ x. keeps (boxAll t x)) t l) (checkShape-listed unsided s t))
   onAll-listed k keeps (boxDef m g) = mapped-listed (boxDef m) (eachField content s (λ h. keeps (boxDef m h)) g) (eachField-listed (λ h. keeps (boxDef m h)) g)
 
-onDef-listed : (contents : (Fields → Bool) → Fields → Outcome Fields) → ((keeps : Fields → Bool) (g : Fields) → Listed (contents keeps g)) → (n : Option (List ℕ)) (f : Fields) (keeps : Scalar → Bool) (l : Scalar) → Listed (onDef contents n f keeps l)
+onDef-listed : (contents : Contents) → ((keeps : Fields → Bool) (g : Fields) → Listed (contents keeps g)) → (n : Option (List ℕ)) (f : Fields) (keeps : Scalar → Bool) (l : Scalar) → Listed (onDef contents n f keeps l)
 unfolding onDef
 onDef-listed contents listed n f keeps (plain l) = superset-listed (boxDef n f) (plain l)
 onDef-listed contents listed n f keeps boxAny = measured-listed keeps (boxDef n f)

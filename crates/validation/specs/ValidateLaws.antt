@@ -1,7 +1,9 @@
 -- Laws about validation on whole types: the shape of what is accepted; that it keeps to the limits, so that what validation writes
 -- can be read and 4,992 bytes suffice for it.
-use Prim.Native.Nat.{_≤_}
-use mathlib.Core.Bool.{true, false, false≢true}
+use Prim.Native.Nat.{ℕ, _≤_}
+use native.Mathlib.Omega.{arith}
+use mathlib.Core.Bool.{true}
+use mathlib.Core.Option.{none, some}
 use mathlib.Core.Path.{_≡_, sym, _∙_}
 use lib.ListN.{length}
 use lib.Dec.{leb}
@@ -34,15 +36,15 @@ validate-merged side (ty s k) (ty t l) u e =
     rw (← w) (sym y)
 
 -- The shapes were no mismatch.
-pub validate-match : (side : Side) (s t u : Ty) → validate side s t ≡ accepted u → shapeMismatch side (shapeOf s) (shapeOf t) ≡ false
+pub validate-match : (side : Side) (s t u : Ty) → validate side s t ≡ accepted u → shapeMismatch side (shapeOf s) (shapeOf t) ≡ none
 unfolding validate
 validate-match side (ty s k) (ty t l) u e =
     inTurn-accepted (checkScalar k (outermost t) t l) (checkShape side s t) e λ x v e₁ e₂ w.
     checkShape-accepted side s t e₂ λ m y.
     m
 
-pub validate-mismatch : (side : Side) (s t u : Ty) → shapeMismatch side (shapeOf s) (shapeOf t) ≡ true → validate side s t ≡ accepted u → ⊥
-validate-mismatch side s t u h e = false≢true (sym (validate-match side s t u e) ∙ h)
+pub validate-mismatch : (side : Side) (s t u : Ty) {n : ℕ} → shapeMismatch side (shapeOf s) (shapeOf t) ≡ some n → validate side s t ≡ accepted u → ⊥
+validate-mismatch side s t u {n} h e = let q : none ≡ some n = sym (validate-match side s t u e) ∙ h in let z : _≡_ {A = ℕ} 0 1 = cc in absurd (omega arith)
 
 -- Without a side, the spec's shape itself is merged.
 pub validate-shape : (s t u : Ty) → validate unsided s t ≡ accepted u → shapeOf u ≡ mergeFrom (shapeOf t) (shapeOf s)

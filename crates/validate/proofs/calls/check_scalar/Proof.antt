@@ -1,24 +1,26 @@
-use native.Mathlib.Omega.{arith}
-use mathlib.Core.Path.{sym, ap, _∙_}
-use Prim.Native.Nat.{_+_}
-use lib.ListN.{take}
-use lib.Seq.{length-take-le}
-use Rattle.model.specs.Limits.{maxDepth}
-use Rattle.model.specs.Types.{ty}
-use Rattle.format.specs.Records.{writeShape}
-use Rattle.format.specs.Outcome.{lone, deliver}
-use Rattle.lent.specs.Delivers.{deliver-refused, deliver-handed}
-use Rattle.record.specs.Answers.{loneOf, shapeFor}
-use Rattle.validate.specs.Plans.{scalarOf}
+use Rattle.validate.proofs.WholeLaws.{lones, front-room, check-done, check-not, check-ends}
+use Rattle.validate.proofs.ListLaws.{has}
 use Rattle.record.proofs.LoneLaws.{both-refused}
-use Rattle.validate.proofs.PlanLaws.{type-at, has-type}
-use Rattle.validate.proofs.WalkLaws.{roomy-done, laid-behind, scalar-few}
-use Rattle.validate.proofs.WholeLaws.{lones, scalar-checked, scalar-written, scalar-not}
+use Rattle.record.specs.Answers.{loneOf}
+use Rattle.lent.specs.Delivers.{deliver-refused, deliver-handed}
+use Rattle.format.specs.Outcome.{lone, deliver}
+use Rattle.model.specs.Limits.{maxDepth}
+use lib.Seq.{length-take-le}
+use lib.ListN.{take}
+use mathlib.Core.Path.{_≡_, refl, sym, ap, _∙_}
+use native.Mathlib.Omega.{arith}
 use borrow.Author.Needs.{needs}
 use Rattle.validate.proofs.calls.check_scalar.Statement.{statement}
 use Rattle.validate.proofs.calls.check_scalar.Tie as tie
 use Rattle.validate.proofs.calls.check_scalar.Reads as reads
 use Rattle.validate.proofs.calls.check_scalar.Lts as lts
+use Rattle.known.proofs.shape_at.Reads as shape-at-reads
+use Rattle.lent.proofs.hand_over.Reads as hand-over-reads
+use Rattle.record.proofs.read_both.Reads as read-both-reads
+use Rattle.validate.proofs.descent.check_scalar_at.Reads as check-scalar-at-reads
+use Rattle.writer.proofs.put_shape.Reads as put-shape-reads
+use Rattle.writer.proofs.as_written.Reads as as-written-reads
+use Rattle.writer.proofs.shape_length.Reads as shape-length-reads
 
 read-both-requires : tie.Need-read-both-requires
 read-both-requires c κs = search needs
@@ -38,7 +40,8 @@ returns c =
     let at-read-both = c .before .before .before in
     let args = entry .args in
     let told = ap loneOf (c .before .enum-told2 .given .1) in
-    deliver-handed _ (c .as-written .result) (c .as-written .ensures ∙ told) (both-refused (lone (args .spec .now)) (lone (args .ty .now)) _ (sym (at-read-both .read-both .ensures) ∙ told))
+    let no = both-refused (lone (args .spec .now)) (lone (args .ty .now)) _ (sym (at-read-both .read-both .ensures) ∙ told) in
+    deliver-handed _ (c .as-written .result) (c .as-written .ensures ∙ told) no
 
 shape-at-requires : tie.Need-shape-at-requires
 shape-at-requires c κs =
@@ -47,8 +50,9 @@ shape-at-requires c κs =
     let at-shared-slice-known2 = c .before .before .before .before in
     let at-read-both = c .before .before in
     let args = entry .args in
-    has-type ((lones (args .spec .now) (args .ty .now) (λ i. omega (arith, at-shared-slice-known .shared-slice-known .given i))
-    (λ i. omega (arith, at-shared-slice-known2 .shared-slice-known2 .given i)) (sym (at-read-both .read-both .ensures) ∙ ap loneOf (c .enum-told .given .1))) .pair .type-placed)
+    let both = lones (args .spec .now) (args .ty .now) (λ i. omega (arith, at-shared-slice-known .shared-slice-known .given i)) (λ i. omega (arith, at-shared-slice-known2 .shared-slice-known2 .given i))
+    (sym (at-read-both .read-both .ensures) ∙ ap loneOf (c .enum-told .given .1)) in
+    (maxDepth, has (both .pair .type-there))
 
 shape-length-requires : tie.Need-shape-length-requires
 shape-length-requires c κs = search needs
@@ -69,20 +73,21 @@ check-scalar-at-requires c κs =
     let at-shared-slice-known2 = c .before .before .before .before .before .before .before .before .before .before in
     let at-read-both = c .before .before .before .before .before .before .before .before in
     let at-enum-told = c .before .before .before .before .before .before in
+    let at-shape-at = c .before .before .before .before .before in
     let at-shape-length = c .before .before .before .before in
     let at-put-shape = c .before .before in
-    let args = entry .args in (
-      ((lones (args .spec .now) (args .ty .now) (λ i. omega (arith, at-shared-slice-known .shared-slice-known .given i)) (λ i. omega (arith, at-shared-slice-known2 .shared-slice-known2 .given i))
-          (sym (at-read-both .read-both .ensures) ∙ ap loneOf (at-enum-told .enum-told .given .1))) .pair),
-      omega (arith, at-shape-length .shape-length .ensures .0, at-shape-length .shape-length .ensures .1, at-put-shape .put-shape .kept .0),
-    )
+    let args = entry .args in
+    let both = lones (args .spec .now) (args .ty .now) (λ i. omega (arith, at-shared-slice-known .shared-slice-known .given i)) (λ i. omega (arith, at-shared-slice-known2 .shared-slice-known2 .given i))
+    (sym (at-read-both .read-both .ensures) ∙ ap loneOf (at-enum-told .enum-told .given .1)) in
+    (both .pair, front-room both (at-shape-at .shape-at .result) (at-shape-at .shape-at .ensures) (at-shape-length .shape-length .ensures .0) (at-shape-length .shape-length .ensures .1) _ (at-put-shape .put-shape .last .0) refl (at-put-shape .put-shape .ensures .1) (at-put-shape .put-shape .kept .0))
 
 enum-known-w : tie.Need-enum-known-w
 enum-known-w c = search needs
 
 array-share-prefix-out : tie.Need-array-share-prefix-out
 array-share-prefix-out c =
-    let both = lones (c .before .before .before .before .before .before .before .before .before .before .before .before .before .before .before .before .before .args .spec .now)
+    let both = lones
+    (c .before .before .before .before .before .before .before .before .before .before .before .before .before .before .before .before .before .args .spec .now)
     (c .before .before .before .before .before .before .before .before .before .before .before .before .before .before .before .before .before .args .ty .now)
     (λ i. omega (arith, c .before .before .before .before .before .before .before .before .before .before .before .before .before .before .before .before .shared-slice-known .given i))
     (λ i. omega (arith, c .before .before .before .before .before .before .before .before .before .before .before .before .before .before .before .shared-slice-known2 .given i))
@@ -90,14 +95,20 @@ array-share-prefix-out c =
     ∙ ap loneOf (c .before .before .before .before .before .before .before .before .before .before .before .enum-told .given .1)) in
     omega (
       arith,
-      c .before .before .before .before .before .before .before .before .before .shape-length .ensures .0,
-      c .before .before .before .before .before .before .before .before .before .shape-length .ensures .1,
-      roomy-done
-          (c .before .before .before .before .before .before .before .before .before .shape-length .result + 24) (c .before .w .given .1)
-          (c .before .before .before .before .check-scalar-at .ensures (both .pair) .1),
-      scalar-few (both .pair) (c .before .before .before .before .check-scalar-at .last .1 .1 .1 .1 .1 .1 .0)
-          (take (c .before .before .before .before .before .before .before .before .before .shape-length .result) (c .before .before .before .before .before .before .before .put-shape .last .0))
-          (c .before .w .given .1) (c .before .before .before .before .check-scalar-at .ensures (both .pair) .0),
+      check-ends
+          both
+          (c .before .before .before .before .before .before .before .before .before .before .shape-at .result)
+          (c .before .before .before .before .before .before .before .before .before .before .shape-at .ensures)
+          (c .before .before .before .before .before .before .before .before .before .shape-length .ensures .0)
+          (c .before .before .before .before .before .before .before .before .before .shape-length .ensures .1)
+          _
+          (c .before .before .before .before .before .before .before .put-shape .last .0)
+          refl
+          (c .before .before .before .before .before .before .before .put-shape .ensures .1)
+          (c .before .before .before .before .check-scalar-at .result)
+          (c .before .before .before .before .check-scalar-at .last .1 .1 .1 .1 .1 .1 .0)
+          (c .before .before .before .before .check-scalar-at .ensures (both .pair))
+          (c .before .w .given .1),
     )
 
 slice-aggregate-hand-over : tie.Need-slice-aggregate-hand-over
@@ -107,24 +118,17 @@ slice-aggregate-hand-over c =
     let at-shared-slice-known2 = c .before .before .before .before .before .before .before .before .before .before .before .before .before .before .before .before in
     let at-read-both = c .before .before .before .before .before .before .before .before .before .before .before .before .before .before in
     let at-enum-told = c .before .before .before .before .before .before .before .before .before .before .before .before in
+    let at-shape-at = c .before .before .before .before .before .before .before .before .before .before .before in
     let at-shape-length = c .before .before .before .before .before .before .before .before .before .before in
     let at-put-shape = c .before .before .before .before .before .before .before .before in
     let at-check-scalar-at = c .before .before .before .before .before in
     let at-w = c .before .before in
     let args = entry .args in
-    let both = lones (args .spec .now) (args .ty .now) (λ i. omega (arith, at-shared-slice-known .shared-slice-known .given i))
-    (λ i. omega (arith, at-shared-slice-known2 .shared-slice-known2 .given i)) (sym (at-read-both .read-both .ensures) ∙ ap loneOf (at-enum-told .enum-told .given .1)) in
-    sym (length-take-le _ _ (omega (
-      arith,
-      at-shape-length .shape-length .ensures .0,
-      at-shape-length .shape-length .ensures .1,
-      roomy-done (at-shape-length .shape-length .result + 24)
-          (at-w .w .given .1) (at-check-scalar-at .check-scalar-at .ensures (both .pair) .1),
-      scalar-few (both .pair) (at-check-scalar-at .check-scalar-at .last .1 .1 .1 .1 .1 .1 .0)
-          (take (at-shape-length .shape-length .result) (at-put-shape .put-shape .last .0)) (at-w .w .given .1) (at-check-scalar-at .check-scalar-at .ensures (both .pair) .0),
-      at-check-scalar-at .check-scalar-at .kept .1 .1 .1 .1 .1 .1 .0,
-      at-put-shape .put-shape .kept .0,
-    )))
+    let both = lones (args .spec .now) (args .ty .now) (λ i. omega (arith, at-shared-slice-known .shared-slice-known .given i)) (λ i. omega (arith, at-shared-slice-known2 .shared-slice-known2 .given i))
+    (sym (at-read-both .read-both .ensures) ∙ ap loneOf (at-enum-told .enum-told .given .1)) in
+    let ends = check-ends both (at-shape-at .shape-at .result) (at-shape-at .shape-at .ensures) (at-shape-length .shape-length .ensures .0) (at-shape-length .shape-length .ensures .1) _ (at-put-shape .put-shape .last .0) refl (at-put-shape .put-shape .ensures .1)
+    (at-check-scalar-at .check-scalar-at .result) (at-check-scalar-at .check-scalar-at .last .1 .1 .1 .1 .1 .1 .0) (at-check-scalar-at .check-scalar-at .ensures (both .pair)) (at-w .w .given .1) in
+    sym (length-take-le _ _ (omega (arith, ends, at-check-scalar-at .check-scalar-at .kept .1 .1 .1 .1 .1 .1 .0, at-put-shape .put-shape .kept .0)))
 
 hand-over-requires : tie.Need-hand-over-requires
 hand-over-requires c κs = search needs
@@ -149,15 +153,11 @@ returns-2 c =
     let at-w = c .before .before .before .before .before .before in
     let at-hand-over = c .before .before in
     let args = entry .args in
-    let both = lones (args .spec .now) (args .ty .now) (λ i. omega (arith, at-shared-slice-known .shared-slice-known .given i))
-    (λ i. omega (arith, at-shared-slice-known2 .shared-slice-known2 .given i)) (sym (at-read-both .read-both .ensures) ∙ ap loneOf (at-enum-told .enum-told .given .1)) in
-    at-hand-over .hand-over .ensures ∙ sym (ap (λ o. deliver o (args .result .now))
-    (scalar-checked both ∙ scalar-written (both .pair .type-shape) (take (at-shape-length .shape-length .result) (at-put-shape .put-shape .last .0))
-    (laid-behind _ (writeShape (shapeFor (at-shape-at .shape-at .result))) 0 {end = at-shape-length .shape-length .result}
-    (omega (arith, at-shape-length .shape-length .ensures .0, at-shape-length .shape-length .ensures .1))
-    (omega (arith, at-shape-length .shape-length .ensures .0, at-shape-length .shape-length .ensures .1)) (at-put-shape .put-shape .ensures .1)
-    ∙ ap writeShape (at-shape-at .shape-at .ensures maxDepth (ty (both .pair .type-shape) (both .pair .type-scalar)) (type-at (both .pair .type-placed)))) (scalarOf 0 0 (both .pair))
-    (at-check-scalar-at .check-scalar-at .last .1 .1 .1 .1 .1 .1 .0) (at-check-scalar-at .check-scalar-at .ensures (both .pair) .0) (at-w .w .given .1)))
+    let both = lones (args .spec .now) (args .ty .now) (λ i. omega (arith, at-shared-slice-known .shared-slice-known .given i)) (λ i. omega (arith, at-shared-slice-known2 .shared-slice-known2 .given i))
+    (sym (at-read-both .read-both .ensures) ∙ ap loneOf (at-enum-told .enum-told .given .1)) in
+    let is = check-done both (at-shape-at .shape-at .result) (at-shape-at .shape-at .ensures) (at-shape-length .shape-length .ensures .0) (at-shape-length .shape-length .ensures .1) _ (at-put-shape .put-shape .last .0) refl (at-put-shape .put-shape .ensures .1)
+    (at-check-scalar-at .check-scalar-at .result) (at-check-scalar-at .check-scalar-at .last .1 .1 .1 .1 .1 .1 .0) (at-check-scalar-at .check-scalar-at .ensures (both .pair)) (at-w .w .given .1) in
+    at-hand-over .hand-over .ensures ∙ sym (ap (λ o. deliver o (args .result .now)) is)
 
 returns-3 : tie.Need-returns-3
 returns-3 c =
@@ -171,14 +171,10 @@ returns-3 c =
     let at-put-shape = c .before .before .before .before .before .before .before in
     let at-check-scalar-at = c .before .before .before .before in
     let args = entry .args in
-    let both = lones (args .spec .now) (args .ty .now) (λ i. omega (arith, at-shared-slice-known .shared-slice-known .given i))
-    (λ i. omega (arith, at-shared-slice-known2 .shared-slice-known2 .given i)) (sym (at-read-both .read-both .ensures) ∙ ap loneOf (at-enum-told .enum-told .given .1)) in
-    sym (deliver-refused _ (scalar-checked both ∙ scalar-not (both .pair .type-shape) (take (at-shape-length .shape-length .result) (at-put-shape .put-shape .last .0))
-    (laid-behind _ (writeShape (shapeFor (at-shape-at .shape-at .result))) 0 {end = at-shape-length .shape-length .result}
-    (omega (arith, at-shape-length .shape-length .ensures .0, at-shape-length .shape-length .ensures .1))
-    (omega (arith, at-shape-length .shape-length .ensures .0, at-shape-length .shape-length .ensures .1)) (at-put-shape .put-shape .ensures .1)
-    ∙ ap writeShape (at-shape-at .shape-at .ensures maxDepth (ty (both .pair .type-shape) (both .pair .type-scalar)) (type-at (both .pair .type-placed)))) (scalarOf 0 0 (both .pair))
-    (at-check-scalar-at .check-scalar-at .last .1 .1 .1 .1 .1 .1 .0) (at-check-scalar-at .check-scalar-at .ensures (both .pair) .0) (c .before .w2 .given .1)))
+    let both = lones (args .spec .now) (args .ty .now) (λ i. omega (arith, at-shared-slice-known .shared-slice-known .given i)) (λ i. omega (arith, at-shared-slice-known2 .shared-slice-known2 .given i))
+    (sym (at-read-both .read-both .ensures) ∙ ap loneOf (at-enum-told .enum-told .given .1)) in
+    sym (deliver-refused _ (check-not both (at-shape-at .shape-at .result) (at-shape-at .shape-at .ensures) (at-shape-length .shape-length .ensures .0) (at-shape-length .shape-length .ensures .1) _ (at-put-shape .put-shape .last .0) refl (at-put-shape .put-shape .ensures .1)
+    (at-check-scalar-at .check-scalar-at .result) (at-check-scalar-at .check-scalar-at .last .1 .1 .1 .1 .1 .1 .0) (at-check-scalar-at .check-scalar-at .ensures (both .pair)) (c .before .w2 .given .1)))
 
 pub check-scalar-spec : {M : Type 1} → statement M
 check-scalar-spec =

@@ -1,18 +1,28 @@
-use mathlib.Core.Path.{sym, ap, _∙_}
-use mathlib.Core.List.{_++_}
-use Rattle.format.specs.Records.{writeShape}
-use Rattle.format.specs.Outcome.{accepted, lone, deliver}
-use Rattle.lent.specs.Delivers.{deliver-refused, deliver-handed}
-use Rattle.record.specs.Answers.{loneOf, shapeFor}
-use Rattle.validate.specs.Answers.{sideOf}
-use Rattle.format.specs.Views.{rest-is}
-use Rattle.record.proofs.LoneLaws.{both-refused, both-passed}
 use Rattle.validate.proofs.CallLaws.{shape-clash, shape-merged}
+use Rattle.validate.proofs.WholeLaws.{lones}
+use Rattle.validate.proofs.WalkLaws.{shapes-checked}
+use Rattle.validate.proofs.ListLaws.{has}
+use Rattle.validate.specs.Answers.{sideOf}
+use Rattle.known.specs.WholeLaws.{scalar-inside, second-good}
+use Rattle.record.proofs.LoneLaws.{both-refused}
+use Rattle.record.specs.Answers.{loneOf, shapeFor}
+use Rattle.lent.specs.Delivers.{deliver-refused, deliver-handed}
+use Rattle.format.specs.Outcome.{lone, deliver}
+use Rattle.model.specs.Limits.{maxDepth}
+use mathlib.Core.List.{[]}
+use mathlib.Core.Path.{_≡_, refl, sym, ap, _∙_}
+use native.Mathlib.Omega.{arith}
 use borrow.Author.Needs.{needs}
 use Rattle.validate.proofs.calls.check_shape.Statement.{statement}
 use Rattle.validate.proofs.calls.check_shape.Tie as tie
 use Rattle.validate.proofs.calls.check_shape.Reads as reads
 use Rattle.validate.proofs.calls.check_shape.Lts as lts
+use Rattle.known.proofs.scalar_at.Reads as scalar-at-reads
+use Rattle.known.proofs.shape_at.Reads as shape-at-reads
+use Rattle.record.proofs.read_both.Reads as read-both-reads
+use Rattle.ty.proofs.write_parts.Reads as write-parts-reads
+use Rattle.validate.proofs.shapes.check_shapes.Reads as check-shapes-reads
+use Rattle.writer.proofs.as_written.Reads as as-written-reads
 
 read-both-requires : tie.Need-read-both-requires
 read-both-requires c κs = search needs
@@ -32,50 +42,71 @@ returns c =
     let at-read-both = c .before .before .before in
     let args = entry .args in
     let told = ap loneOf (c .before .enum-told2 .given .1) in
-    deliver-handed _ (c .as-written .result) (c .as-written .ensures ∙ told) (both-refused (lone (args .spec .now)) (lone (args .ty .now)) _ (sym (at-read-both .read-both .ensures) ∙ told))
+    let no = both-refused (lone (args .spec .now)) (lone (args .ty .now)) _ (sym (at-read-both .read-both .ensures) ∙ told) in
+    deliver-handed _ (c .as-written .result) (c .as-written .ensures ∙ told) no
 
-lone-shape-requires : tie.Need-lone-shape-requires
-lone-shape-requires c κs =
+shape-at-requires : tie.Need-shape-at-requires
+shape-at-requires c κs =
     let entry = c .before .before .before .before .before .before in
+    let at-shared-slice-known = c .before .before .before .before .before in
+    let at-shared-slice-known2 = c .before .before .before .before in
     let at-read-both = c .before .before in
     let args = entry .args in
-    both-passed (lone (args .spec .now)) (lone (args .ty .now)) (sym (at-read-both .read-both .ensures) ∙ ap loneOf (c .enum-told .given .1)) .0
+    let both = lones (args .spec .now) (args .ty .now) (λ i. omega (arith, at-shared-slice-known .shared-slice-known .given i)) (λ i. omega (arith, at-shared-slice-known2 .shared-slice-known2 .given i))
+    (sym (at-read-both .read-both .ensures) ∙ ap loneOf (c .enum-told .given .1)) in
+    (maxDepth, has (both .pair .spec-there))
 
-lone-shape-requires-2 : tie.Need-lone-shape-requires-2
-lone-shape-requires-2 c κs =
+shape-at-requires-2 : tie.Need-shape-at-requires-2
+shape-at-requires-2 c κs =
     let entry = c .before .before .before .before .before .before .before in
+    let at-shared-slice-known = c .before .before .before .before .before .before in
+    let at-shared-slice-known2 = c .before .before .before .before .before in
     let at-read-both = c .before .before .before in
     let args = entry .args in
-    both-passed (lone (args .spec .now)) (lone (args .ty .now)) (sym (at-read-both .read-both .ensures) ∙ ap loneOf (c .before .enum-told .given .1)) .1
+    let both = lones (args .spec .now) (args .ty .now) (λ i. omega (arith, at-shared-slice-known .shared-slice-known .given i)) (λ i. omega (arith, at-shared-slice-known2 .shared-slice-known2 .given i))
+    (sym (at-read-both .read-both .ensures) ∙ ap loneOf (c .before .enum-told .given .1)) in
+    (maxDepth, has (both .pair .type-there))
 
 check-shapes-requires : tie.Need-check-shapes-requires
 check-shapes-requires c κs = search needs
 
-returns-2 : tie.Need-returns-2
-returns-2 c =
-    let entry = c .before .before .before .before .before .before .before .before .before .before in
-    let at-lone-shape = c .before .before .before in
-    let at-lone-shape2 = c .before .before in
-    let args = entry .args in
-    sym (deliver-refused _ (shape-clash (sideOf (args .side)) (lone (args .spec .now)) (lone (args .ty .now)) (at-lone-shape .lone-shape .ensures) (at-lone-shape2 .lone-shape2 .ensures)
-    (c .before .check-shapes .result) (c .before .check-shapes .ensures) (c .if1 .taken)))
+enum-told-3 : tie.Need-enum-told-3
+enum-told-3 c = search needs
 
-lone-scalar-requires : tie.Need-lone-scalar-requires
-lone-scalar-requires c κs =
-    let entry = c .before .before .before .before .before .before .before .before .before .before .before in
-    let at-read-both = c .before .before .before .before .before .before .before in
-    let at-enum-told = c .before .before .before .before .before in
+scalar-at-requires : tie.Need-scalar-at-requires
+scalar-at-requires c κs =
+    let entry = c .before .before .before .before .before .before .before .before .before .before .before .before in
+    let at-shared-slice-known = c .before .before .before .before .before .before .before .before .before .before .before in
+    let at-shared-slice-known2 = c .before .before .before .before .before .before .before .before .before .before in
+    let at-read-both = c .before .before .before .before .before .before .before .before in
+    let at-enum-told = c .before .before .before .before .before .before in
     let args = entry .args in
-    both-passed (lone (args .spec .now)) (lone (args .ty .now)) (sym (at-read-both .read-both .ensures) ∙ ap loneOf (at-enum-told .enum-told .given .1)) .1
+    let both = lones (args .spec .now) (args .ty .now) (λ i. omega (arith, at-shared-slice-known .shared-slice-known .given i)) (λ i. omega (arith, at-shared-slice-known2 .shared-slice-known2 .given i))
+    (sym (at-read-both .read-both .ensures) ∙ ap loneOf (at-enum-told .enum-told .given .1)) in
+    (maxDepth, has (both .pair .type-there))
 
 slice-aggregate-write-parts : tie.Need-slice-aggregate-write-parts
 slice-aggregate-write-parts c = search needs
 
 sub-write-parts : tie.Need-sub-write-parts
-sub-write-parts c = search needs
+sub-write-parts c =
+    let entry = c .before .before .before .before .before .before .before .before .before .before .before .before .before .before in
+    let at-shared-slice-known2 = c .before .before .before .before .before .before .before .before .before .before .before .before in
+    let at-read-both = c .before .before .before .before .before .before .before .before .before .before in
+    let at-enum-told = c .before .before .before .before .before .before .before .before in
+    let args = entry .args in
+    scalar-inside (args .ty .now) (λ i. omega (arith, at-shared-slice-known2 .shared-slice-known2 .given i)) (c .before .scalar-at .ensures)
+    (second-good (args .spec .now) (args .ty .now) (sym (at-read-both .read-both .ensures) ∙ ap loneOf (at-enum-told .enum-told .given .1)))
 
 part-write-parts-start : tie.Need-part-write-parts-start
-part-write-parts-start c = search needs
+part-write-parts-start c =
+    let entry = c .before .before .before .before .before .before .before .before .before .before .before .before .before .before in
+    let at-shared-slice-known2 = c .before .before .before .before .before .before .before .before .before .before .before .before in
+    let at-read-both = c .before .before .before .before .before .before .before .before .before .before in
+    let at-enum-told = c .before .before .before .before .before .before .before .before in
+    let args = entry .args in
+    scalar-inside (args .ty .now) (λ i. omega (arith, at-shared-slice-known2 .shared-slice-known2 .given i)) (c .before .scalar-at .ensures)
+    (second-good (args .spec .now) (args .ty .now) (sym (at-read-both .read-both .ensures) ∙ ap loneOf (at-enum-told .enum-told .given .1)))
 
 part-write-parts-end : tie.Need-part-write-parts-end
 part-write-parts-end c = search needs
@@ -83,23 +114,49 @@ part-write-parts-end c = search needs
 write-parts-requires : tie.Need-write-parts-requires
 write-parts-requires c κs = search needs
 
+enum-known-clash : tie.Need-enum-known-clash
+enum-known-clash c = search needs
+
 same-length : tie.Need-same-length
 same-length c = search needs
 
-returns-3 : tie.Need-returns-3
-returns-3 c =
-    let entry = c .before .before .before .before .before .before .before .before .before .before .before .before .before .before .before .before .before .before in
-    let at-lone-shape = c .before .before .before .before .before .before .before .before .before .before .before in
-    let at-lone-shape2 = c .before .before .before .before .before .before .before .before .before .before in
-    let at-check-shapes = c .before .before .before .before .before .before .before .before .before in
-    let at-if1 = c .before .before .before .before .before .before .before .before in
-    let at-lone-scalar = c .before .before .before .before .before .before in
+returns-2 : tie.Need-returns-2
+returns-2 c =
+    let entry = c .before .before .before .before .before .before .before .before .before .before .before .before .before .before .before .before .before .before .before in
+    let at-shared-slice-known = c .before .before .before .before .before .before .before .before .before .before .before .before .before .before .before .before .before .before in
+    let at-shared-slice-known2 = c .before .before .before .before .before .before .before .before .before .before .before .before .before .before .before .before .before in
+    let at-read-both = c .before .before .before .before .before .before .before .before .before .before .before .before .before .before .before in
+    let at-enum-told = c .before .before .before .before .before .before .before .before .before .before .before .before .before in
+    let at-shape-at = c .before .before .before .before .before .before .before .before .before .before .before .before in
+    let at-shape-at2 = c .before .before .before .before .before .before .before .before .before .before .before in
+    let at-check-shapes = c .before .before .before .before .before .before .before .before .before .before in
+    let at-enum-told3 = c .before .before .before .before .before .before .before .before in
+    let at-scalar-at = c .before .before .before .before .before .before in
     let at-write-parts = c .before .before in
     let args = entry .args in
-    at-write-parts .write-parts .ensures ∙ (ap (λ w. deliver (accepted (writeShape (shapeFor (at-check-shapes .check-shapes .result .shape)) ++ w)) (args .result .now))
-    (rest-is (args .ty .now) (at-lone-scalar .lone-scalar .result))
-    ∙ ap (λ o. deliver o (args .result .now)) (sym (shape-merged (sideOf (args .side)) (lone (args .spec .now)) (lone (args .ty .now)) (at-lone-shape .lone-shape .ensures)
-    (at-lone-shape2 .lone-shape2 .ensures) (at-lone-scalar .lone-scalar .ensures .0) (at-check-shapes .check-shapes .result) (at-check-shapes .check-shapes .ensures) (at-if1 .if1 .left))))
+    let both = lones (args .spec .now) (args .ty .now) (λ i. omega (arith, at-shared-slice-known .shared-slice-known .given i)) (λ i. omega (arith, at-shared-slice-known2 .shared-slice-known2 .given i))
+    (sym (at-read-both .read-both .ensures) ∙ ap loneOf (at-enum-told .enum-told .given .1)) in
+    let checked = shapes-checked (both .pair) (sideOf (args .side)) (at-shape-at .shape-at .result) (at-shape-at2 .shape-at2 .result) (at-check-shapes .check-shapes .result)
+    (at-check-shapes .check-shapes .ensures) (at-shape-at .shape-at .ensures) (at-shape-at2 .shape-at2 .ensures) in
+    let is = shape-merged both (sideOf (args .side)) (at-check-shapes .check-shapes .result) checked (λ i. omega (arith, at-shared-slice-known2 .shared-slice-known2 .given i)) (at-scalar-at .scalar-at .ensures) (at-enum-told3 .enum-told3 .given .1) in
+    at-write-parts .write-parts .ensures ∙ ap (λ o. deliver o (args .result .now)) (sym is)
+
+returns-3 : tie.Need-returns-3
+returns-3 c =
+    let entry = c .before .before .before .before .before .before .before .before .before .before .before .before in
+    let at-shared-slice-known = c .before .before .before .before .before .before .before .before .before .before .before in
+    let at-shared-slice-known2 = c .before .before .before .before .before .before .before .before .before .before in
+    let at-read-both = c .before .before .before .before .before .before .before .before in
+    let at-enum-told = c .before .before .before .before .before .before in
+    let at-shape-at = c .before .before .before .before .before in
+    let at-shape-at2 = c .before .before .before .before in
+    let at-check-shapes = c .before .before .before in
+    let args = entry .args in
+    let both = lones (args .spec .now) (args .ty .now) (λ i. omega (arith, at-shared-slice-known .shared-slice-known .given i)) (λ i. omega (arith, at-shared-slice-known2 .shared-slice-known2 .given i))
+    (sym (at-read-both .read-both .ensures) ∙ ap loneOf (at-enum-told .enum-told .given .1)) in
+    let checked = shapes-checked (both .pair) (sideOf (args .side)) (at-shape-at .shape-at .result) (at-shape-at2 .shape-at2 .result) (at-check-shapes .check-shapes .result)
+    (at-check-shapes .check-shapes .ensures) (at-shape-at .shape-at .ensures) (at-shape-at2 .shape-at2 .ensures) in
+    sym (deliver-refused _ (shape-clash both (sideOf (args .side)) (at-check-shapes .check-shapes .result) checked (c .before .clash .given .1)))
 
 pub check-shape-spec : {M : Type 1} → statement M
 check-shape-spec =
@@ -110,15 +167,17 @@ check-shape-spec =
     enum-told-2
     as-written-requires
     returns
-    lone-shape-requires
-    lone-shape-requires-2
+    shape-at-requires
+    shape-at-requires-2
     check-shapes-requires
-    returns-2
-    lone-scalar-requires
+    enum-told-3
+    scalar-at-requires
     slice-aggregate-write-parts
     sub-write-parts
     part-write-parts-start
     part-write-parts-end
     write-parts-requires
+    enum-known-clash
     same-length
+    returns-2
     returns-3)

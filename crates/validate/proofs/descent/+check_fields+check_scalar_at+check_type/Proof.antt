@@ -1,22 +1,19 @@
+use Rattle.validate.proofs.WalkLaws.{shapes-checked, shape-room, scalar-room, scalar-few, pair-refused, pair-clash, pair-done}
+use Rattle.validate.proofs.WalkLaws.{plan-refuse, plan-keep, plan-take, plan-inside, plan-pairs, keep-copyable, take-copyable, head-room, held-room, refused-done, copied-done, inside-done, fresh-lists, own-lists, fresh-done, own-done}
+use Rattle.validate.proofs.WalkLaws.{Pacing, pacing-start, lists-countable, pacing-few, pacing-ahead, first-spec, first-type, rest-enough, pacing-pair, pair-room, pacing-stop, types-few, pacing-next, pacing-ended, pacing-listable, tail-few, pacing-rest}
+use Rattle.validate.proofs.PlanLaws.{some-left, pair-bounds, typeTy, specTy}
+use Rattle.validate.proofs.ListLaws.{has}
+use Rattle.validate.specs.Walk.{fieldsPiece}
+use Rattle.validate.specs.Plans.{TwoLists, fieldsAfter}
+use Rattle.validate.specs.Answers.{sideOf}
+use Rattle.format.specs.Outcome.{mapped}
+use Rattle.model.specs.Limits.{maxDepth}
+use lib.ListN.{length, take}
 use mathlib.Core.Bool.{cond}
 use mathlib.Core.Path.{_≡_, refl, sym, ap, _∙_}
 use native.Mathlib.Omega.{arith}
 use borrow.Author.Needs.{needs}
-use lib.ListN.{length, take}
-use Rattle.model.specs.Limits.{maxDepth}
-use Rattle.model.specs.Types.{ty}
-use Rattle.format.specs.Outcome.{mapped}
-use Rattle.format.specs.Records.{boxStart, writeShape}
-use Rattle.record.specs.Answers.{shapeFor}
-use Rattle.validation.specs.CheckShape as rules
-use Rattle.validate.specs.Answers.{sideOf}
-use Rattle.validation.specs.CheckScalar.{inTurn}
-use Rattle.validate.specs.Plans.{scalarOf, shapeOf, sidedOf, Lists, fieldsOf}
-use Rattle.validate.specs.Walk.{scalarPiece, fieldsPiece, defHead}
-use Rattle.validate.proofs.PlanLaws.{type-at, has-type, some-left}
-use Rattle.validate.proofs.CopyLaws.{not-refused}
-use Rattle.validate.proofs.WalkLaws.{type-refused, type-clash, type-done, keep-copyable, take-copyable, Pacing, pacing-start, firsts, pacing-few, first-rest, first-types, pacing-pair, pacing-stop, pacing-next, pacing-ended, pacing-rest, pacing-fits, pacing-listable, lists-countable, done-number, checked-clash, checked-fits, roomy-done, laid-behind, scalar-few, plan-refuse, plan-keep, plan-take, plan-inside, plan-pairs, fresh-lists, own-lists, inside-done, pairs-done}
-use Prim.Native.Nat.{ℕ, _<_, _≤_, _+_, _-_, _*_}
+use Prim.Native.Nat.{ℕ, _<_, _+_, _-_, _*_}
 use borrow.Fn.Kinds.{In}
 use borrow.Fn.PlainCycle.{Measures, is, falls, and}
 use Rattle.validate.proofs.descent.check_fields.Reads as check-fields
@@ -28,15 +25,16 @@ use Rattle.validate.proofs.descent.+check_fields+check_scalar_at+check_
 use Rattle.validate.proofs.descent.check_type.Reads as check-type
 use Rattle.validate.proofs.descent.check_type.Kinds as check-type-kinds
 use Rattle.validate.proofs.descent.+check_fields+check_scalar_at+check_type.Lts-check_type as check-type-lts
-use Rattle.walk.proofs.shape_at.Reads as shape-at-reads
+use Rattle.known.proofs.shape_at.Reads as shape-at-reads
+use Rattle.known.proofs.span_at.Reads as span-at-reads
 use Rattle.validate.proofs.copies.copy_fields.Reads as copy-fields-reads
 use Rattle.validate.proofs.copies.copy_scalar.Reads as copy-scalar-reads
-use Rattle.validate.proofs.copies.put_box.Reads as put-box-reads
-use Rattle.validate.proofs.copies.put_name.Reads as put-name-reads
-use Rattle.validate.proofs.places.next_type.Reads as next-type-reads
-use Rattle.validate.proofs.places.span_at.Reads as span-at-reads
-use Rattle.validate.proofs.places.next_place.Reads as next-place-reads
-use Rattle.validate.proofs.places.types_in.Reads as types-in-reads
+use Rattle.validate.proofs.descent.done.Reads as done-reads
+use Rattle.validate.proofs.heads.put_box.Reads as put-box-reads
+use Rattle.validate.proofs.heads.put_name.Reads as put-name-reads
+use Rattle.validate.proofs.lists.next_place.Reads as next-place-reads
+use Rattle.validate.proofs.lists.next_type.Reads as next-type-reads
+use Rattle.validate.proofs.lists.types_in.Reads as types-in-reads
 use Rattle.validate.proofs.plans.plan_scalar.Reads as plan-scalar-reads
 use Rattle.validate.proofs.shapes.check_shapes.Reads as check-shapes-reads
 use Rattle.writer.proofs.put_shape.Reads as put-shape-reads
@@ -45,13 +43,13 @@ use Rattle.validate.proofs.descent.+check_fields+check_scalar_at+check_
 use Rattle.validate.proofs.descent.+check_fields+check_scalar_at+check_type.Tie.{close}
 
 abbrev μ-check-fields : Measures 3 check-fields-kinds.ps ℕ
-μ-check-fields κs a = 3 * (8 - a .1 .1 .1 .1 .1 .1 .1 .1 .1 .0) + 2
+μ-check-fields κs a = 3 * (maxDepth - a .1 .1 .1 .1 .1 .0) + 2
 
 abbrev μ-check-scalar-at : Measures 3 check-scalar-at-kinds.ps ℕ
-μ-check-scalar-at κs a = 3 * (8 - a .1 .1 .1 .1 .1 .0)
+μ-check-scalar-at κs a = 3 * (maxDepth - a .1 .1 .1 .1 .1 .0)
 
 abbrev μ-check-type : Measures 3 check-type-kinds.ps ℕ
-μ-check-type κs a = 3 * (8 - a .1 .1 .1 .1 .1 .1 .0) + 1
+μ-check-type κs a = 3 * (maxDepth - a .1 .1 .1 .1 .1 .1 .0) + 1
 
 abbrev check-fields-at : ℕ → In 3 check-fields-kinds.ps
 check-fields-at t =
@@ -90,11 +88,13 @@ check-type-below t =
     and 3 check-type-kinds.ps (falls 3 check-type-kinds.ps _<_ μ-check-type t) check-type.Pre
 
 abbrev check-fields-Inv-loop : check-fields-lts.InvT-loop
-check-fields-Inv-loop spec first limit moves source second count steps others above out₀ to i₀ j₀ end₀ before₀ rest₀ left₀ todo₀ out i j end before rest left todo =
-    (length out ≡ length out₀) × ((w : Lists spec first limit moves source second count steps others above) → Pacing spec moves source steps others above (mapped (fieldsPiece (take to out₀) 0) (fieldsOf others above w)) to i j todo left before rest (take end out) end)
+check-fields-Inv-loop spec wanted source own others above out₀ to i₀ j₀ end₀ before₀ rest₀ left₀ todo₀ out i j end before rest left todo =
+    (length out ≡ length out₀)
+    × ((w : TwoLists spec wanted source own others above)
+    → Pacing spec (wanted .moves) source (own .moves) others above (mapped (fieldsPiece (take to out₀) 0) (fieldsAfter w)) to i j todo left before rest (take end out) end)
 
 abbrev check-fields-μ-loop : check-fields-lts.MeasureT-loop
-check-fields-μ-loop spec first limit moves source second count steps others above out₀ to i₀ j₀ end₀ before₀ rest₀ left₀ todo₀ out i j end before rest left todo = todo
+check-fields-μ-loop spec wanted source own others above out₀ to i₀ j₀ end₀ before₀ rest₀ left₀ todo₀ out i j end before rest left todo = todo
 
 check-fields-types-in-requires : (t : ℕ) → check-fields-lts.Need-types-in-requires (
   types-in-reads.Asked,
@@ -131,9 +131,9 @@ check-fields-loop-holds : (t : ℕ) → check-fields-lts.Need-loop-holds (
 check-fields-loop-holds t c =
     let entry = c .before .before .before .before in
     let args = entry .args in
-    (refl, λ w. pacing-start w (take (args .to) (args .out .now)) (args .to) (c .types-in .ensures (w .type-fields) (w .type-listed) (w .type-count)))
+    (refl, λ w. pacing-start w (take (args .to) (args .out .now)) (args .to) (c .types-in .ensures (w .type-fields) (w .type-list) (w .type-count)))
 
-check-fields-sub-t28 : (t : ℕ) → check-fields-lts.Need-sub-t28 (
+check-fields-sub-t22 : (t : ℕ) → check-fields-lts.Need-sub-t22 (
   types-in-reads.Asked,
   types-in-reads.Learnt,
   span-at-reads.Asked,
@@ -147,10 +147,10 @@ check-fields-sub-t28 : (t : ℕ) → check-fields-lts.Need-sub-t28 (
   copy-fields-reads.Asked,
   copy-fields-reads.Learnt,
 ) (check-fields-at t) check-fields.Post check-fields-Inv-loop check-fields-μ-loop
-check-fields-sub-t28 t c =
+check-fields-sub-t22 t c =
     let entry = c .before .before .before .before .before .before .before in
     let at-loop = c .before .before in
-    omega (arith, (at-loop .loop .inv .1 (entry .pre .1 .0)) .ahead)
+    pacing-ahead (at-loop .loop .inv .1 (entry .pre .1 .0))
 
 check-fields-same-length : (t : ℕ) → check-fields-lts.Need-same-length (
   types-in-reads.Asked,
@@ -202,7 +202,11 @@ check-fields-span-at-requires : (t : ℕ) → check-fields-lts.Need-span-at-requ
   copy-fields-reads.Asked,
   copy-fields-reads.Learnt,
 ) (check-fields-at t) check-fields.Post check-fields-Inv-loop check-fields-μ-loop
-check-fields-span-at-requires t c κs = search needs
+check-fields-span-at-requires t c κs =
+    let entry = c .before .before .before .before .before .before .before in
+    let at-loop = c .before .before in
+    let now = at-loop .loop .inv .1 (entry .pre .1 .0) in
+    first-type now (c .before .loop-test .taken) (c .if1 .left)
 
 check-fields-sub-rest : (t : ℕ) → check-fields-lts.Need-sub-rest (
   types-in-reads.Asked,
@@ -223,7 +227,8 @@ check-fields-sub-rest t c =
     let at-loop = c .before .before .before .before in
     let at-loop-test = c .before .before .before in
     let at-if1 = c .before .before in
-    omega (arith, first-types (at-loop .loop .inv .1 (entry .pre .1 .0)) (at-loop-test .loop-test .taken) (at-if1 .if1 .left), (c .before .span-at .ensures .1 ((firsts (at-loop .loop .inv .1 (entry .pre .1 .0)) (at-loop-test .loop-test .taken) (at-if1 .if1 .left)) .q) ((firsts (at-loop .loop .inv .1 (entry .pre .1 .0)) (at-loop-test .loop-test .taken) (at-if1 .if1 .left)) .l) ((firsts (at-loop .loop .inv .1 (entry .pre .1 .0)) (at-loop-test .loop-test .taken) (at-if1 .if1 .left)) .type-placed) .0))
+    let now = at-loop .loop .inv .1 (entry .pre .1 .0) in
+    rest-enough now (at-loop-test .loop-test .taken) (at-if1 .if1 .left) (c .before .span-at .ensures)
 
 check-fields-add-check-type : (t : ℕ) → check-fields-lts.Need-add-check-type (
   types-in-reads.Asked,
@@ -264,7 +269,8 @@ check-fields-check-type-requires t c κs =
     let at-loop-test = c .before .before .before .before in
     let at-if1 = c .before .before .before in
     let at-span-at = c .before .before in
-    (omega (arith, entry .pre .0), ((pacing-pair (at-loop .loop .inv .1 (entry .pre .1 .0)) (at-loop-test .loop-test .taken) (at-if1 .if1 .left) (first-rest (at-loop .loop .inv .1 (entry .pre .1 .0)) (at-loop-test .loop-test .taken) (at-if1 .if1 .left) (at-span-at .span-at .ensures .1 ((firsts (at-loop .loop .inv .1 (entry .pre .1 .0)) (at-loop-test .loop-test .taken) (at-if1 .if1 .left)) .q) ((firsts (at-loop .loop .inv .1 (entry .pre .1 .0)) (at-loop-test .loop-test .taken) (at-if1 .if1 .left)) .l) ((firsts (at-loop .loop .inv .1 (entry .pre .1 .0)) (at-loop-test .loop-test .taken) (at-if1 .if1 .left)) .type-placed) .0))), omega (arith, (at-loop .loop .inv .1 (entry .pre .1 .0)) .room, (at-loop .loop .inv .1 (entry .pre .1 .0)) .ahead, pacing-few (at-loop .loop .inv .1 (entry .pre .1 .0)), entry .pre .1 .1, at-loop .loop .inv .0)))
+    let now = at-loop .loop .inv .1 (entry .pre .1 .0) in
+    (omega (arith, entry .pre .0), (pacing-pair now (at-loop-test .loop-test .taken) (at-if1 .if1 .left) (at-span-at .span-at .ensures), pair-room now (at-loop-test .loop-test .taken) (at-if1 .if1 .left) (at-span-at .span-at .ensures) (omega (arith, entry .pre .1 .1, at-loop .loop .inv .0))))
 
 check-fields-enum-known-w : (t : ℕ) → check-fields-lts.Need-enum-known-w (
   types-in-reads.Asked,
@@ -338,7 +344,10 @@ check-fields-returns-2 t c =
     let at-span-at = c .before .before .before .before .before .before .before in
     let at-check-type = c .before .before .before .before in
     λ w.
-    pacing-stop (at-loop .loop .inv .1 w) (at-loop-test .loop-test .taken) (at-if1 .if1 .left) (first-rest (at-loop .loop .inv .1 w) (at-loop-test .loop-test .taken) (at-if1 .if1 .left) (at-span-at .span-at .ensures .1 ((firsts (at-loop .loop .inv .1 w) (at-loop-test .loop-test .taken) (at-if1 .if1 .left)) .q) ((firsts (at-loop .loop .inv .1 w) (at-loop-test .loop-test .taken) (at-if1 .if1 .left)) .l) ((firsts (at-loop .loop .inv .1 w) (at-loop-test .loop-test .taken) (at-if1 .if1 .left)) .type-placed) .0)) (at-check-type .check-type .last .1 .1 .1 .1 .1 .1 .1 .0) (c .enum-told .given .1) (at-check-type .check-type .ensures (pacing-pair (at-loop .loop .inv .1 w) (at-loop-test .loop-test .taken) (at-if1 .if1 .left) (first-rest (at-loop .loop .inv .1 w) (at-loop-test .loop-test .taken) (at-if1 .if1 .left) (at-span-at .span-at .ensures .1 ((firsts (at-loop .loop .inv .1 w) (at-loop-test .loop-test .taken) (at-if1 .if1 .left)) .q) ((firsts (at-loop .loop .inv .1 w) (at-loop-test .loop-test .taken) (at-if1 .if1 .left)) .l) ((firsts (at-loop .loop .inv .1 w) (at-loop-test .loop-test .taken) (at-if1 .if1 .left)) .type-placed) .0))) .0)
+    let now = at-loop .loop .inv .1 w in
+    let hand = pacing-pair now (at-loop-test .loop-test .taken) (at-if1 .if1 .left) (at-span-at .span-at .ensures) in
+    pacing-stop now (at-loop-test .loop-test .taken) (at-if1 .if1 .left) (at-span-at .span-at .ensures)
+    (at-loop .loop .out) (at-check-type .check-type .last .1 .1 .1 .1 .1 .1 .1 .0) (at-check-type .check-type .result) refl (at-check-type .check-type .ensures hand) (c .enum-told .given .1)
 
 check-fields-next-type-requires : (t : ℕ) → check-fields-lts.Need-next-type-requires (
   types-in-reads.Asked,
@@ -354,7 +363,13 @@ check-fields-next-type-requires : (t : ℕ) → check-fields-lts.Need-next-type-
   copy-fields-reads.Asked,
   copy-fields-reads.Learnt,
 ) (check-fields-at t) check-fields.Post check-fields-Inv-loop check-fields-μ-loop
-check-fields-next-type-requires t c κs = search needs
+check-fields-next-type-requires t c κs =
+    let entry = c .before .before .before .before .before .before .before .before .before .before .before .before .before .before .before .before in
+    let at-loop = c .before .before .before .before .before .before .before .before .before .before .before in
+    let at-loop-test = c .before .before .before .before .before .before .before .before .before .before in
+    let at-if1 = c .before .before .before .before .before .before .before .before .before in
+    let now = at-loop .loop .inv .1 (entry .pre .1 .0) in
+    first-spec now (at-loop-test .loop-test .taken) (at-if1 .if1 .left)
 
 check-fields-next-place-requires : (t : ℕ) → check-fields-lts.Need-next-place-requires (
   types-in-reads.Asked,
@@ -394,7 +409,11 @@ check-fields-add-before t c =
     let at-span-at = c .before .before .before .before .before .before .before .before .before .before in
     let at-check-type = c .before .before .before .before .before .before .before in
     let at-w = c .before .before .before in
-    omega (arith, pacing-few (pacing-next (at-loop .loop .inv .1 (entry .pre .1 .0)) (at-loop-test .loop-test .taken) (at-if1 .if1 .left) (first-rest (at-loop .loop .inv .1 (entry .pre .1 .0)) (at-loop-test .loop-test .taken) (at-if1 .if1 .left) (at-span-at .span-at .ensures .1 ((firsts (at-loop .loop .inv .1 (entry .pre .1 .0)) (at-loop-test .loop-test .taken) (at-if1 .if1 .left)) .q) ((firsts (at-loop .loop .inv .1 (entry .pre .1 .0)) (at-loop-test .loop-test .taken) (at-if1 .if1 .left)) .l) ((firsts (at-loop .loop .inv .1 (entry .pre .1 .0)) (at-loop-test .loop-test .taken) (at-if1 .if1 .left)) .type-placed) .0)) (at-check-type .check-type .last .1 .1 .1 .1 .1 .1 .1 .0) (at-w .w .given .1) (at-check-type .check-type .ensures (pacing-pair (at-loop .loop .inv .1 (entry .pre .1 .0)) (at-loop-test .loop-test .taken) (at-if1 .if1 .left) (first-rest (at-loop .loop .inv .1 (entry .pre .1 .0)) (at-loop-test .loop-test .taken) (at-if1 .if1 .left) (at-span-at .span-at .ensures .1 ((firsts (at-loop .loop .inv .1 (entry .pre .1 .0)) (at-loop-test .loop-test .taken) (at-if1 .if1 .left)) .q) ((firsts (at-loop .loop .inv .1 (entry .pre .1 .0)) (at-loop-test .loop-test .taken) (at-if1 .if1 .left)) .l) ((firsts (at-loop .loop .inv .1 (entry .pre .1 .0)) (at-loop-test .loop-test .taken) (at-if1 .if1 .left)) .type-placed) .0)))) (c .before .next-type .ensures ((firsts (at-loop .loop .inv .1 (entry .pre .1 .0)) (at-loop-test .loop-test .taken) (at-if1 .if1 .left)) .p) ((firsts (at-loop .loop .inv .1 (entry .pre .1 .0)) (at-loop-test .loop-test .taken) (at-if1 .if1 .left)) .k) ((firsts (at-loop .loop .inv .1 (entry .pre .1 .0)) (at-loop-test .loop-test .taken) (at-if1 .if1 .left)) .spec-placed)) (c .next-place .ensures ∙ ap (λ e. cond (entry .args .steps) e (at-loop .loop .j)) (at-span-at .span-at .ensures .1 ((firsts (at-loop .loop .inv .1 (entry .pre .1 .0)) (at-loop-test .loop-test .taken) (at-if1 .if1 .left)) .q) ((firsts (at-loop .loop .inv .1 (entry .pre .1 .0)) (at-loop-test .loop-test .taken) (at-if1 .if1 .left)) .l) ((firsts (at-loop .loop .inv .1 (entry .pre .1 .0)) (at-loop-test .loop-test .taken) (at-if1 .if1 .left)) .type-placed) .1))))
+    let now = at-loop .loop .inv .1 (entry .pre .1 .0) in
+    let hand = pacing-pair now (at-loop-test .loop-test .taken) (at-if1 .if1 .left) (at-span-at .span-at .ensures) in
+    let few = types-few now (at-loop-test .loop-test .taken) (at-if1 .if1 .left) (at-span-at .span-at .ensures)
+    (at-loop .loop .out) (at-check-type .check-type .last .1 .1 .1 .1 .1 .1 .1 .0) (at-check-type .check-type .result) refl (at-check-type .check-type .ensures hand) (at-w .w .given .1) in
+    omega (arith, few)
 
 check-fields-sub-left : (t : ℕ) → check-fields-lts.Need-sub-left (
   types-in-reads.Asked,
@@ -459,14 +478,19 @@ check-fields-loop-again : (t : ℕ) → check-fields-lts.Need-loop-again (
   copy-fields-reads.Learnt,
 ) (check-fields-at t) check-fields.Post check-fields-Inv-loop check-fields-μ-loop
 check-fields-loop-again t c =
-    let entry = c .before .before .before .before .before .before .before .before .before .before .before .before .before .before .before .before .before .before in
     let at-loop = c .before .before .before .before .before .before .before .before .before .before .before .before .before in
     let at-loop-test = c .before .before .before .before .before .before .before .before .before .before .before .before in
     let at-if1 = c .before .before .before .before .before .before .before .before .before .before .before in
     let at-span-at = c .before .before .before .before .before .before .before .before .before .before in
     let at-check-type = c .before .before .before .before .before .before .before in
-    let at-w = c .before .before .before in
-    (at-check-type .check-type .kept .1 .1 .1 .1 .1 .1 .1 .0 ∙ at-loop .loop .inv .0, λ w. pacing-next (at-loop .loop .inv .1 w) (at-loop-test .loop-test .taken) (at-if1 .if1 .left) (first-rest (at-loop .loop .inv .1 w) (at-loop-test .loop-test .taken) (at-if1 .if1 .left) (at-span-at .span-at .ensures .1 ((firsts (at-loop .loop .inv .1 w) (at-loop-test .loop-test .taken) (at-if1 .if1 .left)) .q) ((firsts (at-loop .loop .inv .1 w) (at-loop-test .loop-test .taken) (at-if1 .if1 .left)) .l) ((firsts (at-loop .loop .inv .1 w) (at-loop-test .loop-test .taken) (at-if1 .if1 .left)) .type-placed) .0)) (at-check-type .check-type .last .1 .1 .1 .1 .1 .1 .1 .0) (at-w .w .given .1) (at-check-type .check-type .ensures (pacing-pair (at-loop .loop .inv .1 w) (at-loop-test .loop-test .taken) (at-if1 .if1 .left) (first-rest (at-loop .loop .inv .1 w) (at-loop-test .loop-test .taken) (at-if1 .if1 .left) (at-span-at .span-at .ensures .1 ((firsts (at-loop .loop .inv .1 w) (at-loop-test .loop-test .taken) (at-if1 .if1 .left)) .q) ((firsts (at-loop .loop .inv .1 w) (at-loop-test .loop-test .taken) (at-if1 .if1 .left)) .l) ((firsts (at-loop .loop .inv .1 w) (at-loop-test .loop-test .taken) (at-if1 .if1 .left)) .type-placed) .0)))) (c .before .next-type .ensures ((firsts (at-loop .loop .inv .1 w) (at-loop-test .loop-test .taken) (at-if1 .if1 .left)) .p) ((firsts (at-loop .loop .inv .1 w) (at-loop-test .loop-test .taken) (at-if1 .if1 .left)) .k) ((firsts (at-loop .loop .inv .1 w) (at-loop-test .loop-test .taken) (at-if1 .if1 .left)) .spec-placed)) (c .next-place .ensures ∙ ap (λ e. cond (entry .args .steps) e (at-loop .loop .j)) (at-span-at .span-at .ensures .1 ((firsts (at-loop .loop .inv .1 w) (at-loop-test .loop-test .taken) (at-if1 .if1 .left)) .q) ((firsts (at-loop .loop .inv .1 w) (at-loop-test .loop-test .taken) (at-if1 .if1 .left)) .l) ((firsts (at-loop .loop .inv .1 w) (at-loop-test .loop-test .taken) (at-if1 .if1 .left)) .type-placed) .1)))
+    let at-w = c .before .before .before in (
+      at-check-type .check-type .kept .1 .1 .1 .1 .1 .1 .1 .0 ∙ at-loop .loop .inv .0,
+      λ w.
+          let now = at-loop .loop .inv .1 w in
+          let hand = pacing-pair now (at-loop-test .loop-test .taken) (at-if1 .if1 .left) (at-span-at .span-at .ensures) in
+          pacing-next now (at-loop-test .loop-test .taken) (at-if1 .if1 .left) (at-span-at .span-at .ensures)
+          (at-loop .loop .out) (at-check-type .check-type .last .1 .1 .1 .1 .1 .1 .1 .0) (at-check-type .check-type .result) refl (at-check-type .check-type .ensures hand) (at-w .w .given .1) (c .before .next-type .ensures) (c .next-place .ensures),
+    )
 
 check-fields-copy-fields-requires : (t : ℕ) → check-fields-lts.Need-copy-fields-requires (
   types-in-reads.Asked,
@@ -485,9 +509,10 @@ check-fields-copy-fields-requires : (t : ℕ) → check-fields-lts.Need-copy-fie
 check-fields-copy-fields-requires t c κs =
     let entry = c .before .before .before .before .before .before .before in
     let at-loop = c .before .before in
-    pacing-listable (at-loop .loop .inv .1 (entry .pre .1 .0)) (omega (arith, entry .pre .1 .1, at-loop .loop .inv .0))
+    let now = at-loop .loop .inv .1 (entry .pre .1 .0) in
+    pacing-listable (at-loop .loop .out) now (omega (arith, entry .pre .1 .1, at-loop .loop .inv .0))
 
-check-fields-enum-known-w-2 : (t : ℕ) → check-fields-lts.Need-enum-known-w-2 (
+check-fields-sub-t29 : (t : ℕ) → check-fields-lts.Need-sub-t29 (
   types-in-reads.Asked,
   types-in-reads.Learnt,
   span-at-reads.Asked,
@@ -501,9 +526,12 @@ check-fields-enum-known-w-2 : (t : ℕ) → check-fields-lts.Need-enum-known-w-2
   copy-fields-reads.Asked,
   copy-fields-reads.Learnt,
 ) (check-fields-at t) check-fields.Post check-fields-Inv-loop check-fields-μ-loop
-check-fields-enum-known-w-2 t c = search needs
+check-fields-sub-t29 t c =
+    let entry = c .before .before .before .before .before .before .before .before .before .before in
+    let at-loop = c .before .before .before .before .before in
+    pacing-ahead (at-loop .loop .inv .1 (entry .pre .1 .0))
 
-check-fields-enum-told-2 : (t : ℕ) → check-fields-lts.Need-enum-told-2 (
+check-fields-add-t30 : (t : ℕ) → check-fields-lts.Need-add-t30 (
   types-in-reads.Asked,
   types-in-reads.Learnt,
   span-at-reads.Asked,
@@ -517,7 +545,14 @@ check-fields-enum-told-2 : (t : ℕ) → check-fields-lts.Need-enum-told-2 (
   copy-fields-reads.Asked,
   copy-fields-reads.Learnt,
 ) (check-fields-at t) check-fields.Post check-fields-Inv-loop check-fields-μ-loop
-check-fields-enum-told-2 t c = search needs
+check-fields-add-t30 t c =
+    let entry = c .before .before .before .before .before .before .before .before .before .before .before in
+    let at-loop = c .before .before .before .before .before .before in
+    let at-copy-fields = c .before .before .before in
+    let now = at-loop .loop .inv .1 (entry .pre .1 .0) in
+    let copied = at-copy-fields .copy-fields .ensures (now .lists .type-fields) (now .lists .type-list) (now .lists .type-count) in
+    let few = tail-few (at-loop .loop .out) now (at-copy-fields .copy-fields .last .1 .1 .1 .1 .0) (at-copy-fields .copy-fields .result) copied in
+    omega (arith, few)
 
 check-fields-same-length-3 : (t : ℕ) → check-fields-lts.Need-same-length-3 (
   types-in-reads.Asked,
@@ -534,8 +569,8 @@ check-fields-same-length-3 : (t : ℕ) → check-fields-lts.Need-same-length-3 (
   copy-fields-reads.Learnt,
 ) (check-fields-at t) check-fields.Post check-fields-Inv-loop check-fields-μ-loop
 check-fields-same-length-3 t c =
-    let at-loop = c .before .before .before .before .before .before .before in
-    let at-copy-fields = c .before .before .before .before in
+    let at-loop = c .before .before .before .before .before .before in
+    let at-copy-fields = c .before .before .before in
     at-copy-fields .copy-fields .kept .1 .1 .1 .1 .0 ∙ at-loop .loop .inv .0
 
 check-fields-returns-3 : (t : ℕ) → check-fields-lts.Need-returns-3 (
@@ -553,98 +588,21 @@ check-fields-returns-3 : (t : ℕ) → check-fields-lts.Need-returns-3 (
   copy-fields-reads.Learnt,
 ) (check-fields-at t) check-fields.Post check-fields-Inv-loop check-fields-μ-loop
 check-fields-returns-3 t c =
-    let entry = c .before .before .before .before .before .before .before .before .before .before .before .before in
-    let at-loop = c .before .before .before .before .before .before .before in
-    let at-copy-fields = c .before .before .before .before in
+    let at-loop = c .before .before .before .before .before .before in
+    let at-loop-test = c .before .before .before .before .before in
+    let at-copy-fields = c .before .before .before in
     λ w.
-    not-refused (at-copy-fields .copy-fields .last .1 .1 .1 .1 .0) _ ((at-copy-fields .copy-fields .ensures ((at-loop .loop .inv .1 w) .lists .type-fields) ((at-loop .loop .inv .1 w) .lists .type-listed) ((at-loop .loop .inv .1 w) .lists .type-count) (pacing-fits (at-loop .loop .inv .1 w) (omega (arith, entry .pre .1 .1, at-loop .loop .inv .0)))) .0) (c .enum-told2 .given .1)
-
-check-fields-sub-t35 : (t : ℕ) → check-fields-lts.Need-sub-t35 (
-  types-in-reads.Asked,
-  types-in-reads.Learnt,
-  span-at-reads.Asked,
-  span-at-reads.Learnt,
-  check-type-below t,
-  check-type.Post,
-  next-type-reads.Asked,
-  next-type-reads.Learnt,
-  next-place-reads.Asked,
-  next-place-reads.Learnt,
-  copy-fields-reads.Asked,
-  copy-fields-reads.Learnt,
-) (check-fields-at t) check-fields.Post check-fields-Inv-loop check-fields-μ-loop
-check-fields-sub-t35 t c =
-    let entry = c .before .before .before .before .before .before .before .before .before .before .before .before .before in
-    let at-loop = c .before .before .before .before .before .before .before .before in
-    omega (arith, (at-loop .loop .inv .1 (entry .pre .1 .0)) .ahead)
-
-check-fields-add-t36 : (t : ℕ) → check-fields-lts.Need-add-t36 (
-  types-in-reads.Asked,
-  types-in-reads.Learnt,
-  span-at-reads.Asked,
-  span-at-reads.Learnt,
-  check-type-below t,
-  check-type.Post,
-  next-type-reads.Asked,
-  next-type-reads.Learnt,
-  next-place-reads.Asked,
-  next-place-reads.Learnt,
-  copy-fields-reads.Asked,
-  copy-fields-reads.Learnt,
-) (check-fields-at t) check-fields.Post check-fields-Inv-loop check-fields-μ-loop
-check-fields-add-t36 t c =
-    let entry = c .before .before .before .before .before .before .before .before .before .before .before .before .before in
-    let at-loop = c .before .before .before .before .before .before .before .before in
-    let at-copy-fields = c .before .before .before .before .before in
-    let q = done-number (at-copy-fields .copy-fields .last .1 .1 .1 .1 .0) (take (at-loop .loop .end) (at-loop .loop .out)) ((at-loop .loop .inv .1 (entry .pre .1 .0)) .lists .type-fields) (c .before .w2 .given .1) ((at-copy-fields .copy-fields .ensures ((at-loop .loop .inv .1 (entry .pre .1 .0)) .lists .type-fields) ((at-loop .loop .inv .1 (entry .pre .1 .0)) .lists .type-listed) ((at-loop .loop .inv .1 (entry .pre .1 .0)) .lists .type-count) (pacing-fits (at-loop .loop .inv .1 (entry .pre .1 .0)) (omega (arith, entry .pre .1 .1, at-loop .loop .inv .0)))) .0) in
-    omega (arith, q, (at-loop .loop .inv .1 (entry .pre .1 .0)) .ahead, (at-loop .loop .inv .1 (entry .pre .1 .0)) .number, pacing-few (at-loop .loop .inv .1 (entry .pre .1 .0)))
-
-check-fields-same-length-4 : (t : ℕ) → check-fields-lts.Need-same-length-4 (
-  types-in-reads.Asked,
-  types-in-reads.Learnt,
-  span-at-reads.Asked,
-  span-at-reads.Learnt,
-  check-type-below t,
-  check-type.Post,
-  next-type-reads.Asked,
-  next-type-reads.Learnt,
-  next-place-reads.Asked,
-  next-place-reads.Learnt,
-  copy-fields-reads.Asked,
-  copy-fields-reads.Learnt,
-) (check-fields-at t) check-fields.Post check-fields-Inv-loop check-fields-μ-loop
-check-fields-same-length-4 t c =
-    let at-loop = c .before .before .before .before .before .before .before .before in
-    let at-copy-fields = c .before .before .before .before .before in
-    at-copy-fields .copy-fields .kept .1 .1 .1 .1 .0 ∙ at-loop .loop .inv .0
-
-check-fields-returns-4 : (t : ℕ) → check-fields-lts.Need-returns-4 (
-  types-in-reads.Asked,
-  types-in-reads.Learnt,
-  span-at-reads.Asked,
-  span-at-reads.Learnt,
-  check-type-below t,
-  check-type.Post,
-  next-type-reads.Asked,
-  next-type-reads.Learnt,
-  next-place-reads.Asked,
-  next-place-reads.Learnt,
-  copy-fields-reads.Asked,
-  copy-fields-reads.Learnt,
-) (check-fields-at t) check-fields.Post check-fields-Inv-loop check-fields-μ-loop
-check-fields-returns-4 t c =
-    let entry = c .before .before .before .before .before .before .before .before .before .before .before .before .before in
-    let at-loop = c .before .before .before .before .before .before .before .before in
-    let at-loop-test = c .before .before .before .before .before .before .before in
-    let at-copy-fields = c .before .before .before .before .before in
-    λ w.
-    pacing-rest (at-loop .loop .out) (at-loop .loop .inv .1 w) (at-copy-fields .copy-fields .last .1 .1 .1 .1 .0) (omega (arith, at-loop-test .loop-test .left)) (c .before .w2 .given .1) (at-copy-fields .copy-fields .ensures ((at-loop .loop .inv .1 w) .lists .type-fields) ((at-loop .loop .inv .1 w) .lists .type-listed) ((at-loop .loop .inv .1 w) .lists .type-count) (pacing-fits (at-loop .loop .inv .1 w) (omega (arith, entry .pre .1 .1, at-loop .loop .inv .0))))
+    let now = at-loop .loop .inv .1 w in
+    let copied = at-copy-fields .copy-fields .ensures (now .lists .type-fields) (now .lists .type-list) (now .lists .type-count) in
+    pacing-rest (at-loop .loop .out) now (at-copy-fields .copy-fields .last .1 .1 .1 .1 .0) (at-copy-fields .copy-fields .result) copied (omega (arith, at-loop-test .loop-test .left))
 
 check-scalar-at-plan-scalar-requires : (t : ℕ) → check-scalar-at-lts.Need-plan-scalar-requires (
   plan-scalar-reads.Asked,
   plan-scalar-reads.Learnt,
   copy-scalar-reads.Asked,
   copy-scalar-reads.Learnt,
+  done-reads.Asked,
+  done-reads.Learnt,
   put-box-reads.Asked,
   put-box-reads.Learnt,
   check-type-below t,
@@ -656,13 +614,15 @@ check-scalar-at-plan-scalar-requires : (t : ℕ) → check-scalar-at-lts.Need-pl
 ) (check-scalar-at-at t) check-scalar-at.Post
 check-scalar-at-plan-scalar-requires t c κs =
     let entry = c .before .before .before in
-    (entry .pre .1 .0)
+    entry .pre .1 .0
 
 check-scalar-at-enum-known-plan : (t : ℕ) → check-scalar-at-lts.Need-enum-known-plan (
   plan-scalar-reads.Asked,
   plan-scalar-reads.Learnt,
   copy-scalar-reads.Asked,
   copy-scalar-reads.Learnt,
+  done-reads.Asked,
+  done-reads.Learnt,
   put-box-reads.Asked,
   put-box-reads.Learnt,
   check-type-below t,
@@ -679,6 +639,8 @@ check-scalar-at-enum-told : (t : ℕ) → check-scalar-at-lts.Need-enum-told (
   plan-scalar-reads.Learnt,
   copy-scalar-reads.Asked,
   copy-scalar-reads.Learnt,
+  done-reads.Asked,
+  done-reads.Learnt,
   put-box-reads.Asked,
   put-box-reads.Learnt,
   check-type-below t,
@@ -695,6 +657,8 @@ check-scalar-at-copy-scalar-requires : (t : ℕ) → check-scalar-at-lts.Need-co
   plan-scalar-reads.Learnt,
   copy-scalar-reads.Asked,
   copy-scalar-reads.Learnt,
+  done-reads.Asked,
+  done-reads.Learnt,
   put-box-reads.Asked,
   put-box-reads.Learnt,
   check-type-below t,
@@ -706,13 +670,34 @@ check-scalar-at-copy-scalar-requires : (t : ℕ) → check-scalar-at-lts.Need-co
 ) (check-scalar-at-at t) check-scalar-at.Post
 check-scalar-at-copy-scalar-requires t c κs =
     let entry = c .before .before .before .before .before .before .before in
-    keep-copyable (entry .pre .1 .0) (entry .args .to) (entry .pre .1 .1)
+    let args = entry .args in
+    keep-copyable (entry .pre .1 .0) (args .to) (entry .pre .1 .1)
+
+check-scalar-at-done-requires : (t : ℕ) → check-scalar-at-lts.Need-done-requires (
+  plan-scalar-reads.Asked,
+  plan-scalar-reads.Learnt,
+  copy-scalar-reads.Asked,
+  copy-scalar-reads.Learnt,
+  done-reads.Asked,
+  done-reads.Learnt,
+  put-box-reads.Asked,
+  put-box-reads.Learnt,
+  check-type-below t,
+  check-type.Post,
+  put-name-reads.Asked,
+  put-name-reads.Learnt,
+  check-fields-below t,
+  check-fields.Post,
+) (check-scalar-at-at t) check-scalar-at.Post
+check-scalar-at-done-requires t c κs = search needs
 
 check-scalar-at-enum-told-2 : (t : ℕ) → check-scalar-at-lts.Need-enum-told-2 (
   plan-scalar-reads.Asked,
   plan-scalar-reads.Learnt,
   copy-scalar-reads.Asked,
   copy-scalar-reads.Learnt,
+  done-reads.Asked,
+  done-reads.Learnt,
   put-box-reads.Asked,
   put-box-reads.Learnt,
   check-type-below t,
@@ -729,6 +714,8 @@ check-scalar-at-copy-scalar-requires-2 : (t : ℕ) → check-scalar-at-lts.Need-
   plan-scalar-reads.Learnt,
   copy-scalar-reads.Asked,
   copy-scalar-reads.Learnt,
+  done-reads.Asked,
+  done-reads.Learnt,
   put-box-reads.Asked,
   put-box-reads.Learnt,
   check-type-below t,
@@ -741,13 +728,34 @@ check-scalar-at-copy-scalar-requires-2 : (t : ℕ) → check-scalar-at-lts.Need-
 check-scalar-at-copy-scalar-requires-2 t c κs =
     let entry = c .before .before .before .before .before .before .before in
     let at-plan-scalar = c .before .before .before in
-    take-copyable (entry .pre .1 .0) (entry .args .to) (plan-take (entry .pre .1 .0) (at-plan-scalar .plan-scalar .result) (at-plan-scalar .plan-scalar .ensures (entry .pre .1 .0)) (c .before .enum-told2 .given .1)) (entry .pre .1 .1)
+    let args = entry .args in
+    take-copyable (entry .pre .1 .0) (args .to) (entry .pre .1 .1) (plan-take (entry .pre .1 .0) (at-plan-scalar .plan-scalar .result) (at-plan-scalar .plan-scalar .ensures (entry .pre .1 .0)) (c .before .enum-told2 .given .1))
+
+check-scalar-at-done-requires-2 : (t : ℕ) → check-scalar-at-lts.Need-done-requires-2 (
+  plan-scalar-reads.Asked,
+  plan-scalar-reads.Learnt,
+  copy-scalar-reads.Asked,
+  copy-scalar-reads.Learnt,
+  done-reads.Asked,
+  done-reads.Learnt,
+  put-box-reads.Asked,
+  put-box-reads.Learnt,
+  check-type-below t,
+  check-type.Post,
+  put-name-reads.Asked,
+  put-name-reads.Learnt,
+  check-fields-below t,
+  check-fields.Post,
+) (check-scalar-at-at t) check-scalar-at.Post
+check-scalar-at-done-requires-2 t c κs = search needs
 
 check-scalar-at-enum-known-plan-2 : (t : ℕ) → check-scalar-at-lts.Need-enum-known-plan-2 (
   plan-scalar-reads.Asked,
   plan-scalar-reads.Learnt,
   copy-scalar-reads.Asked,
   copy-scalar-reads.Learnt,
+  done-reads.Asked,
+  done-reads.Learnt,
   put-box-reads.Asked,
   put-box-reads.Learnt,
   check-type-below t,
@@ -764,6 +772,8 @@ check-scalar-at-put-box-requires : (t : ℕ) → check-scalar-at-lts.Need-put-bo
   plan-scalar-reads.Learnt,
   copy-scalar-reads.Asked,
   copy-scalar-reads.Learnt,
+  done-reads.Asked,
+  done-reads.Learnt,
   put-box-reads.Asked,
   put-box-reads.Learnt,
   check-type-below t,
@@ -775,13 +785,16 @@ check-scalar-at-put-box-requires : (t : ℕ) → check-scalar-at-lts.Need-put-bo
 ) (check-scalar-at-at t) check-scalar-at.Post
 check-scalar-at-put-box-requires t c κs =
     let entry = c .before .before .before .before .before .before .before .before in
-    omega (arith, entry .pre .1 .1)
+    let args = entry .args in
+    (head-room (entry .pre .1 .0) (args .to) (entry .pre .1 .1), omega arith)
 
 check-scalar-at-add-check-type : (t : ℕ) → check-scalar-at-lts.Need-add-check-type (
   plan-scalar-reads.Asked,
   plan-scalar-reads.Learnt,
   copy-scalar-reads.Asked,
   copy-scalar-reads.Learnt,
+  done-reads.Asked,
+  done-reads.Learnt,
   put-box-reads.Asked,
   put-box-reads.Learnt,
   check-type-below t,
@@ -793,8 +806,7 @@ check-scalar-at-add-check-type : (t : ℕ) → check-scalar-at-lts.Need-add-chec
 ) (check-scalar-at-at t) check-scalar-at.Post
 check-scalar-at-add-check-type t c =
     let entry = c .before .before .before .before .before .before .before .before .before .before .before in
-    let args = entry .args in
-    let r = some-left (args .others) (args .above) ((entry .pre .1 .0) .type-scalar) ((entry .pre .1 .0) .limits) in
+    let b = pair-bounds (entry .pre .1 .0) in
     search needs
 
 check-scalar-at-add-check-type-2 : (t : ℕ) → check-scalar-at-lts.Need-add-check-type-2 (
@@ -802,6 +814,8 @@ check-scalar-at-add-check-type-2 : (t : ℕ) → check-scalar-at-lts.Need-add-ch
   plan-scalar-reads.Learnt,
   copy-scalar-reads.Asked,
   copy-scalar-reads.Learnt,
+  done-reads.Asked,
+  done-reads.Learnt,
   put-box-reads.Asked,
   put-box-reads.Learnt,
   check-type-below t,
@@ -813,28 +827,7 @@ check-scalar-at-add-check-type-2 : (t : ℕ) → check-scalar-at-lts.Need-add-ch
 ) (check-scalar-at-at t) check-scalar-at.Post
 check-scalar-at-add-check-type-2 t c =
     let entry = c .before .before .before .before .before .before .before .before .before .before .before in
-    let args = entry .args in
-    let r = some-left (args .others) (args .above) ((entry .pre .1 .0) .type-scalar) ((entry .pre .1 .0) .limits) in
-    search needs
-
-check-scalar-at-add-check-type-3 : (t : ℕ) → check-scalar-at-lts.Need-add-check-type-3 (
-  plan-scalar-reads.Asked,
-  plan-scalar-reads.Learnt,
-  copy-scalar-reads.Asked,
-  copy-scalar-reads.Learnt,
-  put-box-reads.Asked,
-  put-box-reads.Learnt,
-  check-type-below t,
-  check-type.Post,
-  put-name-reads.Asked,
-  put-name-reads.Learnt,
-  check-fields-below t,
-  check-fields.Post,
-) (check-scalar-at-at t) check-scalar-at.Post
-check-scalar-at-add-check-type-3 t c =
-    let entry = c .before .before .before .before .before .before .before .before .before .before .before .before in
-    let args = entry .args in
-    let b : args .to + 6 ≤ length (args .out .now) = omega (arith, entry .pre .1 .1) in
+    let b = pair-bounds (entry .pre .1 .0) in
     search needs
 
 check-scalar-at-check-type-requires : (t : ℕ) → check-scalar-at-lts.Need-check-type-requires (
@@ -842,6 +835,8 @@ check-scalar-at-check-type-requires : (t : ℕ) → check-scalar-at-lts.Need-che
   plan-scalar-reads.Learnt,
   copy-scalar-reads.Asked,
   copy-scalar-reads.Learnt,
+  done-reads.Asked,
+  done-reads.Learnt,
   put-box-reads.Asked,
   put-box-reads.Learnt,
   check-type-below t,
@@ -857,14 +852,17 @@ check-scalar-at-check-type-requires t c κs =
     let at-plan2 = c .before .before .before .before .before .before in
     let at-put-box = c .before .before .before in
     let args = entry .args in
-    let r = some-left (args .others) (args .above) ((entry .pre .1 .0) .type-scalar) ((entry .pre .1 .0) .limits) in
-    (omega (arith, entry .pre .0, r .1), ((plan-inside (entry .pre .1 .0) (at-plan-scalar .plan-scalar .result) (at-plan-scalar .plan-scalar .ensures (entry .pre .1 .0)) (at-plan2 .plan2 .given .1)) .inner, omega (arith, entry .pre .1 .1, r .0, at-put-box .put-box .kept .0)))
+    let left = some-left (args .others) (args .above) (entry .pre .1 .0 .type-scalar) (entry .pre .1 .0 .limits) in
+    let v = plan-inside (entry .pre .1 .0) (at-plan-scalar .plan-scalar .result) (at-plan-scalar .plan-scalar .ensures (entry .pre .1 .0)) (at-plan2 .plan2 .given .1) in
+    (omega (arith, entry .pre .0, left .1), (v .inner, held-room (entry .pre .1 .0) (args .to) (args .out .now) (entry .pre .1 .1) (at-put-box .put-box .result) (at-put-box .put-box .last .0) (at-put-box .put-box .ensures .short) (at-put-box .put-box .kept .0)))
 
 check-scalar-at-enum-known-plan-3 : (t : ℕ) → check-scalar-at-lts.Need-enum-known-plan-3 (
   plan-scalar-reads.Asked,
   plan-scalar-reads.Learnt,
   copy-scalar-reads.Asked,
   copy-scalar-reads.Learnt,
+  done-reads.Asked,
+  done-reads.Learnt,
   put-box-reads.Asked,
   put-box-reads.Learnt,
   check-type-below t,
@@ -881,6 +879,8 @@ check-scalar-at-cast-put-name : (t : ℕ) → check-scalar-at-lts.Need-cast-put-
   plan-scalar-reads.Learnt,
   copy-scalar-reads.Asked,
   copy-scalar-reads.Learnt,
+  done-reads.Asked,
+  done-reads.Learnt,
   put-box-reads.Asked,
   put-box-reads.Learnt,
   check-type-below t,
@@ -891,9 +891,10 @@ check-scalar-at-cast-put-name : (t : ℕ) → check-scalar-at-lts.Need-cast-put-
   check-fields.Post,
 ) (check-scalar-at-at t) check-scalar-at.Post
 check-scalar-at-cast-put-name t c =
-    let entry = c .before .before .before .before .before .before .before in
-    let at-plan-scalar = c .before .before .before in
-    let v = (plan-pairs (entry .pre .1 .0) (at-plan-scalar .plan-scalar .result) (at-plan-scalar .plan-scalar .ensures (entry .pre .1 .0)) (c .before .plan3 .given .1)) in
+    let entry = c .before .before .before .before .before .before .before .before in
+    let at-plan-scalar = c .before .before .before .before in
+    let at-plan3 = c .before .before in
+    let v = plan-pairs (entry .pre .1 .0) (at-plan-scalar .plan-scalar .result) (at-plan-scalar .plan-scalar .ensures (entry .pre .1 .0)) (at-plan3 .plan3 .given .1) in
     omega (arith, v .few)
 
 check-scalar-at-put-name-requires : (t : ℕ) → check-scalar-at-lts.Need-put-name-requires (
@@ -901,6 +902,8 @@ check-scalar-at-put-name-requires : (t : ℕ) → check-scalar-at-lts.Need-put-n
   plan-scalar-reads.Learnt,
   copy-scalar-reads.Asked,
   copy-scalar-reads.Learnt,
+  done-reads.Asked,
+  done-reads.Learnt,
   put-box-reads.Asked,
   put-box-reads.Learnt,
   check-type-below t,
@@ -911,11 +914,12 @@ check-scalar-at-put-name-requires : (t : ℕ) → check-scalar-at-lts.Need-put-n
   check-fields.Post,
 ) (check-scalar-at-at t) check-scalar-at.Post
 check-scalar-at-put-name-requires t c κs =
-    let entry = c .before .before .before .before .before .before .before .before in
-    let at-plan-scalar = c .before .before .before .before in
-    let at-plan3 = c .before .before in
-    let v = (plan-pairs (entry .pre .1 .0) (at-plan-scalar .plan-scalar .result) (at-plan-scalar .plan-scalar .ensures (entry .pre .1 .0)) (at-plan3 .plan3 .given .1)) in
-    record { label = v .label; there = v .labelled; short = v .short; fits = omega (arith, entry .pre .1 .1) }
+    let entry = c .before .before .before .before .before .before .before .before .before in
+    let at-plan-scalar = c .before .before .before .before .before in
+    let at-plan3 = c .before .before .before in
+    let args = entry .args in
+    let v = plan-pairs (entry .pre .1 .0) (at-plan-scalar .plan-scalar .result) (at-plan-scalar .plan-scalar .ensures (entry .pre .1 .0)) (at-plan3 .plan3 .given .1) in
+    (record { name = v .label; there = v .titled }, head-room (entry .pre .1 .0) (args .to) (entry .pre .1 .1))
 
 check-scalar-at-slice-aggregate-check-fields :
     (t : ℕ) → check-scalar-at-lts.Need-slice-aggregate-check-fields (
@@ -923,6 +927,8 @@ check-scalar-at-slice-aggregate-check-fields :
       plan-scalar-reads.Learnt,
       copy-scalar-reads.Asked,
       copy-scalar-reads.Learnt,
+      done-reads.Asked,
+      done-reads.Learnt,
       put-box-reads.Asked,
       put-box-reads.Learnt,
       check-type-below t,
@@ -939,6 +945,8 @@ check-scalar-at-add-check-fields : (t : ℕ) → check-scalar-at-lts.Need-add-ch
   plan-scalar-reads.Learnt,
   copy-scalar-reads.Asked,
   copy-scalar-reads.Learnt,
+  done-reads.Asked,
+  done-reads.Learnt,
   put-box-reads.Asked,
   put-box-reads.Learnt,
   check-type-below t,
@@ -949,9 +957,8 @@ check-scalar-at-add-check-fields : (t : ℕ) → check-scalar-at-lts.Need-add-ch
   check-fields.Post,
 ) (check-scalar-at-at t) check-scalar-at.Post
 check-scalar-at-add-check-fields t c =
-    let entry = c .before .before .before .before .before .before .before .before .before .before .before .before .before in
-    let args = entry .args in
-    let r = some-left (args .others) (args .above) ((entry .pre .1 .0) .type-scalar) ((entry .pre .1 .0) .limits) in
+    let entry = c .before .before .before .before .before .before .before .before .before .before .before .before .before .before in
+    let b = pair-bounds (entry .pre .1 .0) in
     search needs
 
 check-scalar-at-add-check-fields-2 : (t : ℕ) → check-scalar-at-lts.Need-add-check-fields-2 (
@@ -959,6 +966,8 @@ check-scalar-at-add-check-fields-2 : (t : ℕ) → check-scalar-at-lts.Need-add-
   plan-scalar-reads.Learnt,
   copy-scalar-reads.Asked,
   copy-scalar-reads.Learnt,
+  done-reads.Asked,
+  done-reads.Learnt,
   put-box-reads.Asked,
   put-box-reads.Learnt,
   check-type-below t,
@@ -969,9 +978,8 @@ check-scalar-at-add-check-fields-2 : (t : ℕ) → check-scalar-at-lts.Need-add-
   check-fields.Post,
 ) (check-scalar-at-at t) check-scalar-at.Post
 check-scalar-at-add-check-fields-2 t c =
-    let entry = c .before .before .before .before .before .before .before .before .before .before .before .before .before in
-    let args = entry .args in
-    let r = some-left (args .others) (args .above) ((entry .pre .1 .0) .type-scalar) ((entry .pre .1 .0) .limits) in
+    let entry = c .before .before .before .before .before .before .before .before .before .before .before .before .before .before in
+    let b = pair-bounds (entry .pre .1 .0) in
     search needs
 
 check-scalar-at-check-fields-requires : (t : ℕ) → check-scalar-at-lts.Need-check-fields-requires (
@@ -979,6 +987,8 @@ check-scalar-at-check-fields-requires : (t : ℕ) → check-scalar-at-lts.Need-c
   plan-scalar-reads.Learnt,
   copy-scalar-reads.Asked,
   copy-scalar-reads.Learnt,
+  done-reads.Asked,
+  done-reads.Learnt,
   put-box-reads.Asked,
   put-box-reads.Learnt,
   check-type-below t,
@@ -989,22 +999,25 @@ check-scalar-at-check-fields-requires : (t : ℕ) → check-scalar-at-lts.Need-c
   check-fields.Post,
 ) (check-scalar-at-at t) check-scalar-at.Post
 check-scalar-at-check-fields-requires t c κs =
-    let entry = c .before .before .before .before .before .before .before .before .before .before .before .before .before .before in
-    let at-plan-scalar = c .before .before .before .before .before .before .before .before .before .before in
-    let at-plan3 = c .before .before .before .before .before .before .before .before in
+    let entry = c .before .before .before .before .before .before .before .before .before .before .before .before .before .before .before in
+    let at-plan-scalar = c .before .before .before .before .before .before .before .before .before .before .before in
+    let at-plan3 = c .before .before .before .before .before .before .before .before .before in
     let at-put-name = c .before .before .before .before .before in
     let at-if1 = c .before .before in
     let args = entry .args in
-    let r = some-left (args .others) (args .above) ((entry .pre .1 .0) .type-scalar) ((entry .pre .1 .0) .limits) in
-    let v = (plan-pairs (entry .pre .1 .0) (at-plan-scalar .plan-scalar .result) (at-plan-scalar .plan-scalar .ensures (entry .pre .1 .0)) (at-plan3 .plan3 .given .1)) in
-    let n = at-put-name .put-name .ensures (v .label) (v .labelled) (v .short) in
-    (omega (arith, entry .pre .0, r .1), (fresh-lists (args .ty .now) _ (v .inner) (at-if1 .if1 .taken), omega (arith, entry .pre .1 .1, r .0, n .1, at-put-name .put-name .kept .1 .1 .1 .1 .1 .0)))
+    let left = some-left (args .others) (args .above) (entry .pre .1 .0 .type-scalar) (entry .pre .1 .0 .limits) in
+    let v = plan-pairs (entry .pre .1 .0) (at-plan-scalar .plan-scalar .result) (at-plan-scalar .plan-scalar .ensures (entry .pre .1 .0)) (at-plan3 .plan3 .given .1) in
+    let head = at-put-name .put-name .ensures (v .label) (v .titled) in
+    let room = held-room (entry .pre .1 .0) (args .to) (args .out .now) (entry .pre .1 .1) (at-put-name .put-name .result) (at-put-name .put-name .last .1 .1 .1 .1 .1 .0) (head .short) (at-put-name .put-name .kept .1 .1 .1 .1 .1 .0) in
+    (omega (arith, entry .pre .0, left .1), (fresh-lists (args .ty .now) _ (v .inner) (at-if1 .if1 .taken), room))
 
 check-scalar-at-same-length : (t : ℕ) → check-scalar-at-lts.Need-same-length (
   plan-scalar-reads.Asked,
   plan-scalar-reads.Learnt,
   copy-scalar-reads.Asked,
   copy-scalar-reads.Learnt,
+  done-reads.Asked,
+  done-reads.Learnt,
   put-box-reads.Asked,
   put-box-reads.Learnt,
   check-type-below t,
@@ -1017,13 +1030,15 @@ check-scalar-at-same-length : (t : ℕ) → check-scalar-at-lts.Need-same-length
 check-scalar-at-same-length t c =
     let at-put-name = c .before .before .before .before .before .before .before .before in
     let at-check-fields = c .before .before in
-    at-check-fields .check-fields .kept .1 .1 .1 .1 .1 .1 .1 .1 .1 .1 .0 ∙ at-put-name .put-name .kept .1 .1 .1 .1 .1 .0
+    at-check-fields .check-fields .kept .1 .1 .1 .1 .1 .1 .0 ∙ at-put-name .put-name .kept .1 .1 .1 .1 .1 .0
 
 check-scalar-at-returns : (t : ℕ) → check-scalar-at-lts.Need-returns (
   plan-scalar-reads.Asked,
   plan-scalar-reads.Learnt,
   copy-scalar-reads.Asked,
   copy-scalar-reads.Learnt,
+  done-reads.Asked,
+  done-reads.Learnt,
   put-box-reads.Asked,
   put-box-reads.Learnt,
   check-type-below t,
@@ -1034,23 +1049,26 @@ check-scalar-at-returns : (t : ℕ) → check-scalar-at-lts.Need-returns (
   check-fields.Post,
 ) (check-scalar-at-at t) check-scalar-at.Post
 check-scalar-at-returns t c =
-    let entry = c .before .before .before .before .before .before .before .before .before .before .before .before .before .before .before .before .before in
-    let at-plan-scalar = c .before .before .before .before .before .before .before .before .before .before .before .before .before in
-    let at-plan3 = c .before .before .before .before .before .before .before .before .before .before .before in
+    let entry = c .before .before .before .before .before .before .before .before .before .before .before .before .before .before .before .before .before .before in
+    let at-plan-scalar = c .before .before .before .before .before .before .before .before .before .before .before .before .before .before in
+    let at-plan3 = c .before .before .before .before .before .before .before .before .before .before .before .before in
     let at-put-name = c .before .before .before .before .before .before .before .before in
     let at-if1 = c .before .before .before .before .before in
     let at-check-fields = c .before .before in
     let args = entry .args in
     λ w.
-    let v = (plan-pairs w (at-plan-scalar .plan-scalar .result) (at-plan-scalar .plan-scalar .ensures w) (at-plan3 .plan3 .given .1)) in
-    let n = at-put-name .put-name .ensures (v .label) (v .labelled) (v .short) in
-    pairs-done (take (args .to) (args .out .now)) (take (at-put-name .put-name .result) (at-put-name .put-name .last .1 .1 .1 .1 .1 .0)) (at-check-fields .check-fields .last .1 .1 .1 .1 .1 .1 .1 .1 .1 .1 .0) (v .label) _ ((args .others) + 1) ((args .above) + 1) (v .inner .spec-fields) (v .inner .type-fields) (scalarOf (args .others) (args .above) w) (at-check-fields .check-fields .result) (at-put-name .put-name .result) (args .to + 24) (at-check-fields .check-fields .ensures (fresh-lists (args .ty .now) _ (v .inner) (at-if1 .if1 .taken))) (laid-behind (args .out .now) (defHead (v .label) _) (args .to) (n .0) (omega (arith, n .1, entry .pre .1 .1)) (n .2)) (v .is) (v .inner .type-count) (n .1)
+    let v = plan-pairs w (at-plan-scalar .plan-scalar .result) (at-plan-scalar .plan-scalar .ensures w) (at-plan3 .plan3 .given .1) in
+    let head = at-put-name .put-name .ensures (v .label) (v .titled) in
+    let done = at-check-fields .check-fields .ensures (fresh-lists (args .ty .now) _ (v .inner) (at-if1 .if1 .taken)) in
+    fresh-done w (args .to) (args .out .now) (entry .pre .1 .1) (at-put-name .put-name .result) (at-put-name .put-name .last .1 .1 .1 .1 .1 .0) (at-check-fields .check-fields .result) (at-check-fields .check-fields .last .1 .1 .1 .1 .1 .1 .0) v head (at-if1 .if1 .taken) done
 
 check-scalar-at-add-check-fields-3 : (t : ℕ) → check-scalar-at-lts.Need-add-check-fields-3 (
   plan-scalar-reads.Asked,
   plan-scalar-reads.Learnt,
   copy-scalar-reads.Asked,
   copy-scalar-reads.Learnt,
+  done-reads.Asked,
+  done-reads.Learnt,
   put-box-reads.Asked,
   put-box-reads.Learnt,
   check-type-below t,
@@ -1061,9 +1079,8 @@ check-scalar-at-add-check-fields-3 : (t : ℕ) → check-scalar-at-lts.Need-add-
   check-fields.Post,
 ) (check-scalar-at-at t) check-scalar-at.Post
 check-scalar-at-add-check-fields-3 t c =
-    let entry = c .before .before .before .before .before .before .before .before .before .before .before .before in
-    let args = entry .args in
-    let r = some-left (args .others) (args .above) ((entry .pre .1 .0) .type-scalar) ((entry .pre .1 .0) .limits) in
+    let entry = c .before .before .before .before .before .before .before .before .before .before .before .before .before in
+    let b = pair-bounds (entry .pre .1 .0) in
     search needs
 
 check-scalar-at-add-check-fields-4 : (t : ℕ) → check-scalar-at-lts.Need-add-check-fields-4 (
@@ -1071,6 +1088,8 @@ check-scalar-at-add-check-fields-4 : (t : ℕ) → check-scalar-at-lts.Need-add-
   plan-scalar-reads.Learnt,
   copy-scalar-reads.Asked,
   copy-scalar-reads.Learnt,
+  done-reads.Asked,
+  done-reads.Learnt,
   put-box-reads.Asked,
   put-box-reads.Learnt,
   check-type-below t,
@@ -1081,9 +1100,8 @@ check-scalar-at-add-check-fields-4 : (t : ℕ) → check-scalar-at-lts.Need-add-
   check-fields.Post,
 ) (check-scalar-at-at t) check-scalar-at.Post
 check-scalar-at-add-check-fields-4 t c =
-    let entry = c .before .before .before .before .before .before .before .before .before .before .before .before in
-    let args = entry .args in
-    let r = some-left (args .others) (args .above) ((entry .pre .1 .0) .type-scalar) ((entry .pre .1 .0) .limits) in
+    let entry = c .before .before .before .before .before .before .before .before .before .before .before .before .before in
+    let b = pair-bounds (entry .pre .1 .0) in
     search needs
 
 check-scalar-at-check-fields-requires-2 :
@@ -1092,6 +1110,8 @@ check-scalar-at-check-fields-requires-2 :
       plan-scalar-reads.Learnt,
       copy-scalar-reads.Asked,
       copy-scalar-reads.Learnt,
+      done-reads.Asked,
+      done-reads.Learnt,
       put-box-reads.Asked,
       put-box-reads.Learnt,
       check-type-below t,
@@ -1102,21 +1122,24 @@ check-scalar-at-check-fields-requires-2 :
       check-fields.Post,
     ) (check-scalar-at-at t) check-scalar-at.Post
 check-scalar-at-check-fields-requires-2 t c κs =
-    let entry = c .before .before .before .before .before .before .before .before .before .before .before .before .before in
-    let at-plan-scalar = c .before .before .before .before .before .before .before .before .before in
-    let at-plan3 = c .before .before .before .before .before .before .before in
+    let entry = c .before .before .before .before .before .before .before .before .before .before .before .before .before .before in
+    let at-plan-scalar = c .before .before .before .before .before .before .before .before .before .before in
+    let at-plan3 = c .before .before .before .before .before .before .before .before in
     let at-put-name = c .before .before .before .before in
     let args = entry .args in
-    let r = some-left (args .others) (args .above) ((entry .pre .1 .0) .type-scalar) ((entry .pre .1 .0) .limits) in
-    let v = (plan-pairs (entry .pre .1 .0) (at-plan-scalar .plan-scalar .result) (at-plan-scalar .plan-scalar .ensures (entry .pre .1 .0)) (at-plan3 .plan3 .given .1)) in
-    let n = at-put-name .put-name .ensures (v .label) (v .labelled) (v .short) in
-    (omega (arith, entry .pre .0, r .1), (own-lists (args .ty .now) _ (v .inner) (c .before .if1 .left), omega (arith, entry .pre .1 .1, r .0, n .1, at-put-name .put-name .kept .1 .1 .1 .1 .1 .0)))
+    let left = some-left (args .others) (args .above) (entry .pre .1 .0 .type-scalar) (entry .pre .1 .0 .limits) in
+    let v = plan-pairs (entry .pre .1 .0) (at-plan-scalar .plan-scalar .result) (at-plan-scalar .plan-scalar .ensures (entry .pre .1 .0)) (at-plan3 .plan3 .given .1) in
+    let head = at-put-name .put-name .ensures (v .label) (v .titled) in
+    let room = held-room (entry .pre .1 .0) (args .to) (args .out .now) (entry .pre .1 .1) (at-put-name .put-name .result) (at-put-name .put-name .last .1 .1 .1 .1 .1 .0) (head .short) (at-put-name .put-name .kept .1 .1 .1 .1 .1 .0) in
+    (omega (arith, entry .pre .0, left .1), (own-lists (args .ty .now) _ (v .inner) (c .before .if1 .left), room))
 
 check-scalar-at-returns-2 : (t : ℕ) → check-scalar-at-lts.Need-returns-2 (
   plan-scalar-reads.Asked,
   plan-scalar-reads.Learnt,
   copy-scalar-reads.Asked,
   copy-scalar-reads.Learnt,
+  done-reads.Asked,
+  done-reads.Learnt,
   put-box-reads.Asked,
   put-box-reads.Learnt,
   check-type-below t,
@@ -1130,14 +1153,15 @@ check-scalar-at-returns-2 t c =
     let entry = c .before .before .before .before .before .before .before in
     let at-plan-scalar = c .before .before .before in
     let args = entry .args in
-    λ w.
-    (ap (mapped (scalarPiece (take (args .to) (args .out .now)))) (sym (plan-refuse w (at-plan-scalar .plan-scalar .result) (at-plan-scalar .plan-scalar .ensures w) (c .before .plan .given .1))), tt)
+    λ w. refused-done w (args .to) (args .out .now) (args .out .now) (plan-refuse w (at-plan-scalar .plan-scalar .result) (at-plan-scalar .plan-scalar .ensures w) (c .before .plan .given .1))
 
 check-scalar-at-same-length-2 : (t : ℕ) → check-scalar-at-lts.Need-same-length-2 (
   plan-scalar-reads.Asked,
   plan-scalar-reads.Learnt,
   copy-scalar-reads.Asked,
   copy-scalar-reads.Learnt,
+  done-reads.Asked,
+  done-reads.Learnt,
   put-box-reads.Asked,
   put-box-reads.Learnt,
   check-type-below t,
@@ -1154,6 +1178,8 @@ check-scalar-at-returns-3 : (t : ℕ) → check-scalar-at-lts.Need-returns-3 (
   plan-scalar-reads.Learnt,
   copy-scalar-reads.Asked,
   copy-scalar-reads.Learnt,
+  done-reads.Asked,
+  done-reads.Learnt,
   put-box-reads.Asked,
   put-box-reads.Learnt,
   check-type-below t,
@@ -1164,20 +1190,22 @@ check-scalar-at-returns-3 : (t : ℕ) → check-scalar-at-lts.Need-returns-3 (
   check-fields.Post,
 ) (check-scalar-at-at t) check-scalar-at.Post
 check-scalar-at-returns-3 t c =
-    let entry = c .before .before .before .before .before .before .before .before .before .before in
-    let at-plan-scalar = c .before .before .before .before .before .before in
-    let at-enum-told = c .before .before .before .before in
-    let at-copy-scalar = c .before .before in
+    let entry = c .before .before .before .before .before .before .before .before .before .before .before in
+    let at-plan-scalar = c .before .before .before .before .before .before .before in
+    let at-enum-told = c .before .before .before .before .before in
+    let at-copy-scalar = c .before .before .before in
     let args = entry .args in
     λ w.
-    let e = at-copy-scalar .copy-scalar .ensures (w .type-shape) (w .type-scalar) (w .type-placed) in
-    (e .0 ∙ ap (mapped (scalarPiece (take (args .to) (args .out .now)))) (sym (plan-keep w (at-plan-scalar .plan-scalar .result) (at-plan-scalar .plan-scalar .ensures w) (at-enum-told .enum-told .given .1))), e .1)
+    let copied = at-copy-scalar .copy-scalar .ensures (typeTy w) (w .type-there) in
+    copied-done w (args .to) (args .out .now) (at-copy-scalar .copy-scalar .last .1 .1 .0) (at-copy-scalar .copy-scalar .result) (c .done .ensures) (w .type-scalar) (plan-keep w (at-plan-scalar .plan-scalar .result) (at-plan-scalar .plan-scalar .ensures w) (at-enum-told .enum-told .given .1)) copied
 
 check-scalar-at-same-length-3 : (t : ℕ) → check-scalar-at-lts.Need-same-length-3 (
   plan-scalar-reads.Asked,
   plan-scalar-reads.Learnt,
   copy-scalar-reads.Asked,
   copy-scalar-reads.Learnt,
+  done-reads.Asked,
+  done-reads.Learnt,
   put-box-reads.Asked,
   put-box-reads.Learnt,
   check-type-below t,
@@ -1194,6 +1222,8 @@ check-scalar-at-returns-4 : (t : ℕ) → check-scalar-at-lts.Need-returns-4 (
   plan-scalar-reads.Learnt,
   copy-scalar-reads.Asked,
   copy-scalar-reads.Learnt,
+  done-reads.Asked,
+  done-reads.Learnt,
   put-box-reads.Asked,
   put-box-reads.Learnt,
   check-type-below t,
@@ -1204,20 +1234,22 @@ check-scalar-at-returns-4 : (t : ℕ) → check-scalar-at-lts.Need-returns-4 (
   check-fields.Post,
 ) (check-scalar-at-at t) check-scalar-at.Post
 check-scalar-at-returns-4 t c =
-    let entry = c .before .before .before .before .before .before .before .before .before .before in
-    let at-plan-scalar = c .before .before .before .before .before .before in
-    let at-enum-told2 = c .before .before .before .before in
-    let at-copy-scalar2 = c .before .before in
+    let entry = c .before .before .before .before .before .before .before .before .before .before .before in
+    let at-plan-scalar = c .before .before .before .before .before .before .before in
+    let at-enum-told2 = c .before .before .before .before .before in
+    let at-copy-scalar2 = c .before .before .before in
     let args = entry .args in
     λ w.
-    let e = at-copy-scalar2 .copy-scalar2 .ensures (w .spec-shape) (w .spec-scalar) (w .spec-placed) in
-    (e .0 ∙ ap (mapped (scalarPiece (take (args .to) (args .out .now)))) (sym (plan-take w (at-plan-scalar .plan-scalar .result) (at-plan-scalar .plan-scalar .ensures w) (at-enum-told2 .enum-told2 .given .1))), e .1)
+    let copied = at-copy-scalar2 .copy-scalar2 .ensures (specTy w) (w .spec-there) in
+    copied-done w (args .to) (args .out .now) (at-copy-scalar2 .copy-scalar2 .last .1 .1 .0) (at-copy-scalar2 .copy-scalar2 .result) (c .done2 .ensures) (w .spec-scalar) (plan-take w (at-plan-scalar .plan-scalar .result) (at-plan-scalar .plan-scalar .ensures w) (at-enum-told2 .enum-told2 .given .1)) copied
 
 check-scalar-at-same-length-4 : (t : ℕ) → check-scalar-at-lts.Need-same-length-4 (
   plan-scalar-reads.Asked,
   plan-scalar-reads.Learnt,
   copy-scalar-reads.Asked,
   copy-scalar-reads.Learnt,
+  done-reads.Asked,
+  done-reads.Learnt,
   put-box-reads.Asked,
   put-box-reads.Learnt,
   check-type-below t,
@@ -1237,6 +1269,8 @@ check-scalar-at-returns-5 : (t : ℕ) → check-scalar-at-lts.Need-returns-5 (
   plan-scalar-reads.Learnt,
   copy-scalar-reads.Asked,
   copy-scalar-reads.Learnt,
+  done-reads.Asked,
+  done-reads.Learnt,
   put-box-reads.Asked,
   put-box-reads.Learnt,
   check-type-below t,
@@ -1254,14 +1288,16 @@ check-scalar-at-returns-5 t c =
     let at-check-type = c .before .before in
     let args = entry .args in
     λ w.
-    let v = (plan-inside w (at-plan-scalar .plan-scalar .result) (at-plan-scalar .plan-scalar .ensures w) (at-plan2 .plan2 .given .1)) in
-    inside-done (take (args .to) (args .out .now)) (take (args .to + 6) (at-put-box .put-box .last .0)) (at-check-type .check-type .last .1 .1 .1 .1 .1 .1 .1 .0) (inTurn (scalarOf ((args .others) + 1) ((args .above) + 1) (v .inner)) (shapeOf (v .inner))) (scalarOf (args .others) (args .above) w) (at-check-type .check-type .result) (args .to + 6) (args .to + 24) (at-check-type .check-type .ensures (v .inner)) (laid-behind (args .out .now) (boxStart 1) (args .to) refl (omega (arith, entry .pre .1 .1)) (at-put-box .put-box .ensures)) (v .is) (omega arith)
+    let v = plan-inside w (at-plan-scalar .plan-scalar .result) (at-plan-scalar .plan-scalar .ensures w) (at-plan2 .plan2 .given .1) in
+    inside-done w (args .to) (args .out .now) (entry .pre .1 .1) (at-put-box .put-box .result) (at-put-box .put-box .last .0) (at-check-type .check-type .result) (at-check-type .check-type .last .1 .1 .1 .1 .1 .1 .1 .0) v (at-put-box .put-box .ensures) (at-check-type .check-type .ensures (v .inner))
 
 check-scalar-at-same-length-5 : (t : ℕ) → check-scalar-at-lts.Need-same-length-5 (
   plan-scalar-reads.Asked,
   plan-scalar-reads.Learnt,
   copy-scalar-reads.Asked,
   copy-scalar-reads.Learnt,
+  done-reads.Asked,
+  done-reads.Learnt,
   put-box-reads.Asked,
   put-box-reads.Learnt,
   check-type-below t,
@@ -1274,13 +1310,15 @@ check-scalar-at-same-length-5 : (t : ℕ) → check-scalar-at-lts.Need-same-leng
 check-scalar-at-same-length-5 t c =
     let at-put-name = c .before .before .before .before .before .before .before in
     let at-check-fields2 = c .before .before in
-    at-check-fields2 .check-fields2 .kept .1 .1 .1 .1 .1 .1 .1 .1 .1 .1 .0 ∙ at-put-name .put-name .kept .1 .1 .1 .1 .1 .0
+    at-check-fields2 .check-fields2 .kept .1 .1 .1 .1 .1 .1 .0 ∙ at-put-name .put-name .kept .1 .1 .1 .1 .1 .0
 
 check-scalar-at-returns-6 : (t : ℕ) → check-scalar-at-lts.Need-returns-6 (
   plan-scalar-reads.Asked,
   plan-scalar-reads.Learnt,
   copy-scalar-reads.Asked,
   copy-scalar-reads.Learnt,
+  done-reads.Asked,
+  done-reads.Learnt,
   put-box-reads.Asked,
   put-box-reads.Learnt,
   check-type-below t,
@@ -1291,17 +1329,18 @@ check-scalar-at-returns-6 : (t : ℕ) → check-scalar-at-lts.Need-returns-6 (
   check-fields.Post,
 ) (check-scalar-at-at t) check-scalar-at.Post
 check-scalar-at-returns-6 t c =
-    let entry = c .before .before .before .before .before .before .before .before .before .before .before .before .before .before .before .before in
-    let at-plan-scalar = c .before .before .before .before .before .before .before .before .before .before .before .before in
-    let at-plan3 = c .before .before .before .before .before .before .before .before .before .before in
+    let entry = c .before .before .before .before .before .before .before .before .before .before .before .before .before .before .before .before .before in
+    let at-plan-scalar = c .before .before .before .before .before .before .before .before .before .before .before .before .before in
+    let at-plan3 = c .before .before .before .before .before .before .before .before .before .before .before in
     let at-put-name = c .before .before .before .before .before .before .before in
     let at-if1 = c .before .before .before .before in
     let at-check-fields2 = c .before .before in
     let args = entry .args in
     λ w.
-    let v = (plan-pairs w (at-plan-scalar .plan-scalar .result) (at-plan-scalar .plan-scalar .ensures w) (at-plan3 .plan3 .given .1)) in
-    let n = at-put-name .put-name .ensures (v .label) (v .labelled) (v .short) in
-    pairs-done (take (args .to) (args .out .now)) (take (at-put-name .put-name .result) (at-put-name .put-name .last .1 .1 .1 .1 .1 .0)) (at-check-fields2 .check-fields2 .last .1 .1 .1 .1 .1 .1 .1 .1 .1 .1 .0) (v .label) _ ((args .others) + 1) ((args .above) + 1) (v .inner .spec-fields) (v .inner .type-fields) (scalarOf (args .others) (args .above) w) (at-check-fields2 .check-fields2 .result) (at-put-name .put-name .result) (args .to + 24) (at-check-fields2 .check-fields2 .ensures (own-lists (args .ty .now) _ (v .inner) (at-if1 .if1 .left))) (laid-behind (args .out .now) (defHead (v .label) _) (args .to) (n .0) (omega (arith, n .1, entry .pre .1 .1)) (n .2)) (v .is) (v .inner .type-count) (n .1)
+    let v = plan-pairs w (at-plan-scalar .plan-scalar .result) (at-plan-scalar .plan-scalar .ensures w) (at-plan3 .plan3 .given .1) in
+    let head = at-put-name .put-name .ensures (v .label) (v .titled) in
+    let done = at-check-fields2 .check-fields2 .ensures (own-lists (args .ty .now) _ (v .inner) (at-if1 .if1 .left)) in
+    own-done w (args .to) (args .out .now) (entry .pre .1 .1) (at-put-name .put-name .result) (at-put-name .put-name .last .1 .1 .1 .1 .1 .0) (at-check-fields2 .check-fields2 .result) (at-check-fields2 .check-fields2 .last .1 .1 .1 .1 .1 .1 .0) v head (at-if1 .if1 .left) done
 
 check-type-shape-at-requires : (t : ℕ) → check-type-lts.Need-shape-at-requires (
   shape-at-reads.Asked,
@@ -1317,7 +1356,7 @@ check-type-shape-at-requires : (t : ℕ) → check-type-lts.Need-shape-at-requir
 ) (check-type-at t) check-type.Post
 check-type-shape-at-requires t c κs =
     let entry = c .before .before .before in
-    has-type (entry .pre .1 .0 .spec-placed)
+    (maxDepth, has (entry .pre .1 .0 .spec-there))
 
 check-type-shape-at-requires-2 : (t : ℕ) → check-type-lts.Need-shape-at-requires-2 (
   shape-at-reads.Asked,
@@ -1333,7 +1372,7 @@ check-type-shape-at-requires-2 : (t : ℕ) → check-type-lts.Need-shape-at-requ
 ) (check-type-at t) check-type.Post
 check-type-shape-at-requires-2 t c κs =
     let entry = c .before .before .before .before in
-    has-type (entry .pre .1 .0 .type-placed)
+    (maxDepth, has (entry .pre .1 .0 .type-there))
 
 check-type-check-shapes-requires : (t : ℕ) → check-type-lts.Need-check-shapes-requires (
   shape-at-reads.Asked,
@@ -1378,8 +1417,7 @@ check-type-put-shape-requires : (t : ℕ) → check-type-lts.Need-put-shape-requ
 check-type-put-shape-requires t c κs =
     let entry = c .before .before .before .before .before .before .before .before .before in
     let args = entry .args in
-    let r = some-left (args .others) (args .above) ((entry .pre .1 .0) .type-scalar) ((entry .pre .1 .0) .limits) in
-    omega (arith, c .before .shape-length .ensures .0, c .before .shape-length .ensures .1, entry .pre .1 .1, r .0)
+    omega (arith, shape-room (entry .pre .1 .0) (args .to) (args .out .now) (entry .pre .1 .1) (c .before .shape-length .ensures .1), c .before .shape-length .ensures .0)
 
 check-type-add-check-scalar-at : (t : ℕ) → check-type-lts.Need-add-check-scalar-at (
   shape-at-reads.Asked,
@@ -1397,8 +1435,7 @@ check-type-add-check-scalar-at t c =
     let entry = c .before .before .before .before .before .before .before .before .before .before .before .before .before in
     let at-shape-length = c .before .before .before .before .before in
     let args = entry .args in
-    let r = some-left (args .others) (args .above) ((entry .pre .1 .0) .type-scalar) ((entry .pre .1 .0) .limits) in
-    let b : (args .to + at-shape-length .shape-length .result) ≤ length (args .out .now) = omega (arith, at-shape-length .shape-length .ensures .0, at-shape-length .shape-length .ensures .1, entry .pre .1 .1, r .0) in
+    let b = shape-room (entry .pre .1 .0) (args .to) (args .out .now) (entry .pre .1 .1) (at-shape-length .shape-length .ensures .1) in
     search needs
 
 check-type-check-scalar-at-requires : (t : ℕ) → check-type-lts.Need-check-scalar-at-requires (
@@ -1418,8 +1455,7 @@ check-type-check-scalar-at-requires t c κs =
     let at-shape-length = c .before .before .before .before .before in
     let at-put-shape = c .before .before .before in
     let args = entry .args in
-    let r = some-left (args .others) (args .above) ((entry .pre .1 .0) .type-scalar) ((entry .pre .1 .0) .limits) in
-    (omega (arith, entry .pre .0, r .1), ((entry .pre .1 .0), omega (arith, at-shape-length .shape-length .ensures .0, at-shape-length .shape-length .ensures .1, entry .pre .1 .1, r .0, at-put-shape .put-shape .kept .0)))
+    (omega (arith, entry .pre .0), (entry .pre .1 .0, scalar-room (entry .pre .1 .0) (args .to) (args .out .now) (entry .pre .1 .1) (at-shape-length .shape-length .ensures .1) (at-put-shape .put-shape .last .0) (at-put-shape .put-shape .kept .0)))
 
 check-type-enum-known-w : (t : ℕ) → check-type-lts.Need-enum-known-w (
   shape-at-reads.Asked,
@@ -1480,12 +1516,65 @@ check-type-returns : (t : ℕ) → check-type-lts.Need-returns (
 ) (check-type-at t) check-type.Post
 check-type-returns t c =
     let entry = c .before .before .before .before .before .before .before .before .before .before .before .before .before .before .before .before .before .before in
+    let at-shape-at = c .before .before .before .before .before .before .before .before .before .before .before .before .before .before in
+    let at-shape-at2 = c .before .before .before .before .before .before .before .before .before .before .before .before .before in
+    let at-check-shapes = c .before .before .before .before .before .before .before .before .before .before .before .before in
     let at-shape-length = c .before .before .before .before .before .before .before .before .before .before in
     let at-put-shape = c .before .before .before .before .before .before .before .before in
     let at-check-scalar-at = c .before .before .before .before in
     let args = entry .args in
     λ w.
-    type-refused (take (args .to) (args .out .now)) (take (args .to + at-shape-length .shape-length .result) (at-put-shape .put-shape .last .0)) (at-check-scalar-at .check-scalar-at .last .1 .1 .1 .1 .1 .1 .0) (scalarOf (args .others) (args .above) w) (sidedOf (sideOf (args .side)) w) (at-check-scalar-at .check-scalar-at .result) (at-check-scalar-at .check-scalar-at .ensures w .0) (args .to) (c .enum-told .given .1)
+    let checked = shapes-checked w (sideOf (args .side)) (at-shape-at .shape-at .result) (at-shape-at2 .shape-at2 .result) (at-check-shapes .check-shapes .result) (at-check-shapes .check-shapes .ensures) (at-shape-at .shape-at .ensures) (at-shape-at2 .shape-at2 .ensures) in
+    pair-refused w (args .to) (args .out .now) (entry .pre .1 .1) (at-shape-length .shape-length .ensures .1) (sideOf (args .side)) (at-check-shapes .check-shapes .result) checked
+    (at-put-shape .put-shape .last .0) (at-check-scalar-at .check-scalar-at .result) (at-check-scalar-at .check-scalar-at .last .1 .1 .1 .1 .1 .1 .0) (at-check-scalar-at .check-scalar-at .ensures w) (c .enum-told .given .1)
+
+check-type-enum-told-2 : (t : ℕ) → check-type-lts.Need-enum-told-2 (
+  shape-at-reads.Asked,
+  shape-at-reads.Learnt,
+  check-shapes-reads.Asked,
+  check-shapes-reads.Learnt,
+  shape-length-reads.Asked,
+  shape-length-reads.Learnt,
+  put-shape-reads.Asked,
+  put-shape-reads.Learnt,
+  check-scalar-at-below t,
+  check-scalar-at.Post,
+) (check-type-at t) check-type.Post
+check-type-enum-told-2 t c = search needs
+
+check-type-add-t26 : (t : ℕ) → check-type-lts.Need-add-t26 (
+  shape-at-reads.Asked,
+  shape-at-reads.Learnt,
+  check-shapes-reads.Asked,
+  check-shapes-reads.Learnt,
+  shape-length-reads.Asked,
+  shape-length-reads.Learnt,
+  put-shape-reads.Asked,
+  put-shape-reads.Learnt,
+  check-scalar-at-below t,
+  check-scalar-at.Post,
+) (check-type-at t) check-type.Post
+check-type-add-t26 t c =
+    let entry = c .before .before .before .before .before .before .before .before .before .before .before .before .before .before .before .before .before .before .before .before .before in
+    let at-put-shape = c .before .before .before .before .before .before .before .before .before .before .before in
+    let at-check-scalar-at = c .before .before .before .before .before .before .before in
+    let at-w = c .before .before .before in
+    let few = scalar-few (entry .pre .1 .0) _ (at-put-shape .put-shape .last .0) (at-check-scalar-at .check-scalar-at .last .1 .1 .1 .1 .1 .1 .0) (at-check-scalar-at .check-scalar-at .result) (at-w .w .given .1) (at-check-scalar-at .check-scalar-at .ensures (entry .pre .1 .0)) in
+    omega (arith, few)
+
+check-type-enum-known-clash : (t : ℕ) → check-type-lts.Need-enum-known-clash (
+  shape-at-reads.Asked,
+  shape-at-reads.Learnt,
+  check-shapes-reads.Asked,
+  check-shapes-reads.Learnt,
+  shape-length-reads.Asked,
+  shape-length-reads.Learnt,
+  put-shape-reads.Asked,
+  put-shape-reads.Learnt,
+  check-scalar-at-below t,
+  check-scalar-at.Post,
+) (check-type-at t) check-type.Post
+check-type-enum-known-clash t c = search needs
 
 check-type-same-length-2 : (t : ℕ) → check-type-lts.Need-same-length-2 (
   shape-at-reads.Asked,
@@ -1500,8 +1589,8 @@ check-type-same-length-2 : (t : ℕ) → check-type-lts.Need-same-length-2 (
   check-scalar-at.Post,
 ) (check-type-at t) check-type.Post
 check-type-same-length-2 t c =
-    let at-put-shape = c .before .before .before .before .before .before .before .before .before .before in
-    let at-check-scalar-at = c .before .before .before .before .before .before in
+    let at-put-shape = c .before .before .before .before .before .before .before .before .before .before .before in
+    let at-check-scalar-at = c .before .before .before .before .before .before .before in
     at-check-scalar-at .check-scalar-at .kept .1 .1 .1 .1 .1 .1 .0 ∙ at-put-shape .put-shape .kept .0
 
 check-type-returns-2 : (t : ℕ) → check-type-lts.Need-returns-2 (
@@ -1517,38 +1606,20 @@ check-type-returns-2 : (t : ℕ) → check-type-lts.Need-returns-2 (
   check-scalar-at.Post,
 ) (check-type-at t) check-type.Post
 check-type-returns-2 t c =
-    let entry = c .before .before .before .before .before .before .before .before .before .before .before .before .before .before .before .before .before .before .before .before in
-    let at-shape-at = c .before .before .before .before .before .before .before .before .before .before .before .before .before .before .before .before in
-    let at-shape-at2 = c .before .before .before .before .before .before .before .before .before .before .before .before .before .before .before in
-    let at-check-shapes = c .before .before .before .before .before .before .before .before .before .before .before .before .before .before in
-    let at-shape-length = c .before .before .before .before .before .before .before .before .before .before .before .before in
-    let at-put-shape = c .before .before .before .before .before .before .before .before .before .before in
-    let at-check-scalar-at = c .before .before .before .before .before .before in
-    let at-w = c .before .before in
+    let entry = c .before .before .before .before .before .before .before .before .before .before .before .before .before .before .before .before .before .before .before .before .before in
+    let at-shape-at = c .before .before .before .before .before .before .before .before .before .before .before .before .before .before .before .before .before in
+    let at-shape-at2 = c .before .before .before .before .before .before .before .before .before .before .before .before .before .before .before .before in
+    let at-check-shapes = c .before .before .before .before .before .before .before .before .before .before .before .before .before .before .before in
+    let at-shape-length = c .before .before .before .before .before .before .before .before .before .before .before .before .before in
+    let at-put-shape = c .before .before .before .before .before .before .before .before .before .before .before in
+    let at-check-scalar-at = c .before .before .before .before .before .before .before in
+    let at-w = c .before .before .before in
     let args = entry .args in
     λ w.
-    (type-clash (take (args .to) (args .out .now)) (take (args .to + at-shape-length .shape-length .result) (at-put-shape .put-shape .last .0)) (at-check-scalar-at .check-scalar-at .last .1 .1 .1 .1 .1 .1 .0) (scalarOf (args .others) (args .above) w) (sidedOf (sideOf (args .side)) w) (at-check-scalar-at .check-scalar-at .result) (at-check-scalar-at .check-scalar-at .ensures w .0) (at-w .w .given .1) (checked-clash (at-check-shapes .check-shapes .result) (at-check-shapes .check-shapes .ensures ∙ (ap (λ x. rules.checkShape (sideOf (args .side)) x (shapeFor (at-shape-at2 .shape-at2 .result))) (at-shape-at .shape-at .ensures maxDepth (ty (w .spec-shape) (w .spec-scalar)) (type-at (w .spec-placed))) ∙ ap (rules.checkShape (sideOf (args .side)) (w .spec-shape)) (at-shape-at2 .shape-at2 .ensures maxDepth (ty (w .type-shape) (w .type-scalar)) (type-at (w .type-placed))))) (c .if1 .taken)), tt)
-
-check-type-add-t24 : (t : ℕ) → check-type-lts.Need-add-t24 (
-  shape-at-reads.Asked,
-  shape-at-reads.Learnt,
-  check-shapes-reads.Asked,
-  check-shapes-reads.Learnt,
-  shape-length-reads.Asked,
-  shape-length-reads.Learnt,
-  put-shape-reads.Asked,
-  put-shape-reads.Learnt,
-  check-scalar-at-below t,
-  check-scalar-at.Post,
-) (check-type-at t) check-type.Post
-check-type-add-t24 t c =
-    let entry = c .before .before .before .before .before .before .before .before .before .before .before .before .before .before .before .before .before .before .before .before in
-    let at-shape-length = c .before .before .before .before .before .before .before .before .before .before .before .before in
-    let at-put-shape = c .before .before .before .before .before .before .before .before .before .before in
-    let at-check-scalar-at = c .before .before .before .before .before .before in
-    let at-w = c .before .before in
-    let b = scalar-few (entry .pre .1 .0) (at-check-scalar-at .check-scalar-at .last .1 .1 .1 .1 .1 .1 .0) (take (entry .args .to + at-shape-length .shape-length .result) (at-put-shape .put-shape .last .0)) (at-w .w .given .1) (at-check-scalar-at .check-scalar-at .ensures (entry .pre .1 .0) .0) in
-    omega (arith, b)
+    let checked = shapes-checked w (sideOf (args .side)) (at-shape-at .shape-at .result) (at-shape-at2 .shape-at2 .result) (at-check-shapes .check-shapes .result) (at-check-shapes .check-shapes .ensures) (at-shape-at .shape-at .ensures) (at-shape-at2 .shape-at2 .ensures) in
+    pair-done w (args .to) (args .out .now) (entry .pre .1 .1) (at-shape-length .shape-length .ensures .1) (sideOf (args .side)) (at-check-shapes .check-shapes .result) checked
+    (at-put-shape .put-shape .last .0) (at-check-scalar-at .check-scalar-at .result) (at-check-scalar-at .check-scalar-at .last .1 .1 .1 .1 .1 .1 .0) (at-check-scalar-at .check-scalar-at .ensures w) (at-w .w .given .1)
+    (at-shape-length .shape-length .ensures .0) (at-put-shape .put-shape .ensures .1) (c .enum-told2 .given .1)
 
 check-type-same-length-3 : (t : ℕ) → check-type-lts.Need-same-length-3 (
   shape-at-reads.Asked,
@@ -1563,8 +1634,8 @@ check-type-same-length-3 : (t : ℕ) → check-type-lts.Need-same-length-3 (
   check-scalar-at.Post,
 ) (check-type-at t) check-type.Post
 check-type-same-length-3 t c =
-    let at-put-shape = c .before .before .before .before .before .before .before .before .before .before in
-    let at-check-scalar-at = c .before .before .before .before .before .before in
+    let at-put-shape = c .before .before .before .before .before .before .before .before .before .before .before .before in
+    let at-check-scalar-at = c .before .before .before .before .before .before .before .before in
     at-check-scalar-at .check-scalar-at .kept .1 .1 .1 .1 .1 .1 .0 ∙ at-put-shape .put-shape .kept .0
 
 check-type-returns-3 : (t : ℕ) → check-type-lts.Need-returns-3 (
@@ -1580,17 +1651,19 @@ check-type-returns-3 : (t : ℕ) → check-type-lts.Need-returns-3 (
   check-scalar-at.Post,
 ) (check-type-at t) check-type.Post
 check-type-returns-3 t c =
-    let entry = c .before .before .before .before .before .before .before .before .before .before .before .before .before .before .before .before .before .before .before .before in
-    let at-shape-at = c .before .before .before .before .before .before .before .before .before .before .before .before .before .before .before .before in
-    let at-shape-at2 = c .before .before .before .before .before .before .before .before .before .before .before .before .before .before .before in
-    let at-check-shapes = c .before .before .before .before .before .before .before .before .before .before .before .before .before .before in
-    let at-shape-length = c .before .before .before .before .before .before .before .before .before .before .before .before in
-    let at-put-shape = c .before .before .before .before .before .before .before .before .before .before in
-    let at-check-scalar-at = c .before .before .before .before .before .before in
-    let at-w = c .before .before in
+    let entry = c .before .before .before .before .before .before .before .before .before .before .before .before .before .before .before .before .before .before .before .before .before .before in
+    let at-shape-at = c .before .before .before .before .before .before .before .before .before .before .before .before .before .before .before .before .before .before in
+    let at-shape-at2 = c .before .before .before .before .before .before .before .before .before .before .before .before .before .before .before .before .before in
+    let at-check-shapes = c .before .before .before .before .before .before .before .before .before .before .before .before .before .before .before .before in
+    let at-shape-length = c .before .before .before .before .before .before .before .before .before .before .before .before .before .before in
+    let at-put-shape = c .before .before .before .before .before .before .before .before .before .before .before .before in
+    let at-check-scalar-at = c .before .before .before .before .before .before .before .before in
+    let at-w = c .before .before .before .before in
     let args = entry .args in
     λ w.
-    (type-done (take (args .to) (args .out .now)) (take (args .to + at-shape-length .shape-length .result) (at-put-shape .put-shape .last .0)) (at-check-scalar-at .check-scalar-at .last .1 .1 .1 .1 .1 .1 .0) (scalarOf (args .others) (args .above) w) (sidedOf (sideOf (args .side)) w) (at-check-scalar-at .check-scalar-at .result) (at-check-scalar-at .check-scalar-at .ensures w .0) (at-w .w .given .1) (shapeFor (at-check-shapes .check-shapes .result .shape)) (checked-fits (at-check-shapes .check-shapes .result) (at-check-shapes .check-shapes .ensures ∙ (ap (λ x. rules.checkShape (sideOf (args .side)) x (shapeFor (at-shape-at2 .shape-at2 .result))) (at-shape-at .shape-at .ensures maxDepth (ty (w .spec-shape) (w .spec-scalar)) (type-at (w .spec-placed))) ∙ ap (rules.checkShape (sideOf (args .side)) (w .spec-shape)) (at-shape-at2 .shape-at2 .ensures maxDepth (ty (w .type-shape) (w .type-scalar)) (type-at (w .type-placed))))) (c .if1 .left)) (let r = some-left (args .others) (args .above) ((entry .pre .1 .0) .type-scalar) ((entry .pre .1 .0) .limits) in laid-behind (args .out .now) (writeShape (shapeFor (at-check-shapes .check-shapes .result .shape))) (args .to) {end = (args .to + at-shape-length .shape-length .result)} (omega (arith, at-shape-length .shape-length .ensures .0, at-shape-length .shape-length .ensures .1)) (omega (arith, at-shape-length .shape-length .ensures .0, at-shape-length .shape-length .ensures .1, entry .pre .1 .1, r .0)) (at-put-shape .put-shape .ensures .1)), omega (arith, at-shape-length .shape-length .ensures .0, at-shape-length .shape-length .ensures .1, roomy-done ((args .to + at-shape-length .shape-length .result) + 24) (at-w .w .given .1) (at-check-scalar-at .check-scalar-at .ensures w .1)))
+    let checked = shapes-checked w (sideOf (args .side)) (at-shape-at .shape-at .result) (at-shape-at2 .shape-at2 .result) (at-check-shapes .check-shapes .result) (at-check-shapes .check-shapes .ensures) (at-shape-at .shape-at .ensures) (at-shape-at2 .shape-at2 .ensures) in
+    pair-clash w (args .to) (args .out .now) (entry .pre .1 .1) (at-shape-length .shape-length .ensures .1) (sideOf (args .side)) (at-check-shapes .check-shapes .result) checked
+    (at-put-shape .put-shape .last .0) (at-check-scalar-at .check-scalar-at .result) (at-check-scalar-at .check-scalar-at .last .1 .1 .1 .1 .1 .1 .0) (at-check-scalar-at .check-scalar-at .ensures w) (at-w .w .given .1) (c .before .clash .given .1)
 
 pub +check-fields+check-scalar-at+check-type-spec : {M : Type 1} → statement M
 +check-fields+check-scalar-at+check-type-spec =
@@ -1614,7 +1687,7 @@ pub +check-fields+check-scalar-at+check-type-spec : {M : Type 1} → statement M
     check-fields-μ-loop
     (check-fields-types-in-requires t)
     (check-fields-loop-holds t)
-    (check-fields-sub-t28 t)
+    (check-fields-sub-t22 t)
     (check-fields-same-length t)
     (check-fields-returns t)
     (check-fields-span-at-requires t)
@@ -1633,19 +1706,17 @@ pub +check-fields+check-scalar-at+check-type-spec : {M : Type 1} → statement M
     (check-fields-loop-less t)
     (check-fields-loop-again t)
     (check-fields-copy-fields-requires t)
-    (check-fields-enum-known-w-2 t)
-    (check-fields-enum-told-2 t)
+    (check-fields-sub-t29 t)
+    (check-fields-add-t30 t)
     (check-fields-same-length-3 t)
-    (check-fields-returns-3 t)
-    (check-fields-sub-t35 t)
-    (check-fields-add-t36 t)
-    (check-fields-same-length-4 t)
-    (check-fields-returns-4 t))
+    (check-fields-returns-3 t))
     (λ t. check-scalar-at-lts.spec (
       plan-scalar-reads.Asked,
       plan-scalar-reads.Learnt,
       copy-scalar-reads.Asked,
       copy-scalar-reads.Learnt,
+      done-reads.Asked,
+      done-reads.Learnt,
       put-box-reads.Asked,
       put-box-reads.Learnt,
       check-type-below t,
@@ -1661,13 +1732,14 @@ pub +check-fields+check-scalar-at+check-type-spec : {M : Type 1} → statement M
     (check-scalar-at-enum-known-plan t)
     (check-scalar-at-enum-told t)
     (check-scalar-at-copy-scalar-requires t)
+    (check-scalar-at-done-requires t)
     (check-scalar-at-enum-told-2 t)
     (check-scalar-at-copy-scalar-requires-2 t)
+    (check-scalar-at-done-requires-2 t)
     (check-scalar-at-enum-known-plan-2 t)
     (check-scalar-at-put-box-requires t)
     (check-scalar-at-add-check-type t)
     (check-scalar-at-add-check-type-2 t)
-    (check-scalar-at-add-check-type-3 t)
     (check-scalar-at-check-type-requires t)
     (check-scalar-at-enum-known-plan-3 t)
     (check-scalar-at-cast-put-name t)
@@ -1715,8 +1787,10 @@ pub +check-fields+check-scalar-at+check-type-spec : {M : Type 1} → statement M
     (check-type-enum-told t)
     (check-type-same-length t)
     (check-type-returns t)
+    (check-type-enum-told-2 t)
+    (check-type-add-t26 t)
+    (check-type-enum-known-clash t)
     (check-type-same-length-2 t)
     (check-type-returns-2 t)
-    (check-type-add-t24 t)
     (check-type-same-length-3 t)
     (check-type-returns-3 t)

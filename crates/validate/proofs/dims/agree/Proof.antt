@@ -1,4 +1,3 @@
-use Rattle.record.proofs.ByValue.{size-at}
 use borrow.Author.Needs.{needs}
 use mathlib.Core.Path.{_≡_, refl, sym, _∙_}
 use native.Mathlib.Omega.{arith}
@@ -7,7 +6,7 @@ use lib.ListN.{drop}
 use Rattle.record.specs.Answers.{dimsOf}
 use Rattle.validation.specs.CheckShape.{agree}
 use Rattle.validation.specs.CheckShapeSteps.{agree-end, agree-end′}
-use Rattle.validate.proofs.DimsLaws.{agree-more, agree-stop}
+use Rattle.validate.proofs.DimsLaws.{sizes-more, sizes-stop}
 use Rattle.validate.proofs.dims.agree.Statement.{statement}
 use Rattle.validate.proofs.dims.agree.Tie as tie
 use Rattle.validate.proofs.dims.agree.Reads as reads
@@ -60,7 +59,7 @@ returns-2 c =
     let at-size-count2 = c .before .before .before .before .before .before .before in
     let at-loop = c .before .before .before .before .before .before in
     let args = entry .args in
-    sym (at-loop .loop .inv .1 ∙ agree-stop (dimsOf (args .t1)) (dimsOf (args .t2)) (at-loop .loop .i) (omega (arith, at-size-count .size-count .ensures .0)) (omega (arith, at-size-count2 .size-count2 .ensures .0)) (size-at (args .t1) (at-loop .loop .i) (omega (arith, at-size-count .size-count .ensures .0))) (size-at (args .t2) (at-loop .loop .i) (omega (arith, at-size-count2 .size-count2 .ensures .0))) (c .before .compatible .ensures) (c .if2 .taken))
+    sym (at-loop .loop .inv .1 ∙ sizes-stop (args .t1) (args .t2) (at-loop .loop .i) (at-size-count .size-count .ensures .0) (at-size-count2 .size-count2 .ensures .0) (omega arith) (omega arith) (c .before .compatible .ensures) (c .if2 .taken))
 
 add-i : tie.Need-add-i Inv-loop μ-loop
 add-i c = search needs
@@ -75,7 +74,7 @@ loop-again c =
     let at-size-count2 = c .before .before .before .before .before .before .before in
     let at-loop = c .before .before .before .before .before .before in
     let args = entry .args in
-    (omega arith, at-loop .loop .inv .1 ∙ agree-more (dimsOf (args .t1)) (dimsOf (args .t2)) (at-loop .loop .i) (omega (arith, at-size-count .size-count .ensures .0)) (omega (arith, at-size-count2 .size-count2 .ensures .0)) (size-at (args .t1) (at-loop .loop .i) (omega (arith, at-size-count .size-count .ensures .0))) (size-at (args .t2) (at-loop .loop .i) (omega (arith, at-size-count2 .size-count2 .ensures .0))) (c .before .compatible .ensures) (c .if2 .left))
+    (omega arith, at-loop .loop .inv .1 ∙ sizes-more (args .t1) (args .t2) (at-loop .loop .i) (at-size-count .size-count .ensures .0) (at-size-count2 .size-count2 .ensures .0) (omega arith) (omega arith) (c .before .compatible .ensures) (c .if2 .left))
 
 returns-3 : tie.Need-returns-3 Inv-loop μ-loop
 returns-3 c =

@@ -7,7 +7,7 @@ use lib.ListN.{drop, length-reverse}
 use Rattle.record.specs.Answers.{dimsOf}
 use Rattle.validation.specs.CheckShape.{agree}
 use Rattle.validation.specs.CheckShapeSteps.{agreeEnds-end, agreeEnds-end′}
-use Rattle.validate.proofs.DimsLaws.{size-from-end, agree-more, agree-stop}
+use Rattle.validate.proofs.DimsLaws.{ends-more, ends-stop}
 use Rattle.validate.proofs.dims.agree_ends.Statement.{statement}
 use Rattle.validate.proofs.dims.agree_ends.Tie as tie
 use Rattle.validate.proofs.dims.agree_ends.Reads as reads
@@ -72,7 +72,7 @@ returns-2 c =
     let at-size-count2 = c .before .before .before .before .before .before .before in
     let at-loop = c .before .before .before .before .before .before in
     let args = entry .args in
-    sym (at-loop .loop .inv .1 ∙ agree-stop (reverse (dimsOf (args .t1))) (reverse (dimsOf (args .t2))) (at-loop .loop .i) (omega (arith, at-size-count .size-count .ensures .0, length-reverse (dimsOf (args .t1)))) (omega (arith, at-size-count2 .size-count2 .ensures .0, length-reverse (dimsOf (args .t2)))) (size-from-end (args .t1) (at-loop .loop .i) (at-size-count .size-count .ensures .0) (omega arith)) (size-from-end (args .t2) (at-loop .loop .i) (at-size-count2 .size-count2 .ensures .0) (omega arith)) (c .before .compatible .ensures) (c .if2 .taken))
+    sym (at-loop .loop .inv .1 ∙ ends-stop (args .t1) (args .t2) (at-loop .loop .i) (at-size-count .size-count .ensures .0) (at-size-count2 .size-count2 .ensures .0) (omega arith) (omega arith) (c .before .compatible .ensures) (c .if2 .taken))
 
 add-i : tie.Need-add-i Inv-loop μ-loop
 add-i c = search needs
@@ -87,7 +87,7 @@ loop-again c =
     let at-size-count2 = c .before .before .before .before .before .before .before in
     let at-loop = c .before .before .before .before .before .before in
     let args = entry .args in
-    (omega arith, at-loop .loop .inv .1 ∙ agree-more (reverse (dimsOf (args .t1))) (reverse (dimsOf (args .t2))) (at-loop .loop .i) (omega (arith, at-size-count .size-count .ensures .0, length-reverse (dimsOf (args .t1)))) (omega (arith, at-size-count2 .size-count2 .ensures .0, length-reverse (dimsOf (args .t2)))) (size-from-end (args .t1) (at-loop .loop .i) (at-size-count .size-count .ensures .0) (omega arith)) (size-from-end (args .t2) (at-loop .loop .i) (at-size-count2 .size-count2 .ensures .0) (omega arith)) (c .before .compatible .ensures) (c .if2 .left))
+    (omega arith, at-loop .loop .inv .1 ∙ ends-more (args .t1) (args .t2) (at-loop .loop .i) (at-size-count .size-count .ensures .0) (at-size-count2 .size-count2 .ensures .0) (omega arith) (omega arith) (c .before .compatible .ensures) (c .if2 .left))
 
 returns-3 : tie.Need-returns-3 Inv-loop μ-loop
 returns-3 c =

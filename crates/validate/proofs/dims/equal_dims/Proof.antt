@@ -8,7 +8,7 @@ use lib.ListN.{drop, length-append}
 use Rattle.record.specs.Answers.{dimsOf}
 use Rattle.validation.specs.CheckShape.{equalDims}
 use Rattle.validation.specs.CheckShapeSteps.{equal-end}
-use Rattle.validate.proofs.DimsLaws.{equal-more, equal-stop, equal-uneven}
+use Rattle.validate.proofs.DimsLaws.{parts-uneven, parts-more, parts-stop, parts-end}
 use Rattle.validate.proofs.dims.equal_dims.Statement.{statement}
 use Rattle.validate.proofs.dims.equal_dims.Tie as tie
 use Rattle.validate.proofs.dims.equal_dims.Reads as reads
@@ -40,7 +40,7 @@ returns c =
     let at-size-count = c .before .before .before in
     let at-size-count2 = c .before .before in
     let args = entry .args in
-    sym (equal-uneven ((dimsOf (args .a)) ++ (dimsOf (args .b))) (dimsOf (args .t3)) (λ e. c .if1 .taken (omega (arith, e, at-size-count .size-count .ensures .0, at-size-count2 .size-count2 .ensures .0, c .before .size-count3 .ensures .0, length-append (dimsOf (args .a)) (dimsOf (args .b))))))
+    parts-uneven (args .a) (args .b) (args .t3) (at-size-count2 .size-count2 .ensures .0) (c .before .size-count3 .ensures .0) (at-size-count .size-count .ensures .0) (c .if1 .taken)
 
 loop-holds : tie.Need-loop-holds Inv-loop μ-loop
 loop-holds c = (search needs, refl)
@@ -64,7 +64,8 @@ returns-2 c =
     let at-loop = c .before .before .before .before in
     let at-size-in = c .before .before in
     let args = entry .args in
-    sym (at-loop .loop .inv .1 ∙ equal-stop ((dimsOf (args .a)) ++ (dimsOf (args .b))) (dimsOf (args .t3)) (at-loop .loop .i) (omega (arith, at-if1 .if1 .left, at-size-count .size-count .ensures .0, at-size-count2 .size-count2 .ensures .0, at-size-count3 .size-count3 .ensures .0, length-append (dimsOf (args .a)) (dimsOf (args .b)))) (omega (arith, at-size-count .size-count .ensures .0)) (at-size-in .size-in .result) _ (at-size-in .size-in .ensures) (size-at (args .t3) (at-loop .loop .i) (omega (arith, at-size-count .size-count .ensures .0))) (c .if2 .taken))
+    sym (at-loop .loop .inv .1
+    ∙ parts-stop (args .a) (args .b) (args .t3) (at-size-count2 .size-count2 .ensures .0) (at-size-count3 .size-count3 .ensures .0) (at-size-count .size-count .ensures .0) (at-if1 .if1 .left) (at-loop .loop .i) (omega arith) (at-size-in .size-in .result) (at-size-in .size-in .ensures) (c .if2 .taken))
 
 add-i : tie.Need-add-i Inv-loop μ-loop
 add-i c = search needs
@@ -81,8 +82,11 @@ loop-again c =
     let at-if1 = c .before .before .before .before .before in
     let at-loop = c .before .before .before .before in
     let at-size-in = c .before .before in
-    let args = entry .args in
-    (omega arith, at-loop .loop .inv .1 ∙ equal-more ((dimsOf (args .a)) ++ (dimsOf (args .b))) (dimsOf (args .t3)) (at-loop .loop .i) (omega (arith, at-if1 .if1 .left, at-size-count .size-count .ensures .0, at-size-count2 .size-count2 .ensures .0, at-size-count3 .size-count3 .ensures .0, length-append (dimsOf (args .a)) (dimsOf (args .b)))) (omega (arith, at-size-count .size-count .ensures .0)) (at-size-in .size-in .result) _ (at-size-in .size-in .ensures) (size-at (args .t3) (at-loop .loop .i) (omega (arith, at-size-count .size-count .ensures .0))) (c .if2 .left))
+    let args = entry .args in (
+      omega arith,
+      at-loop .loop .inv .1
+          ∙ parts-more (args .a) (args .b) (args .t3) (at-size-count2 .size-count2 .ensures .0) (at-size-count3 .size-count3 .ensures .0) (at-size-count .size-count .ensures .0) (at-if1 .if1 .left) (at-loop .loop .i) (omega arith) (at-size-in .size-in .result) (at-size-in .size-in .ensures) (c .if2 .left),
+    )
 
 returns-3 : tie.Need-returns-3 Inv-loop μ-loop
 returns-3 c =
@@ -92,7 +96,7 @@ returns-3 c =
     let at-size-count3 = c .before .before .before in
     let at-if1 = c .before .before in
     let args = entry .args in
-    sym (c .before .loop .inv .1 ∙ equal-end (c .before .loop .i) ((dimsOf (args .a)) ++ (dimsOf (args .b))) (dimsOf (args .t3)) (omega (arith, at-if1 .if1 .left, at-size-count .size-count .ensures .0, at-size-count2 .size-count2 .ensures .0, at-size-count3 .size-count3 .ensures .0, length-append (dimsOf (args .a)) (dimsOf (args .b)))) (omega (arith, at-size-count .size-count .ensures .0)))
+    sym (c .before .loop .inv .1 ∙ parts-end (args .a) (args .b) (args .t3) (at-size-count2 .size-count2 .ensures .0) (at-size-count3 .size-count3 .ensures .0) (at-size-count .size-count .ensures .0) (at-if1 .if1 .left) (c .before .loop .i) (omega arith))
 
 pub equal-dims-spec : {M : Type 1} → statement M
 equal-dims-spec =

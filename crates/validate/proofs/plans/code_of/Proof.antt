@@ -18,16 +18,16 @@ enum-told-3 : tie.Need-enum-told-3
 enum-told-3 c = search needs
 
 returns : tie.Need-returns
-returns c = λ s k h. code-plain s k _ h (c .before .v .given .1)
+returns c = λ s k h. code-plain h (c .before .v .given .1)
 
 returns-2 : tie.Need-returns-2
-returns-2 c = λ s k h. code-box-any s k _ h (c .enum-told .given .1)
+returns-2 c = λ s k h. code-box-any h (c .enum-told .given .1)
 
 returns-3 : tie.Need-returns-3
-returns-3 c = λ s k h. code-box-all s k _ h (c .enum-told2 .given .1)
+returns-3 c = λ s k h. code-box-all h (c .enum-told2 .given .1)
 
 returns-4 : tie.Need-returns-4
-returns-4 c = λ s k h. code-box-def s k _ h (c .enum-told3 .given .1)
+returns-4 c = λ s k h. code-box-def h (c .enum-told3 .given .1)
 
 pub code-of-spec : {M : Type 1} → statement M
 code-of-spec =

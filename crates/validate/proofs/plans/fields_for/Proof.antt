@@ -1,4 +1,3 @@
-use borrow.Author.Needs.{needs}
 use Rattle.validate.proofs.PlanLaws.{fields-open, fields-many, fields-unknown, fields-one}
 use borrow.Author.Needs.{needs}
 use Rattle.validate.proofs.plans.fields_for.Statement.{statement}

@@ -1,5 +1,6 @@
-use Rattle.validate.specs.Plans.{scalarOf}
-use Rattle.validate.proofs.PlanLaws.{as-plain, as-box-any, as-box-all, as-box-def, tested, all-plain, all-any, all-inside, all-pairs}
+use Rattle.validate.proofs.PlanLaws.{tested, specTy, all-plain, all-any, all-inside, all-pairs}
+use Rattle.validate.specs.Plans.{scalarAfter, Planned}
+use mathlib.Core.Path.{_≡_, refl, sym, ap, subst, _∙_}
 use borrow.Author.Needs.{needs}
 use Rattle.validate.proofs.plans.plan_all.Statement.{statement}
 use Rattle.validate.proofs.plans.plan_all.Tie as tie
@@ -7,6 +8,7 @@ use Rattle.validate.proofs.plans.plan_all.Reads as reads
 use Rattle.validate.proofs.plans.plan_all.Lts as lts
 use Rattle.scalar.proofs.superset_codes.Reads as superset-codes-reads
 use Rattle.validate.proofs.plans.keep_if.Reads as keep-if-reads
+use Rattle.validate.proofs.plans.pair_up.Reads as pair-up-reads
 use Rattle.validate.proofs.plans.take_if.Reads as take-if-reads
 
 enum-known-v : tie.Need-enum-known-v
@@ -30,32 +32,29 @@ enum-known-v-2 c = search needs
 enum-known-v-3 : tie.Need-enum-known-v-3
 enum-known-v-3 c = search needs
 
+pair-up-requires : tie.Need-pair-up-requires
+pair-up-requires c κs = search needs
+
 returns : tie.Need-returns
 returns c =
-    let entry = c .before .before .before .before .before .before .before in
+    let entry = c .before .before .before .before .before .before in
     let at-v = c .before .before .before in
     let args = entry .args in
-    λ j w z x y.
-    c .keep-if .ensures (args .spec .now) (args .ty .now) (args .others) (args .above) (scalarOf (args .others) (args .above) w) (w .spec-scalar) (w .type-scalar) (tested (scalarOf (args .others) (args .above) w) (w .type-scalar) (all-plain w z x (as-plain (args .ty .now) (w .type-scalar) (args .v) y (at-v .v .given .1))) (c .before .superset-codes .ensures))
+    λ t j w k.
+    c .keep-if .ensures (args .spec .now) t (args .others) (args .above) (scalarAfter w) (w .spec-scalar) (w .type-scalar)
+    (tested (scalarAfter w) (w .type-scalar) (all-plain w k (at-v .v .given .1)) (c .before .superset-codes .ensures))
 
 returns-2 : tie.Need-returns-2
 returns-2 c =
-    let entry = c .before .before .before .before .before in
-    let args = entry .args in
-    λ j w z x y.
-    c .take-if .ensures (args .ty .now) (scalarOf (args .others) (args .above) w) (w .spec-shape) (w .spec-scalar) (w .type-scalar) (w .spec-placed) (all-any w z x (as-box-any (args .ty .now) (w .type-scalar) (args .v) y (c .before .enum-told .given .1)))
+    λ t j w k. c .take-if .ensures t (scalarAfter w) (specTy w) (w .type-scalar) (w .spec-there) (all-any w k (c .before .enum-told .given .1))
 
 returns-3 : tie.Need-returns-3
-returns-3 c =
-    let entry = c .before .before .before .before .before in
-    let args = entry .args in
-    λ j w z x y. all-inside w z x (as-box-all (args .ty .now) (w .type-scalar) (args .v) y (c .before .v2 .given .1))
+returns-3 c = λ t j w k. all-inside w k (c .before .v2 .given .1)
 
 returns-4 : tie.Need-returns-4
 returns-4 c =
-    let entry = c .before .before .before .before .before in
-    let args = entry .args in
-    λ j w z x y. all-pairs w z x (as-box-def (args .ty .now) (w .type-scalar) (args .v) y (c .before .v3 .given .1))
+    let at-v3 = c .before .before in
+    λ t j w k. subst (Planned w) (sym (c .pair-up .ensures)) (all-pairs w k (at-v3 .v3 .given .1))
 
 pub plan-all-spec : {M : Type 1} → statement M
 plan-all-spec =
@@ -68,6 +67,7 @@ plan-all-spec =
     take-if-requires
     enum-known-v-2
     enum-known-v-3
+    pair-up-requires
     returns
     returns-2
     returns-3

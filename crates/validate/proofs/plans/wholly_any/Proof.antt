@@ -6,15 +6,12 @@ use Rattle.validate.proofs.plans.wholly_any.Reads as reads
 use Rattle.validate.proofs.plans.wholly_any.Lts as lts
 use Rattle.validate.proofs.plans.code_of.Reads as code-of-reads
 
--- src/plans.rt:61:9
 returns : tie.Need-returns
 returns c = λ s p k e h. not-any p k e (c .if1 .taken)
 
--- src/plans.rt:63:5
 code-of-requires : tie.Need-code-of-requires
 code-of-requires c κs = search needs
 
--- src/plans.rt:57:1
 returns-2 : tie.Need-returns-2
 returns-2 c = λ s p k e h. any-by-code p k e (c .before .if1 .left) (c .code-of .ensures s k h)
 

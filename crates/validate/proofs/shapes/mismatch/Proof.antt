@@ -1,7 +1,7 @@
 use mathlib.Core.Path.{sym, ap, _∙_}
-use Rattle.record.specs.Answers.{dimsOf, shapeFor}
 use Rattle.validation.specs.CheckShape as rules
 use Rattle.validate.specs.Answers.{sideOf}
+use Rattle.record.specs.Answers.{dimsOf, shapeFor}
 use borrow.Author.Needs.{needs}
 use Rattle.validate.proofs.shapes.mismatch.Statement.{statement}
 use Rattle.validate.proofs.shapes.mismatch.Tie as tie

@@ -1,12 +1,13 @@
-use native.Mathlib.Omega.{arith}
+use mathlib.Core.Path.{_∙_}
 use Rattle.record.specs.Answers.{dimsOf}
-use Rattle.validate.proofs.ShapesLaws.{left-fewer, left-closed, left-open}
+use Rattle.validate.proofs.ShapesLaws.{left-closed, left-open}
 use borrow.Author.Needs.{needs}
 use Rattle.validate.proofs.shapes.mismatch_left.Statement.{statement}
 use Rattle.validate.proofs.shapes.mismatch_left.Tie as tie
 use Rattle.validate.proofs.shapes.mismatch_left.Reads as reads
 use Rattle.validate.proofs.shapes.mismatch_left.Lts as lts
 use Rattle.validate.proofs.dims.agree.Reads as agree-reads
+use Rattle.validate.proofs.shapes.judge.Reads as judge-reads
 use Rattle.writer.proofs.size_count.Reads as size-count-reads
 
 size-count-requires : tie.Need-size-count-requires
@@ -15,34 +16,33 @@ size-count-requires c κs = search needs
 size-count-requires-2 : tie.Need-size-count-requires-2
 size-count-requires-2 c κs = search needs
 
-returns : tie.Need-returns
-returns c =
-    let entry = c .before .before .before .before .before in
-    let at-if1 = c .before .before .before in
-    let at-size-count = c .before .before in
-    let args = entry .args in
-    left-fewer (dimsOf (args .o)) (args .t) (at-if1 .if1 .taken) (omega (arith, at-size-count .size-count .ensures .0, c .before .size-count2 .ensures .0))
-
 agree-requires : tie.Need-agree-requires
 agree-requires c κs = search needs
 
-returns-2 : tie.Need-returns-2
-returns-2 c =
+judge-requires : tie.Need-judge-requires
+judge-requires c κs = search needs
+
+returns : tie.Need-returns
+returns c =
     let entry = c .before .before .before .before .before .before in
     let at-if1 = c .before .before .before .before in
     let at-size-count = c .before .before .before in
     let at-size-count2 = c .before .before in
     let args = entry .args in
-    left-closed (dimsOf (args .o)) (args .t) (at-if1 .if1 .taken) (omega (arith, at-size-count .size-count .ensures .0, at-size-count2 .size-count2 .ensures .0)) (c .agree .ensures)
+    c .judge .ensures ∙ left-closed (dimsOf (args .o)) (args .t) (at-if1 .if1 .taken) (at-size-count2 .size-count2 .ensures .0) (at-size-count .size-count .ensures .0) (c .before .agree .ensures)
 
 agree-requires-2 : tie.Need-agree-requires-2
 agree-requires-2 c κs = search needs
 
-returns-3 : tie.Need-returns-3
-returns-3 c =
-    let entry = c .before .before .before in
+judge-requires-2 : tie.Need-judge-requires-2
+judge-requires-2 c κs = search needs
+
+returns-2 : tie.Need-returns-2
+returns-2 c =
+    let entry = c .before .before .before .before in
+    let at-if1 = c .before .before in
     let args = entry .args in
-    left-open (dimsOf (args .o)) (args .t) (c .before .if1 .left) (c .agree2 .ensures)
+    c .judge2 .ensures ∙ left-open (dimsOf (args .o)) (args .t) (at-if1 .if1 .left) (c .before .agree2 .ensures)
 
 pub mismatch-left-spec : {M : Type 1} → statement M
 mismatch-left-spec =
@@ -50,8 +50,9 @@ mismatch-left-spec =
     (tie.spec
     size-count-requires
     size-count-requires-2
-    returns
     agree-requires
-    returns-2
+    judge-requires
+    returns
     agree-requires-2
-    returns-3)
+    judge-requires-2
+    returns-2)

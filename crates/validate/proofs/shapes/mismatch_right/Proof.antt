@@ -1,12 +1,13 @@
-use native.Mathlib.Omega.{arith}
+use mathlib.Core.Path.{_∙_}
 use Rattle.record.specs.Answers.{dimsOf}
-use Rattle.validate.proofs.ShapesLaws.{right-fewer, right-closed, right-short, right-open}
+use Rattle.validate.proofs.ShapesLaws.{right-closed, right-open}
 use borrow.Author.Needs.{needs}
 use Rattle.validate.proofs.shapes.mismatch_right.Statement.{statement}
 use Rattle.validate.proofs.shapes.mismatch_right.Tie as tie
 use Rattle.validate.proofs.shapes.mismatch_right.Reads as reads
 use Rattle.validate.proofs.shapes.mismatch_right.Lts as lts
 use Rattle.validate.proofs.dims.agree_ends.Reads as agree-ends-reads
+use Rattle.validate.proofs.shapes.judge.Reads as judge-reads
 use Rattle.writer.proofs.size_count.Reads as size-count-reads
 
 size-count-requires : tie.Need-size-count-requires
@@ -15,25 +16,20 @@ size-count-requires c κs = search needs
 size-count-requires-2 : tie.Need-size-count-requires-2
 size-count-requires-2 c κs = search needs
 
-returns : tie.Need-returns
-returns c =
-    let entry = c .before .before .before .before .before in
-    let at-if1 = c .before .before .before in
-    let at-size-count = c .before .before in
-    let args = entry .args in
-    right-fewer (dimsOf (args .o)) (args .t) (at-if1 .if1 .taken) (omega (arith, at-size-count .size-count .ensures .0, c .before .size-count2 .ensures .0))
-
 agree-ends-requires : tie.Need-agree-ends-requires
 agree-ends-requires c κs = search needs
 
-returns-2 : tie.Need-returns-2
-returns-2 c =
+judge-requires : tie.Need-judge-requires
+judge-requires c κs = search needs
+
+returns : tie.Need-returns
+returns c =
     let entry = c .before .before .before .before .before .before in
     let at-if1 = c .before .before .before .before in
     let at-size-count = c .before .before .before in
     let at-size-count2 = c .before .before in
     let args = entry .args in
-    right-closed (dimsOf (args .o)) (args .t) (at-if1 .if1 .taken) (omega (arith, at-size-count .size-count .ensures .0, at-size-count2 .size-count2 .ensures .0)) (c .agree-ends .ensures)
+    c .judge .ensures ∙ right-closed (dimsOf (args .o)) (args .t) (at-if1 .if1 .taken) (at-size-count2 .size-count2 .ensures .0) (at-size-count .size-count .ensures .0) (c .before .agree-ends .ensures)
 
 size-count-requires-3 : tie.Need-size-count-requires-3
 size-count-requires-3 c κs = search needs
@@ -41,33 +37,28 @@ size-count-requires-3 c κs = search needs
 size-count-requires-4 : tie.Need-size-count-requires-4
 size-count-requires-4 c κs = search needs
 
-add-if3 : tie.Need-add-if3
-add-if3 c = search needs
-
 size-count-requires-5 : tie.Need-size-count-requires-5
 size-count-requires-5 c κs = search needs
 
-returns-3 : tie.Need-returns-3
-returns-3 c =
-    let entry = c .before .before .before .before .before .before .before in
-    let at-if1 = c .before .before .before .before .before in
-    let at-size-count3 = c .before .before .before in
-    let at-size-count4 = c .before .before in
-    let args = entry .args in
-    right-short (dimsOf (args .o)) (args .t) (at-if1 .if1 .left) (omega (arith, at-size-count3 .size-count3 .ensures .0, at-size-count4 .size-count4 .ensures .0, c .before .size-count5 .ensures .0))
+add-judge : tie.Need-add-judge
+add-judge c = search needs
 
 agree-ends-requires-2 : tie.Need-agree-ends-requires-2
 agree-ends-requires-2 c κs = search needs
 
-returns-4 : tie.Need-returns-4
-returns-4 c =
+judge-requires-2 : tie.Need-judge-requires-2
+judge-requires-2 c κs = search needs
+
+returns-2 : tie.Need-returns-2
+returns-2 c =
     let entry = c .before .before .before .before .before .before .before .before in
     let at-if1 = c .before .before .before .before .before .before in
     let at-size-count3 = c .before .before .before .before in
     let at-size-count4 = c .before .before .before in
     let at-size-count5 = c .before .before in
     let args = entry .args in
-    right-open (dimsOf (args .o)) (args .t) (at-if1 .if1 .left) (omega (arith, at-size-count3 .size-count3 .ensures .0, at-size-count4 .size-count4 .ensures .0, at-size-count5 .size-count5 .ensures .0)) (c .agree-ends2 .ensures)
+    c .judge2 .ensures
+    ∙ right-open (dimsOf (args .o)) (args .t) (at-if1 .if1 .left) (at-size-count4 .size-count4 .ensures .0) (at-size-count5 .size-count5 .ensures .0) (at-size-count3 .size-count3 .ensures .0) (c .before .agree-ends2 .ensures)
 
 pub mismatch-right-spec : {M : Type 1} → statement M
 mismatch-right-spec =
@@ -75,13 +66,13 @@ mismatch-right-spec =
     (tie.spec
     size-count-requires
     size-count-requires-2
-    returns
     agree-ends-requires
-    returns-2
+    judge-requires
+    returns
     size-count-requires-3
     size-count-requires-4
-    add-if3
     size-count-requires-5
-    returns-3
+    add-judge
     agree-ends-requires-2
-    returns-4)
+    judge-requires-2
+    returns-2)

@@ -1,6 +1,6 @@
-use mathlib.Core.Path.{sym, _∙_}
+use mathlib.Core.Path.{_∙_}
 use Rattle.record.specs.Answers.{dimsOf}
-use Rattle.validate.proofs.ShapesLaws.{unsided-uneven, unsided-even, unsided-open}
+use Rattle.validate.proofs.ShapesLaws.{unsided-closed, unsided-open}
 use borrow.Author.Needs.{needs}
 use Rattle.validate.proofs.shapes.mismatch_unsided.Statement.{statement}
 use Rattle.validate.proofs.shapes.mismatch_unsided.Tie as tie
@@ -8,6 +8,7 @@ use Rattle.validate.proofs.shapes.mismatch_unsided.Reads as reads
 use Rattle.validate.proofs.shapes.mismatch_unsided.Lts as lts
 use Rattle.validate.proofs.dims.agree.Reads as agree-reads
 use Rattle.validate.proofs.dims.equal_dims.Reads as equal-dims-reads
+use Rattle.validate.proofs.shapes.judge.Reads as judge-reads
 use Rattle.writer.proofs.size_count.Reads as size-count-reads
 
 size-count-requires : tie.Need-size-count-requires
@@ -16,35 +17,33 @@ size-count-requires c κs = search needs
 size-count-requires-2 : tie.Need-size-count-requires-2
 size-count-requires-2 c κs = search needs
 
-returns : tie.Need-returns
-returns c =
-    let entry = c .before .before .before .before .before in
-    let at-if1 = c .before .before .before in
-    let at-size-count = c .before .before in
-    let args = entry .args in
-    unsided-uneven (dimsOf (args .o)) (args .t) (at-if1 .if1 .taken) (λ e. c .if2 .taken (at-size-count .size-count .ensures .0 ∙ (e ∙ sym (c .before .size-count2 .ensures .0))))
-
 agree-requires : tie.Need-agree-requires
 agree-requires c κs = search needs
 
-returns-2 : tie.Need-returns-2
-returns-2 c =
+judge-requires : tie.Need-judge-requires
+judge-requires c κs = search needs
+
+returns : tie.Need-returns
+returns c =
     let entry = c .before .before .before .before .before .before in
     let at-if1 = c .before .before .before .before in
     let at-size-count = c .before .before .before in
     let at-size-count2 = c .before .before in
     let args = entry .args in
-    unsided-even (dimsOf (args .o)) (args .t) (at-if1 .if1 .taken) (sym (at-size-count .size-count .ensures .0) ∙ (c .before .if2 .left ∙ at-size-count2 .size-count2 .ensures .0)) (c .agree .ensures)
+    c .judge .ensures ∙ unsided-closed (dimsOf (args .o)) (args .t) (at-if1 .if1 .taken) (at-size-count .size-count .ensures .0) (at-size-count2 .size-count2 .ensures .0) (c .before .agree .ensures)
 
 equal-dims-requires : tie.Need-equal-dims-requires
 equal-dims-requires c κs = search needs
 
-returns-3 : tie.Need-returns-3
-returns-3 c =
-    let entry = c .before .before .before .before in
-    let at-if1 = c .before .before in
+judge-requires-2 : tie.Need-judge-requires-2
+judge-requires-2 c κs = search needs
+
+returns-2 : tie.Need-returns-2
+returns-2 c =
+    let entry = c .before .before .before .before .before in
+    let at-if1 = c .before .before .before in
     let args = entry .args in
-    unsided-open (dimsOf (args .o)) (args .t) (at-if1 .if1 .left) (c .equal-dims .ensures)
+    c .judge2 .ensures ∙ unsided-open (dimsOf (args .o)) (args .t) (at-if1 .if1 .left) (c .before .equal-dims .ensures)
 
 pub mismatch-unsided-spec : {M : Type 1} → statement M
 mismatch-unsided-spec =
@@ -52,8 +51,9 @@ mismatch-unsided-spec =
     (tie.spec
     size-count-requires
     size-count-requires-2
-    returns
     agree-requires
-    returns-2
+    judge-requires
+    returns
     equal-dims-requires
-    returns-3)
+    judge-requires-2
+    returns-2)

@@ -1,11 +1,12 @@
-use native.Mathlib.Omega.{arith}
+use Rattle.validate.proofs.HeadLaws.{box-laid}
 use lib.ListN.{length-set}
-use Rattle.validate.proofs.CopyLaws.{six-stores}
+use mathlib.Core.Path.{_≡_, refl, sym, ap, _∙_}
+use native.Mathlib.Omega.{arith}
 use borrow.Author.Needs.{needs}
-use Rattle.validate.proofs.copies.put_box.Statement.{statement}
-use Rattle.validate.proofs.copies.put_box.Tie as tie
-use Rattle.validate.proofs.copies.put_box.Reads as reads
-use Rattle.validate.proofs.copies.put_box.Lts as lts
+use Rattle.validate.proofs.heads.put_box.Statement.{statement}
+use Rattle.validate.proofs.heads.put_box.Tie as tie
+use Rattle.validate.proofs.heads.put_box.Reads as reads
+use Rattle.validate.proofs.heads.put_box.Lts as lts
 
 slice-write-out : tie.Need-slice-write-out
 slice-write-out c = search needs
@@ -46,11 +47,17 @@ add-out-5 c = search needs
 slice-write-out-6 : tie.Need-slice-write-out-6
 slice-write-out-6 c = simp length-set (omega arith)
 
+add-result : tie.Need-add-result
+add-result c = search needs
+
 same-length : tie.Need-same-length
 same-length c = search needs
 
 returns : tie.Need-returns
-returns c = six-stores _ _ _ (c .pre .0)
+returns c =
+    let entry = c in
+    let args = entry .args in
+    box-laid (args .out .now) (args .to) (args .form) (entry .pre .0) refl
 
 pub put-box-spec : {M : Type 1} → statement M
 put-box-spec =
@@ -69,5 +76,6 @@ put-box-spec =
     cast-out-2
     add-out-5
     slice-write-out-6
+    add-result
     same-length
     returns)

@@ -18,36 +18,36 @@ use Rattle.validation.specs.KeepsLaws.{Counts}
 -- ---- the two numbers
 
 -- With `others` types elsewhere and `above` types around it, a type keeps to the limits with the scalar k.
-unfoldable pub fits : ℕ → ℕ → Scalar → Bool
-fits others above k = leb (others + suc (inside k)) maxTypes && leb (above + suc (below k)) maxDepth
+unfoldable pub limited : ℕ → ℕ → Scalar → Bool
+limited others above k = leb (others + suc (inside k)) maxTypes && leb (above + suc (below k)) maxDepth
 
 -- Likewise a Def with the fields f: itself and what is before f counted among the others.
-unfoldable pub fieldsFit : ℕ → ℕ → Fields → Bool
-fieldsFit others above f = leb (others + among f) maxTypes && leb (above + deepest f) maxDepth
+unfoldable pub fieldsLimited : ℕ → ℕ → Fields → Bool
+fieldsLimited others above f = leb (others + among f) maxTypes && leb (above + deepest f) maxDepth
 
-pub fits-counts : (o a : ℕ) → Counts (fits o a)
-unfolding fits
-fits-counts o a x y h j = rw (h, j)
+pub limited-counts : (o a : ℕ) → Counts (limited o a)
+unfolding limited
+limited-counts o a x y h j = rw (h, j)
 
-pub fits-true : (o a : ℕ) (k : Scalar) → fits o a k ≡ true → (o + suc (inside k) ≤ maxTypes) × (a + suc (below k) ≤ maxDepth)
-unfolding fits
-fits-true o a k h =
+pub limited-true : (o a : ℕ) (k : Scalar) → limited o a k ≡ true → (o + suc (inside k) ≤ maxTypes) × (a + suc (below k) ≤ maxDepth)
+unfolding limited
+limited-true o a k h =
     let r = both-true (leb (o + suc (inside k)) maxTypes) (leb (a + suc (below k)) maxDepth) h in
     (leb-true (o + suc (inside k)) maxTypes (r .0), leb-true (a + suc (below k)) maxDepth (r .1))
 
-pub fits-of : (o a : ℕ) (k : Scalar) → o + suc (inside k) ≤ maxTypes → a + suc (below k) ≤ maxDepth → fits o a k ≡ true
-unfolding fits
-fits-of o a k h j = rw (le-leb (o + suc (inside k)) maxTypes h, le-leb (a + suc (below k)) maxDepth j)
+pub limited-of : (o a : ℕ) (k : Scalar) → o + suc (inside k) ≤ maxTypes → a + suc (below k) ≤ maxDepth → limited o a k ≡ true
+unfolding limited
+limited-of o a k h j = rw (le-leb (o + suc (inside k)) maxTypes h, le-leb (a + suc (below k)) maxDepth j)
 
-pub fieldsFit-true : (o a : ℕ) (f : Fields) → fieldsFit o a f ≡ true → (o + among f ≤ maxTypes) × (a + deepest f ≤ maxDepth)
-unfolding fieldsFit
-fieldsFit-true o a f h =
+pub fieldsLimited-true : (o a : ℕ) (f : Fields) → fieldsLimited o a f ≡ true → (o + among f ≤ maxTypes) × (a + deepest f ≤ maxDepth)
+unfolding fieldsLimited
+fieldsLimited-true o a f h =
     let r = both-true (leb (o + among f) maxTypes) (leb (a + deepest f) maxDepth) h in
     (leb-true (o + among f) maxTypes (r .0), leb-true (a + deepest f) maxDepth (r .1))
 
-pub fieldsFit-of : (o a : ℕ) (f : Fields) → o + among f ≤ maxTypes → a + deepest f ≤ maxDepth → fieldsFit o a f ≡ true
-unfolding fieldsFit
-fieldsFit-of o a f h j = rw (le-leb (o + among f) maxTypes h, le-leb (a + deepest f) maxDepth j)
+pub fieldsLimited-of : (o a : ℕ) (f : Fields) → o + among f ≤ maxTypes → a + deepest f ≤ maxDepth → fieldsLimited o a f ≡ true
+unfolding fieldsLimited
+fieldsLimited-of o a f h j = rw (le-leb (o + among f) maxTypes h, le-leb (a + deepest f) maxDepth j)
 
 -- ---- going in and on
 
@@ -55,19 +55,19 @@ same-tests : (m n p q : ℕ) → m ≡ n → p ≡ q → (leb m maxTypes && leb 
 same-tests m n p q h j = rw (h, j)
 
 -- the outermost type: nothing elsewhere, nothing above
-pub outermost-fits : (t : Shape) → outermost t ≡ fits 0 0
-unfolding keepsLimits fits
-outermost-fits t = fun-ext λ x. same-tests (suc (inside x)) (0 + suc (inside x)) (suc (below x)) (0 + suc (below x)) (omega arith) (omega arith)
+pub outermost-limited : (t : Shape) → outermost t ≡ limited 0 0
+unfolding keepsLimits limited
+outermost-limited t = fun-ext λ x. same-tests (suc (inside x)) (0 + suc (inside x)) (suc (below x)) (0 + suc (below x)) (omega arith) (omega arith)
 
 -- the content of an All box
-pub all-fits : (o a : ℕ) (t : Shape) → (λ x. fits o a (boxAll t x)) ≡ fits (suc o) (suc a)
-unfolding fits inside below
-all-fits o a t = fun-ext λ x. same-tests (o + suc (suc (inside x))) (suc o + suc (inside x)) (a + suc (suc (below x))) (suc a + suc (below x)) (omega arith) (omega arith)
+pub all-limited : (o a : ℕ) (t : Shape) → (λ x. limited o a (boxAll t x)) ≡ limited (suc o) (suc a)
+unfolding limited inside below
+all-limited o a t = fun-ext λ x. same-tests (o + suc (suc (inside x))) (suc o + suc (inside x)) (a + suc (suc (below x))) (suc a + suc (below x)) (omega arith) (omega arith)
 
 -- the fields of a Def
-pub def-fits : (o a : ℕ) (m : Option (List ℕ)) → (λ f. fits o a (boxDef m f)) ≡ fieldsFit (suc o) (suc a)
-unfolding fits fieldsFit inside below
-def-fits o a m = fun-ext λ f. same-tests (o + suc (among f)) (suc o + among f) (a + suc (deepest f)) (suc a + deepest f) (omega arith) (omega arith)
+pub def-limited : (o a : ℕ) (m : Option (List ℕ)) → (λ f. limited o a (boxDef m f)) ≡ fieldsLimited (suc o) (suc a)
+unfolding limited fieldsLimited inside below
+def-limited o a m = fun-ext λ f. same-tests (o + suc (among f)) (suc o + among f) (a + suc (deepest f)) (suc a + deepest f) (omega arith) (omega arith)
 
 leb-max : (a p q n : ℕ) → a + q ≤ n → leb (a + max p q) n ≡ leb (a + p) n
 leb-max a p q n h = go (leb (a + p) n) refl
@@ -77,16 +77,16 @@ leb-max a p q n h = go (leb (a + p) n) refl
     go false e = let l = leb-false (a + p) n e in lt-leb (a + max p q) n (omega arith)
 
 -- the first of some fields: those after it count as they still are
-pub field-fits : (o a : ℕ) (t : Shape) (g : Fields) → a + deepest g ≤ maxDepth → (λ x. fieldsFit o a (field t x g)) ≡ fits (o + among g) a
-unfolding fits fieldsFit among deepest
-field-fits o a t g h = fun-ext λ x.
+pub field-limited : (o a : ℕ) (t : Shape) (g : Fields) → a + deepest g ≤ maxDepth → (λ x. fieldsLimited o a (field t x g)) ≡ limited (o + among g) a
+unfolding limited fieldsLimited among deepest
+field-limited o a t g h = fun-ext λ x.
     let e : o + (suc (inside x) + among g) ≡ (o + among g) + suc (inside x) = omega arith in
     rw (e, leb-max a (suc (below x)) (deepest g) maxDepth h)
 
 -- the fields after it: it counts as it has become
-pub rest-fits : (o a : ℕ) (t : Shape) (x : Scalar) → a + suc (below x) ≤ maxDepth → (λ f. fieldsFit o a (field t x f)) ≡ fieldsFit (o + suc (inside x)) a
-unfolding fieldsFit among deepest
-rest-fits o a t x h = fun-ext λ f.
+pub rest-limited : (o a : ℕ) (t : Shape) (x : Scalar) → a + suc (below x) ≤ maxDepth → (λ f. fieldsLimited o a (field t x f)) ≡ fieldsLimited (o + suc (inside x)) a
+unfolding fieldsLimited among deepest
+rest-limited o a t x h = fun-ext λ f.
     let e : o + (suc (inside x) + among f) ≡ (o + suc (inside x)) + among f = omega arith in
     let d : max (suc (below x)) (deepest f) ≡ max (deepest f) (suc (below x)) = omega arith in
     rw (e, d, leb-max a (deepest f) (suc (below x)) maxDepth h)

@@ -11,7 +11,7 @@ use Rattle.machine.specs.Steps.{row, join, aPut, aRow, aPervading, aJoin, aVali
 use Rattle.machine.specs.Sheet.{opcodeFrom, argumentFrom, stepFrom}
 use Rattle.machine.specs.SheetSteps.{step-unmarked, step-lacks, step-overfull, step-argument}
 use Rattle.cursor.specs.Answers.{opcodeFor, markedOf, fillsOf, TypeIs, StepIs}
-use Rattle.cursor.specs.declared.marks.Opcode.{Opcode}
+use Rattle.cursor.specs.declared.marks.Operation.{Operation}
 use Rattle.cursor.specs.declared.marks.MarkRead.{MarkRead}
 use Rattle.cursor.specs.declared.marks.MarkRead.the-variants.{Got as Mark, Refused as Unmarked}
 use Rattle.cursor.specs.declared.flags.FlagRead.{FlagRead}
@@ -73,7 +73,7 @@ module _ (s : List ℕ) (h at : ℕ) {m : MarkRead} (read : markedOf m at ≡ op
   pub mark-ends : {k n : ℕ} → m ≡ Unmarked k → n ≡ k → stepFrom s h at at ≡ stopped n at
   mark-ends {k} is e = rw e (step-unmarked s h at at k at (sym read ∙ ap (λ x. markedOf x at) is))
 
-  module _ {c : Opcode} {next taken : ℕ} (is : m ≡ Mark c next) (some : taken ≡ takes (opcodeFor c)) where
+  module _ {c : Operation} {next taken : ℕ} (is : m ≡ Mark c next) (some : taken ≡ takes (opcodeFor c)) where
     marked : opcodeFrom s at at ≡ got (opcodeFor c) next
     marked = sym read ∙ ap (λ x. markedOf x at) is
 
@@ -83,5 +83,5 @@ module _ (s : List ℕ) (h at : ℕ) {m : MarkRead} (read : markedOf m at ≡ op
     pub step-high : taken ≤ h → maxStack ≤ h - taken → stepFrom s h at at ≡ stopped overflow at
     step-high l r = step-overfull s h at at (opcodeFor c) next marked (omega (arith, some)) (omega (arith, some))
 
-    pub step-is : taken ≤ h → h - taken < maxStack → (d : Opcode) (x : StepRead) → c ≡ d → StepIs x s (argumentFrom s (opcodeFor d) at next) → StepIs x s (stepFrom s h at at)
+    pub step-is : taken ≤ h → h - taken < maxStack → (d : Operation) (x : StepRead) → c ≡ d → StepIs x s (argumentFrom s (opcodeFor d) at next) → StepIs x s (stepFrom s h at at)
     step-is l r d x same e = rw (step-argument s h at at (opcodeFor c) next marked (omega (arith, some)) (omega (arith, some)), same) e

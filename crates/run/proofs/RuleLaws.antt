@@ -70,8 +70,8 @@ module _ (o : Outcome Ty) (w : Written) (out : List ℕ) where
 -- ---- types that are held
 
 -- bytes that are a type's are a lone type
-pub held-lone : {w : List ℕ} {t : Ty} → w ≡ writeTy t → Within t → lone w ≡ accepted t
-held-lone {w} {t} e within = ap lone e ∙ write-lone t within
+pub bytes-lone : {w : List ℕ} {t : Ty} → w ≡ writeTy t → Within t → lone w ≡ accepted t
+bytes-lone {w} {t} e within = ap lone e ∙ write-lone t within
 
 -- ---- a pervading
 

@@ -17,7 +17,7 @@ use Rattle.machine.specs.Sheet.{workFrom, sheetFrom, sheetRun}
 use Rattle.machine.specs.SheetSteps.{sheetFrom-end, sheetFrom-over, sheetFrom-step, sheetFrom-stop}
 use Rattle.machine.specs.Call as sheet
 use Rattle.machine.specs.Call.{called, tally, writeTypes, zeroed, handOver, sheetCall}
-use Rattle.stack.specs.Stack.{Holds}
+use Rattle.stack.specs.Stack.{Stacked}
 use Rattle.run.specs.Answers.{Works, calledOf}
 use Rattle.run.specs.declared.Reached.{Reached}
 use Rattle.run.specs.declared.Reached.the-variants.{At, Refused}
@@ -29,7 +29,7 @@ use Rattle.run.specs.declared.Called.the-variants.{Left, Refused as Refu
 -- The scratch holds what the steps so far left; the rest of the sheet is read from there, with so many steps more.
 pub record Going (s lengths : List ℕ) (count : ℕ) (d : List ℕ) (at left : ℕ) : Type 0 where
   pub types : Stack
-  pub held : Holds lengths count d types
+  pub stacked : Stacked lengths count d types
   pub same : sheetFrom s maxSteps [] 0 ≡ sheetFrom s left types at
 
 module _ (s : List ℕ) where
@@ -40,7 +40,7 @@ module _ (s : List ℕ) where
   going-over {lengths} {count} {d} {at} {left} g e h = g .same ∙ ap (λ n. sheetFrom s n (g .types) at) e ∙ sheetFrom-over s (g .types) at h
 
   pub going-end : {lengths : List ℕ} {count : ℕ} {d : List ℕ} {at left : ℕ} → Going s lengths count d at left → length s ≤ at → Works (At at) lengths count d All
-  going-end {lengths} {count} {d} {at} {left} g h = (g .types, g .same ∙ sheetFrom-end s left (g .types) at h, g .held)
+  going-end {lengths} {count} {d} {at} {left} g h = (g .types, g .same ∙ sheetFrom-end s left (g .types) at h, g .stacked)
 
   pub going-step : {lengths lengths₁ : List ℕ} {count count₁ : ℕ} {d d₁ : List ℕ} {at left n : ℕ} (a : Reached) → (g : Going s lengths count d at left) → (left ≡ 0 → ⊥) → at < length s → Works a lengths₁ count₁ d₁ (workFrom s (g .types) at at) → a ≡ At n → Going s lengths₁ count₁ d₁ n (left - 1)
   going-step {left = zero} a g e h w is = absurd (e refl)
@@ -49,7 +49,7 @@ module _ (s : List ℕ) where
       go : Works (At n) lengths₁ count₁ d₁ (workFrom s (g .types) at at) → Going s lengths₁ count₁ d₁ n (suc left - 1)
       go (ts, worked, held) =
           let m : suc left - 1 ≡ left = omega arith in
-          record { types = ts; held = held; same = g .same ∙ sheetFrom-step s left (g .types) ts at n h worked ∙ rw m }
+          record { types = ts; stacked = held; same = g .same ∙ sheetFrom-step s left (g .types) ts at n h worked ∙ rw m }
 
   pub going-stop : {lengths : List ℕ} {count : ℕ} {d : List ℕ} {at left k p : ℕ} (a : Reached) (lengths₁ : List ℕ) (count₁ : ℕ) (d₁ : List ℕ) → (g : Going s lengths count d at left) → (left ≡ 0 → ⊥) → at < length s → Works a lengths₁ count₁ d₁ (workFrom s (g .types) at at) → a ≡ Refused k p → Works a lengths₁ count₁ d₁ All
   going-stop {left = zero} a lengths₁ count₁ d₁ g e h w is = absurd (e refl)
@@ -57,7 +57,7 @@ module _ (s : List ℕ) where
 
   -- ---- what they come to
 
-  pub run-left : {C : Type 0} {n : ℕ} (a : Reached) (lengths : List ℕ) (count : ℕ) (d : List ℕ) → Works a lengths count d All → a ≡ At n → ((ts : Stack) → Holds lengths count d ts → sheetRun s ≡ accepted (reverse ts) → C) → C
+  pub run-left : {C : Type 0} {n : ℕ} (a : Reached) (lengths : List ℕ) (count : ℕ) (d : List ℕ) → Works a lengths count d All → a ≡ At n → ((ts : Stack) → Stacked lengths count d ts → sheetRun s ≡ accepted (reverse ts) → C) → C
   unfolding sheetRun
   run-left {C} {n} a lengths count d w is f = go (rw is at w)
     where

@@ -26,8 +26,8 @@ use Rattle.machine.specs.Run.{Answer, gives, refuses, Stack, aside, onto, perva
 use Rattle.machine.specs.Sheet.{placed, stepFrom, workFrom}
 use Rattle.machine.specs.SheetSteps.{work-unread, work-rule}
 use Rattle.machine.specs.StepsWithin.{pervadeTypes-within}
-use Rattle.stack.specs.Stack.{Holds}
-use Rattle.stack.specs.StackLaws.{holds-count}
+use Rattle.stack.specs.Stack.{Stacked}
+use Rattle.stack.specs.StackLaws.{stacked-count}
 use Rattle.cursor.specs.Answers.{Stretch, StepIs}
 use Rattle.cursor.specs.declared.StepRead.{StepRead}
 use Rattle.cursor.specs.declared.StepRead.the-variants.{Put, Row, Pervading, Join, Validating, Refused as Unread}
@@ -38,14 +38,14 @@ use Rattle.run.proofs.RuleLaws.{delivered-puts}
 -- ---- the types on top
 
 module _ {lengths : List ℕ} {count : ℕ} {d : List ℕ} where
-  pub one-held : {C : Type 0} (ts : Stack) → Holds lengths count d ts → 1 ≤ count → ((t : Ty) (us : Stack) → ts ≡ t ∷ us → C) → C
-  one-held [] h n f = absurd (omega (arith, holds-count lengths count d h))
-  one-held (t ∷ us) h n f = f t us refl
+  pub has-one : {C : Type 0} (ts : Stack) → Stacked lengths count d ts → 1 ≤ count → ((t : Ty) (us : Stack) → ts ≡ t ∷ us → C) → C
+  has-one [] h n f = absurd (omega (arith, stacked-count lengths count d h))
+  has-one (t ∷ us) h n f = f t us refl
 
-  pub two-held : {C : Type 0} (ts : Stack) → Holds lengths count d ts → 2 ≤ count → ((t u : Ty) (us : Stack) → ts ≡ t ∷ u ∷ us → C) → C
-  two-held [] h n f = absurd (omega (arith, holds-count lengths count d h))
-  two-held (t ∷ []) h n f = absurd (omega (arith, holds-count lengths count d h))
-  two-held (t ∷ u ∷ us) h n f = f t u us refl
+  pub has-two : {C : Type 0} (ts : Stack) → Stacked lengths count d ts → 2 ≤ count → ((t u : Ty) (us : Stack) → ts ≡ t ∷ u ∷ us → C) → C
+  has-two [] h n f = absurd (omega (arith, stacked-count lengths count d h))
+  has-two (t ∷ []) h n f = absurd (omega (arith, stacked-count lengths count d h))
+  has-two (t ∷ u ∷ us) h n f = f t u us refl
 
 -- ---- a step that was read
 
@@ -74,12 +74,12 @@ module _ (s : List ℕ) {r : StepRead} {o : Read Step} (read : StepIs r s o) whe
   pub step-unread : {k p : ℕ} → r ≡ Unread k p → o ≡ stopped k p
   step-unread is = rw is at read
 
-module _ (s : List ℕ) (at : ℕ) {lengths : List ℕ} {count : ℕ} {d : List ℕ} {ts : Stack} (h : Holds lengths count d ts) where
+module _ (s : List ℕ) (at : ℕ) {lengths : List ℕ} {count : ℕ} {d : List ℕ} {ts : Stack} (h : Stacked lengths count d ts) where
   pub worked : (a : Reached) (lengths₁ : List ℕ) (count₁ : ℕ) (d₁ : List ℕ) (x : Step) {n : ℕ} → stepFrom s count at at ≡ got x n → Works a lengths₁ count₁ d₁ (placed (step x ts) at n) → Works a lengths₁ count₁ d₁ (workFrom s ts at at)
-  worked a lengths₁ count₁ d₁ x {n} e w = rw (work-rule s ts at at x n (ap (λ k. stepFrom s k at at) (holds-count lengths count d h) ∙ e)) w
+  worked a lengths₁ count₁ d₁ x {n} e w = rw (work-rule s ts at at x n (ap (λ k. stepFrom s k at at) (stacked-count lengths count d h) ∙ e)) w
 
   pub unworked : {k p : ℕ} → stepFrom s count at at ≡ stopped k p → workFrom s ts at at ≡ stopped k p
-  unworked {k} {p} e = work-unread s ts at at k p (ap (λ k. stepFrom s k at at) (holds-count lengths count d h) ∙ e)
+  unworked {k} {p} e = work-unread s ts at at k p (ap (λ k. stepFrom s k at at) (stacked-count lengths count d h) ∙ e)
 
 -- ---- its rule
 
@@ -124,47 +124,47 @@ pub pervade-keeps : (f g : Bool) (t u : Ty) → Within t → Within u → (x : T
 pervade-keeps f g t u v w x is = pervadeTypes-within f g t u x v w (started (pervadeTypes f g t u) is)
 
 module _ (lengths : List ℕ) (count : ℕ) (d : List ℕ) (w : Written) (out : List ℕ) where
-  abbrev pub validate-ruled : (spec : Ty) {t : Ty} {us : Stack} → Within spec → Holds lengths count d (t ∷ us) → Puts w out (mapped writeTy (validate unsided spec t)) → Ruled lengths count d (count - 1) w out
+  abbrev pub validate-ruled : (spec : Ty) {t : Ty} {us : Stack} → Within spec → Stacked lengths count d (t ∷ us) → Puts w out (mapped writeTy (validate unsided spec t)) → Ruled lengths count d (count - 1) w out
   validate-ruled spec {t} {us} v h puts = record {
     types = t ∷ us;
-    held = h;
+    stacked = h;
     outcome = validate unsided spec t;
-    keeps = λ x is. validate-within unsided spec t x v (h .within .0) is;
+    within = λ x is. validate-within unsided spec t x v (h .within .0) is;
     given = puts;
-    low = omega (arith, h .few, holds-count lengths count d h);
+    low = omega (arith, h .few, stacked-count lengths count d h);
     there = omega arith;
   }
 
   module _ (before : List ℕ) (room : maxBytes ≤ length before) where
-    abbrev pub row-ruled : {t : Ty} {us : Stack} → Holds lengths count d (t ∷ us) → delivered w out ≡ deliver (accepted (writeTy (intoRow t))) before → Ruled lengths count d (count - 1) w out
+    abbrev pub row-ruled : {t : Ty} {us : Stack} → Stacked lengths count d (t ∷ us) → delivered w out ≡ deliver (accepted (writeTy (intoRow t))) before → Ruled lengths count d (count - 1) w out
     row-ruled {t} {us} h e = record {
       types = t ∷ us;
-      held = h;
+      stacked = h;
       outcome = accepted (intoRow t);
-      keeps = row-keeps t (h .within .0);
+      within = row-keeps t (h .within .0);
       given = delivered-puts (accepted (intoRow t)) w out before e (row-keeps t (h .within .0)) room;
-      low = omega (arith, h .few, holds-count lengths count d h);
+      low = omega (arith, h .few, stacked-count lengths count d h);
       there = omega arith;
     }
 
-    abbrev pub join-ruled : {t u : Ty} {us : Stack} → Holds lengths count d (t ∷ u ∷ us) → delivered w out ≡ deliver (accepted (writeTy (joinTypes t u))) before → Ruled lengths count d (count - 2) w out
+    abbrev pub join-ruled : {t u : Ty} {us : Stack} → Stacked lengths count d (t ∷ u ∷ us) → delivered w out ≡ deliver (accepted (writeTy (joinTypes t u))) before → Ruled lengths count d (count - 2) w out
     join-ruled {t} {u} {us} h e = record {
       types = t ∷ u ∷ us;
-      held = h;
+      stacked = h;
       outcome = accepted (joinTypes t u);
-      keeps = join-keeps t u (h .within .0) (h .within .1 .0);
+      within = join-keeps t u (h .within .0) (h .within .1 .0);
       given = delivered-puts (accepted (joinTypes t u)) w out before e (join-keeps t u (h .within .0) (h .within .1 .0)) room;
-      low = omega (arith, h .few, holds-count lengths count d h);
+      low = omega (arith, h .few, stacked-count lengths count d h);
       there = omega arith;
     }
 
-    abbrev pub pervade-ruled : (f g : Bool) {t u : Ty} {us : Stack} → Holds lengths count d (t ∷ u ∷ us) → delivered w out ≡ deliver (mapped writeTy (atStart (pervadeTypes f g t u))) before → Ruled lengths count d (count - 2) w out
+    abbrev pub pervade-ruled : (f g : Bool) {t u : Ty} {us : Stack} → Stacked lengths count d (t ∷ u ∷ us) → delivered w out ≡ deliver (mapped writeTy (atStart (pervadeTypes f g t u))) before → Ruled lengths count d (count - 2) w out
     pervade-ruled f g {t} {u} {us} h e = record {
       types = t ∷ u ∷ us;
-      held = h;
+      stacked = h;
       outcome = atStart (pervadeTypes f g t u);
-      keeps = pervade-keeps f g t u (h .within .0) (h .within .1 .0);
+      within = pervade-keeps f g t u (h .within .0) (h .within .1 .0);
       given = delivered-puts (atStart (pervadeTypes f g t u)) w out before e (pervade-keeps f g t u (h .within .0) (h .within .1 .0)) room;
-      low = omega (arith, h .few, holds-count lengths count d h);
+      low = omega (arith, h .few, stacked-count lengths count d h);
       there = omega arith;
     }

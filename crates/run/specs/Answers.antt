@@ -14,7 +14,7 @@ use Rattle.machine.specs.Run as rules
 use Rattle.machine.specs.Run.{gives, refuses, Stack}
 use Rattle.machine.specs.Call as sheet
 use Rattle.machine.specs.Call.{called, tally}
-use Rattle.stack.specs.Stack.{Holds}
+use Rattle.stack.specs.Stack.{Stacked}
 use Rattle.run.specs.declared.Reached.{Reached}
 use Rattle.run.specs.declared.Reached.the-variants.{At, Refused}
 use Rattle.run.specs.declared.Called.{Called}
@@ -27,7 +27,7 @@ calledOf (Refuses k p) result scratch = called (refused k p) result scratch
 
 -- One step, or all: the place reached, where the scratch holds the stack that was read, or the refusal.
 abbrev pub Works : Reached → List ℕ → ℕ → List ℕ → Read Stack → Type 0
-Works (At n) lengths count d o = (ts : Stack) × (o ≡ got ts n) × Holds lengths count d ts
+Works (At n) lengths count d o = (ts : Stack) × (o ≡ got ts n) × Stacked lengths count d ts
 Works (Refused k p) lengths count d o = o ≡ stopped k p
 
 -- a rule's answer as an outcome of its own
@@ -38,9 +38,9 @@ atStart (refuses k) = refused k 0
 -- A rule's outcome of the types above the k lowest, in a buffer.
 pub record Ruled (lengths : List ℕ) (count : ℕ) (d : List ℕ) (k : ℕ) (w : Written) (out : List ℕ) : Type 0 where
   pub types : Stack
-  pub held : Holds lengths count d types
+  pub stacked : Stacked lengths count d types
   pub outcome : Outcome Ty
-  pub keeps : (t : Ty) → outcome ≡ accepted t → Within t
+  pub within : (t : Ty) → outcome ≡ accepted t → Within t
   pub given : Puts w out (mapped writeTy outcome)
   pub low : k < maxStack
   pub there : k ≤ count

@@ -22,7 +22,7 @@ ghost use Rattle.machine.specs.SheetLimits.{maxSteps, maxStack, scratchBytes};
 ghost use Rattle.machine.specs.Run.{Stack};
 ghost use Rattle.machine.specs.Sheet.{sheetFrom, sheetRun};
 ghost use Rattle.machine.specs.Call.{handOver, sheetCall};
-ghost use Rattle.stack.specs.Stack.{Holds, HasTypes};
+ghost use Rattle.stack.specs.Stack.{Stacked, HasStack};
 ghost use Rattle.run.specs.Answers.{Works, calledOf};
 
 // Checks a sheet. The types left go to the result, bottom first; the scratch is zero afterwards, as far as it was asked for.
@@ -97,8 +97,8 @@ fn hand_over(
     scratch: &[u8],
     result: &mut [u8],
 ) -> Called
-    requires { ⌜ HasTypes (now lengths) count (now scratch) ⌝ }
-    ensures { λ r. ⌜ ((ts : Stack) → Holds (now (lengths .entry)) count (now (scratch .entry)) ts → calledOf r (now (result .exit)) [] ≡ handOver size (accepted (reverse ts)) (now (result .entry)) []) ⌝ }
+    requires { ⌜ HasStack (now lengths) count (now scratch) ⌝ }
+    ensures { λ r. ⌜ ((ts : Stack) → Stacked (now (lengths .entry)) count (now (scratch .entry)) ts → calledOf r (now (result .exit)) [] ≡ handOver size (accepted (reverse ts)) (now (result .entry)) []) ⌝ }
 {
     match write_types(count, lengths, scratch, &mut *result) {
         Written::Wrote(n) => Called::Left {

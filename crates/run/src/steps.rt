@@ -7,7 +7,7 @@ use crate::tops::pervade_top;
 use crate::tops::row_top;
 use crate::tops::validate_top;
 use cursor::StepRead;
-use cursor::read_step;
+use cursor::step_at;
 use lent::Written;
 use stack::store;
 ghost use mathlib.Core.Path.{_≡_};
@@ -20,7 +20,7 @@ ghost use Rattle.machine.specs.SheetLimits.{maxStack};
 ghost use Rattle.machine.specs.Steps as steps;
 ghost use Rattle.machine.specs.Run.{Stack, aside, onto, step};
 ghost use Rattle.machine.specs.Sheet.{placed, workFrom};
-ghost use Rattle.stack.specs.Stack.{Holds, HasTypes};
+ghost use Rattle.stack.specs.Stack.{Stacked, HasStack};
 ghost use Rattle.run.specs.Answers.{Works, Ruled};
 
 // The step whose mark stands at a place. `work` is a buffer that holds any type.
@@ -32,10 +32,10 @@ pub fn work_step(
     scratch: &mut [u8],
     work: &mut [u8],
 ) -> Worked
-    requires { ⌜ (maxBytes ≤ length (now work)) × HasTypes (now lengths) count (now scratch) ⌝ }
-    ensures { λ r. ⌜ ((ts : Stack) → Holds (now (lengths .entry)) count (now (scratch .entry)) ts → Works (r .answer) (now (lengths .exit)) (r .count) (now (scratch .exit)) (workFrom (now (s .entry)) ts at at)) ⌝ }
+    requires { ⌜ (maxBytes ≤ length (now work)) × HasStack (now lengths) count (now scratch) ⌝ }
+    ensures { λ r. ⌜ ((ts : Stack) → Stacked (now (lengths .entry)) count (now (scratch .entry)) ts → Works (r .answer) (now (lengths .exit)) (r .count) (now (scratch .exit)) (workFrom (now (s .entry)) ts at at)) ⌝ }
 {
-    let read = read_step(s, at, count);
+    let read = step_at(s, at, count);
     match read {
         StepRead::Put { start, next } => {
             put(&s[start..next], next, count, &mut *lengths, &mut *scratch)
@@ -80,8 +80,8 @@ fn refuse(count: usize, number: u8, place: usize) -> Worked
 
 // A put has nothing to refuse: its reading found room for the type.
 fn put(ty: &[u8], next: usize, count: usize, lengths: &mut [usize], scratch: &mut [u8]) -> Worked
-    requires { ⌜ (count < maxStack) × HasTypes (now lengths) count (now scratch) × ((t : Ty) × (lone (now ty) ≡ accepted t)) ⌝ }
-    ensures { λ r. ⌜ ((t : Ty) (ts : Stack) (p : ℕ) → lone (now (ty .entry)) ≡ accepted t → Holds (now (lengths .entry)) count (now (scratch .entry)) ts → Works (r .answer) (now (lengths .exit)) (r .count) (now (scratch .exit)) (placed (step (steps.put t) ts) p next)) ⌝ }
+    requires { ⌜ (count < maxStack) × HasStack (now lengths) count (now scratch) × ((t : Ty) × (lone (now ty) ≡ accepted t)) ⌝ }
+    ensures { λ r. ⌜ ((t : Ty) (ts : Stack) (p : ℕ) → lone (now (ty .entry)) ≡ accepted t → Stacked (now (lengths .entry)) count (now (scratch .entry)) ts → Works (r .answer) (now (lengths .exit)) (r .count) (now (scratch .exit)) (placed (step (steps.put t) ts) p next)) ⌝ }
 {
     store(&mut *lengths, count, &mut *scratch, ty);
     Worked {
@@ -98,8 +98,8 @@ fn row(
     scratch: &mut [u8],
     work: &mut [u8],
 ) -> Worked
-    requires { ⌜ (1 ≤ count) × (maxBytes ≤ length (now work)) × HasTypes (now lengths) count (now scratch) ⌝ }
-    ensures { λ r. ⌜ ((ts : Stack) → Holds (now (lengths .entry)) count (now (scratch .entry)) ts → Works (r .answer) (now (lengths .exit)) (r .count) (now (scratch .exit)) (placed (step steps.row ts) at next)) ⌝ }
+    requires { ⌜ (1 ≤ count) × (maxBytes ≤ length (now work)) × HasStack (now lengths) count (now scratch) ⌝ }
+    ensures { λ r. ⌜ ((ts : Stack) → Stacked (now (lengths .entry)) count (now (scratch .entry)) ts → Works (r .answer) (now (lengths .exit)) (r .count) (now (scratch .exit)) (placed (step steps.row ts) at next)) ⌝ }
 {
     let w = row_top(count, &*lengths, &*scratch, &mut *work);
     lay_down(
@@ -124,8 +124,8 @@ fn pervade(
     scratch: &mut [u8],
     work: &mut [u8],
 ) -> Worked
-    requires { ⌜ (2 ≤ count) × (maxBytes ≤ length (now work)) × HasTypes (now lengths) count (now scratch) ⌝ }
-    ensures { λ r. ⌜ ((ts : Stack) → Holds (now (lengths .entry)) count (now (scratch .entry)) ts → Works (r .answer) (now (lengths .exit)) (r .count) (now (scratch .exit)) (placed (step (steps.pervading «top_fill» «below_fill») ts) at next)) ⌝ }
+    requires { ⌜ (2 ≤ count) × (maxBytes ≤ length (now work)) × HasStack (now lengths) count (now scratch) ⌝ }
+    ensures { λ r. ⌜ ((ts : Stack) → Stacked (now (lengths .entry)) count (now (scratch .entry)) ts → Works (r .answer) (now (lengths .exit)) (r .count) (now (scratch .exit)) (placed (step (steps.pervading «top_fill» «below_fill») ts) at next)) ⌝ }
 {
     let w = pervade_top(
         count,
@@ -155,8 +155,8 @@ fn join(
     scratch: &mut [u8],
     work: &mut [u8],
 ) -> Worked
-    requires { ⌜ (2 ≤ count) × (maxBytes ≤ length (now work)) × HasTypes (now lengths) count (now scratch) ⌝ }
-    ensures { λ r. ⌜ ((ts : Stack) → Holds (now (lengths .entry)) count (now (scratch .entry)) ts → Works (r .answer) (now (lengths .exit)) (r .count) (now (scratch .exit)) (placed (step steps.join ts) at next)) ⌝ }
+    requires { ⌜ (2 ≤ count) × (maxBytes ≤ length (now work)) × HasStack (now lengths) count (now scratch) ⌝ }
+    ensures { λ r. ⌜ ((ts : Stack) → Stacked (now (lengths .entry)) count (now (scratch .entry)) ts → Works (r .answer) (now (lengths .exit)) (r .count) (now (scratch .exit)) (placed (step steps.join ts) at next)) ⌝ }
 {
     let w = join_top(count, &*lengths, &*scratch, &mut *work);
     lay_down(
@@ -180,8 +180,8 @@ fn validate(
     scratch: &mut [u8],
     work: &mut [u8],
 ) -> Worked
-    requires { ⌜ (1 ≤ count) × (maxBytes ≤ length (now work)) × HasTypes (now lengths) count (now scratch) × ((t : Ty) × (lone (now spec) ≡ accepted t)) ⌝ }
-    ensures { λ r. ⌜ ((t : Ty) (ts : Stack) → lone (now (spec .entry)) ≡ accepted t → Holds (now (lengths .entry)) count (now (scratch .entry)) ts → Works (r .answer) (now (lengths .exit)) (r .count) (now (scratch .exit)) (placed (step (steps.validating t) ts) at next)) ⌝ }
+    requires { ⌜ (1 ≤ count) × (maxBytes ≤ length (now work)) × HasStack (now lengths) count (now scratch) × ((t : Ty) × (lone (now spec) ≡ accepted t)) ⌝ }
+    ensures { λ r. ⌜ ((t : Ty) (ts : Stack) → lone (now (spec .entry)) ≡ accepted t → Stacked (now (lengths .entry)) count (now (scratch .entry)) ts → Works (r .answer) (now (lengths .exit)) (r .count) (now (scratch .exit)) (placed (step (steps.validating t) ts) at next)) ⌝ }
 {
     let w = validate_top(count, &*lengths, &*scratch, spec, &mut *work);
     lay_down(

@@ -25,13 +25,13 @@ ghost use Rattle.rules.specs.Types.{intoRow, joinTypes};
 ghost use Rattle.validation.specs.CheckShape.{unsided};
 ghost use Rattle.validation.specs.Validate.{validate};
 ghost use Rattle.machine.specs.Run.{Stack, pervadeTypes};
-ghost use Rattle.stack.specs.Stack.{Holds, HasTypes};
+ghost use Rattle.stack.specs.Stack.{Stacked, HasStack};
 ghost use Rattle.run.specs.Answers.{atStart};
 
 // The row of the top.
 pub fn row_top(count: usize, lengths: &[usize], scratch: &[u8], out: &mut [u8]) -> Written
-    requires { ⌜ (1 ≤ count) × HasTypes (now lengths) count (now scratch) ⌝ }
-    ensures { λ r. ⌜ ((t : Ty) (ts : Stack) → Holds (now (lengths .entry)) count (now (scratch .entry)) (t ∷ ts) → delivered r (now (out .exit)) ≡ deliver (accepted (writeTy (intoRow t))) (now (out .entry))) ⌝ }
+    requires { ⌜ (1 ≤ count) × HasStack (now lengths) count (now scratch) ⌝ }
+    ensures { λ r. ⌜ ((t : Ty) (ts : Stack) → Stacked (now (lengths .entry)) count (now (scratch .entry)) (t ∷ ts) → delivered r (now (out .exit)) ≡ deliver (accepted (writeTy (intoRow t))) (now (out .entry))) ⌝ }
 {
     let top = load(lengths, count - 1);
     let start = top.start;
@@ -41,8 +41,8 @@ pub fn row_top(count: usize, lengths: &[usize], scratch: &[u8], out: &mut [u8]) 
 
 // The join of the top with the one below.
 pub fn join_top(count: usize, lengths: &[usize], scratch: &[u8], out: &mut [u8]) -> Written
-    requires { ⌜ (2 ≤ count) × HasTypes (now lengths) count (now scratch) ⌝ }
-    ensures { λ r. ⌜ ((t u : Ty) (ts : Stack) → Holds (now (lengths .entry)) count (now (scratch .entry)) (t ∷ u ∷ ts) → delivered r (now (out .exit)) ≡ deliver (accepted (writeTy (joinTypes t u))) (now (out .entry))) ⌝ }
+    requires { ⌜ (2 ≤ count) × HasStack (now lengths) count (now scratch) ⌝ }
+    ensures { λ r. ⌜ ((t u : Ty) (ts : Stack) → Stacked (now (lengths .entry)) count (now (scratch .entry)) (t ∷ u ∷ ts) → delivered r (now (out .exit)) ≡ deliver (accepted (writeTy (joinTypes t u))) (now (out .entry))) ⌝ }
 {
     let top = load(lengths, count - 1);
     let start = top.start;
@@ -62,8 +62,8 @@ pub fn pervade_top(
     below_fill: bool,
     out: &mut [u8],
 ) -> Written
-    requires { ⌜ (2 ≤ count) × HasTypes (now lengths) count (now scratch) ⌝ }
-    ensures { λ r. ⌜ ((t u : Ty) (ts : Stack) → Holds (now (lengths .entry)) count (now (scratch .entry)) (t ∷ u ∷ ts) → delivered r (now (out .exit)) ≡ deliver (mapped writeTy (atStart (pervadeTypes «top_fill» «below_fill» t u))) (now (out .entry))) ⌝ }
+    requires { ⌜ (2 ≤ count) × HasStack (now lengths) count (now scratch) ⌝ }
+    ensures { λ r. ⌜ ((t u : Ty) (ts : Stack) → Stacked (now (lengths .entry)) count (now (scratch .entry)) (t ∷ u ∷ ts) → delivered r (now (out .exit)) ≡ deliver (mapped writeTy (atStart (pervadeTypes «top_fill» «below_fill» t u))) (now (out .entry))) ⌝ }
 {
     let top = load(lengths, count - 1);
     let start = top.start;
@@ -105,8 +105,8 @@ pub fn validate_top(
     spec: &[u8],
     out: &mut [u8],
 ) -> Written
-    requires { ⌜ (1 ≤ count) × (maxBytes ≤ length (now out)) × HasTypes (now lengths) count (now scratch) × ((s : Ty) × (lone (now spec) ≡ accepted s)) ⌝ }
-    ensures { λ r. ⌜ ((s t : Ty) (ts : Stack) → Holds (now (lengths .entry)) count (now (scratch .entry)) (t ∷ ts) → lone (now (spec .entry)) ≡ accepted s → Puts r (now (out .exit)) (mapped writeTy (validate unsided s t))) ⌝ }
+    requires { ⌜ (1 ≤ count) × (maxBytes ≤ length (now out)) × HasStack (now lengths) count (now scratch) × ((s : Ty) × (lone (now spec) ≡ accepted s)) ⌝ }
+    ensures { λ r. ⌜ ((s t : Ty) (ts : Stack) → Stacked (now (lengths .entry)) count (now (scratch .entry)) (t ∷ ts) → lone (now (spec .entry)) ≡ accepted s → Puts r (now (out .exit)) (mapped writeTy (validate unsided s t))) ⌝ }
 {
     let top = load(lengths, count - 1);
     let start = top.start;

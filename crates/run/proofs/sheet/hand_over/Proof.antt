@@ -2,7 +2,7 @@ use mathlib.Core.Path.{_≡_, sym, _∙_, ap}
 use mathlib.Core.List.{[], reverse}
 use lib.ListN.{length, length-reverse}
 use Rattle.lent.specs.Written.{delivered}
-use Rattle.stack.specs.StackLaws.{holds-count}
+use Rattle.stack.specs.StackLaws.{stacked-count}
 use Rattle.run.proofs.SheetLaws.{handed-count, not-handed}
 use borrow.Author.Needs.{needs}
 use Rattle.run.proofs.sheet.hand_over.Statement.{statement}
@@ -36,7 +36,7 @@ returns c =
     let args = entry .args in
     let wrote = at-write-types .write-types in
     let out = wrote .last .1 .1 .1 .0 in
-    let many : length (reverse ts) ≡ args .count = length-reverse ts ∙ holds-count (args .lengths .now) (args .count) (args .scratch .now) h in
+    let many : length (reverse ts) ≡ args .count = length-reverse ts ∙ stacked-count (args .lengths .now) (args .count) (args .scratch .now) h in
     handed-count (args .size) (reverse ts) (args .result .now) out [] many (sym (ap (λ r. delivered r out) (c .before .n .given .1)) ∙ wrote .ensures ts h)
 
 -- src/sheet.rt:93:1

@@ -34,7 +34,7 @@ hand-over-requires c κs =
     let at-run-steps = c .before .before .before .before .before .before .before .before .before in
     let at-enum-told = c .before .before .before in
     run-left (entry .args .sheet .now) (at-run-steps .run-steps .result .answer) _ (at-run-steps .run-steps .result .count) _ (at-run-steps .run-steps .ensures) (at-enum-told .enum-told .given .1) λ ts h e.
-    record { types = ts; held = h }
+    record { types = ts; stacked = h }
 
 -- src/sheet.rt:55:9
 enum-known-answer : tie.Need-enum-known-answer

@@ -3,7 +3,7 @@ use native.Mathlib.Omega.{arith}
 use Prim.Native.Nat.{_-_}
 use mathlib.Core.List.{[]}
 use lib.ListN.{length}
-use Rattle.stack.specs.StackLaws.{holds-none}
+use Rattle.stack.specs.StackLaws.{stacked-none}
 use Rattle.run.proofs.SheetLaws.{Going, going-over, going-end, going-step, going-stop}
 use borrow.Author.Needs.{needs}
 use Rattle.run.proofs.sheet.run_steps.Statement.{statement}
@@ -23,7 +23,7 @@ loop-holds : tie.Need-loop-holds Inv-loop μ-loop
 loop-holds c =
     let entry = c .before .before .before .before in
     let args = entry .args in
-    (search needs, search needs, search needs, record { types = []; held = holds-none (args .lengths .now) (args .scratch .now) (entry .pre .0) (entry .pre .1); same = refl })
+    (search needs, search needs, search needs, record { types = []; stacked = stacked-none (args .lengths .now) (args .scratch .now) (entry .pre .0) (entry .pre .1); same = refl })
 
 -- src/sheet.rt:69:13
 same-length : tie.Need-same-length Inv-loop μ-loop
@@ -55,7 +55,7 @@ work-step-requires : tie.Need-work-step-requires Inv-loop μ-loop
 work-step-requires c κs =
     let entry = c .before .before .before .before .before .before .before .before .before .before in
     let at-loop = c .before .before .before .before .before in
-    (omega (arith, at-loop .loop .inv .2, entry .pre .2), record { types = (at-loop .loop .inv .3) .types; held = (at-loop .loop .inv .3) .held })
+    (omega (arith, at-loop .loop .inv .2, entry .pre .2), record { types = (at-loop .loop .inv .3) .types; stacked = (at-loop .loop .inv .3) .stacked })
 
 -- src/sheet.rt:79:25
 enum-known-answer : tie.Need-enum-known-answer Inv-loop μ-loop
@@ -94,7 +94,7 @@ returns-2 c =
     let at-loop-test = c .before .before .before .before .before .before .before .before .before .before .before .before .before in
     let at-if1 = c .before .before .before .before .before .before .before .before .before .before .before .before in
     let at-work-step = c .before .before .before .before .before .before .before .before in
-    going-stop (entry .args .s .now) (at-work-step .work-step .result .answer) _ (at-work-step .work-step .result .count) _ (at-loop .loop .inv .3) (at-if1 .if1 .left) (at-loop-test .loop-test .taken) (at-work-step .work-step .ensures ((at-loop .loop .inv .3) .types) ((at-loop .loop .inv .3) .held)) (c .enum-told .given .1)
+    going-stop (entry .args .s .now) (at-work-step .work-step .result .answer) _ (at-work-step .work-step .result .count) _ (at-loop .loop .inv .3) (at-if1 .if1 .left) (at-loop-test .loop-test .taken) (at-work-step .work-step .ensures ((at-loop .loop .inv .3) .types) ((at-loop .loop .inv .3) .stacked)) (c .enum-told .given .1)
 
 -- src/sheet.rt:84:9
 sub-left : tie.Need-sub-left Inv-loop μ-loop
@@ -112,7 +112,7 @@ loop-again c =
     let at-loop-test = c .before .before .before .before .before .before .before .before .before .before .before .before .before .before in
     let at-if1 = c .before .before .before .before .before .before .before .before .before .before .before .before .before in
     let at-work-step = c .before .before .before .before .before .before .before .before .before in
-    (at-work-step .work-step .kept .1 .1 .1 .0 ∙ at-loop .loop .inv .0, at-work-step .work-step .kept .1 .1 .1 .1 .0 ∙ at-loop .loop .inv .1, at-work-step .work-step .kept .1 .1 .1 .1 .1 .0 ∙ at-loop .loop .inv .2, going-step (entry .args .s .now) (at-work-step .work-step .result .answer) (at-loop .loop .inv .3) (at-if1 .if1 .left) (at-loop-test .loop-test .taken) (at-work-step .work-step .ensures ((at-loop .loop .inv .3) .types) ((at-loop .loop .inv .3) .held)) (c .before .answer .given .1))
+    (at-work-step .work-step .kept .1 .1 .1 .0 ∙ at-loop .loop .inv .0, at-work-step .work-step .kept .1 .1 .1 .1 .0 ∙ at-loop .loop .inv .1, at-work-step .work-step .kept .1 .1 .1 .1 .1 .0 ∙ at-loop .loop .inv .2, going-step (entry .args .s .now) (at-work-step .work-step .result .answer) (at-loop .loop .inv .3) (at-if1 .if1 .left) (at-loop-test .loop-test .taken) (at-work-step .work-step .ensures ((at-loop .loop .inv .3) .types) ((at-loop .loop .inv .3) .stacked)) (c .before .answer .given .1))
 
 -- src/sheet.rt:60:1
 same-length-7 : tie.Need-same-length-7 Inv-loop μ-loop

@@ -33,7 +33,7 @@ store-requires c κs =
     let at-w = c .before .before .before .before in
     let args = entry .args in
     rule-wrote (entry .pre .outcome) (args .w) (args .work .now) (at-w .w .given .1) (entry .pre .given) λ t e bytes fits.
-    (entry .pre .low, rw bytes (suffices t (entry .pre .keeps t e)), entry .pre .held .slotted, entry .pre .held .room)
+    (entry .pre .low, rw bytes (suffices t (entry .pre .within t e)), entry .pre .stacked .slotted, entry .pre .stacked .room)
 
 -- src/steps.rt:218:24
 add-t20 : tie.Need-add-t20
@@ -64,7 +64,7 @@ returns c =
     let args = entry .args in
     λ x.
     rule-wrote (x .outcome) (args .w) (args .work .now) (at-w .w .given .1) (x .given) λ t e bytes fits.
-    (t ∷ drop (args .count - args .k) (x .types), rw e, at-store .store .ensures (args .count) (x .types) t (x .there) (x .held) (x .keeps t e) bytes)
+    (t ∷ drop (args .count - args .k) (x .types), rw e, at-store .store .ensures (args .count) (x .types) t (x .there) (x .stacked) (x .within t e) bytes)
 
 -- src/steps.rt:200:1
 returns-2 : tie.Need-returns-2

@@ -1,9 +1,9 @@
 use native.Mathlib.Omega.{arith}
 use mathlib.Core.List.{_∷_}
 use Prim.Native.Nat.{_-_}
-use Rattle.stack.specs.Stack.{Holds}
-use Rattle.stack.specs.StackLaws.{holds-count}
-use Rattle.run.proofs.StepLaws.{two-held, pervade-worked, pervade-ruled}
+use Rattle.stack.specs.Stack.{Stacked}
+use Rattle.stack.specs.StackLaws.{stacked-count}
+use Rattle.run.proofs.StepLaws.{has-two, pervade-worked, pervade-ruled}
 use borrow.Author.Needs.{needs}
 use Rattle.run.proofs.steps.pervade.Statement.{statement}
 use Rattle.run.proofs.steps.pervade.Tie as tie
@@ -26,8 +26,8 @@ lay-down-requires c κs =
     let entry = c .before .before .before .before .before .before .before .before .before .before .before .before in
     let at-pervade-top = c .before .before .before .before .before in
     let args = entry .args in
-    two-held (entry .pre .2 .types) (entry .pre .2 .held) (entry .pre .0) λ t u us e.
-    let hh : Holds (args .lengths .now) (args .count) (args .scratch .now) (t ∷ u ∷ us) = rw e at (entry .pre .2 .held) in
+    has-two (entry .pre .2 .types) (entry .pre .2 .stacked) (entry .pre .0) λ t u us e.
+    let hh : Stacked (args .lengths .now) (args .count) (args .scratch .now) (t ∷ u ∷ us) = rw e at (entry .pre .2 .stacked) in
     pervade-ruled (args .lengths .now) (args .count) (args .scratch .now) (at-pervade-top .pervade-top .result) _ (args .work .now) (entry .pre .1) (args .top-fill) (args .below-fill) hh (at-pervade-top .pervade-top .ensures t u us hh)
 
 -- src/steps.rt:117:1
@@ -50,9 +50,9 @@ returns c =
     let at-lay-down = c .before .before .before .before in
     let args = entry .args in
     λ ts h.
-    two-held ts h (entry .pre .0) λ t u us e.
-    let hh : Holds (args .lengths .now) (args .count) (args .scratch .now) (t ∷ u ∷ us) = rw e at h in
-    let n = holds-count (args .lengths .now) (args .count) (args .scratch .now) hh in
+    has-two ts h (entry .pre .0) λ t u us e.
+    let hh : Stacked (args .lengths .now) (args .count) (args .scratch .now) (t ∷ u ∷ us) = rw e at h in
+    let n = stacked-count (args .lengths .now) (args .count) (args .scratch .now) hh in
     let made = pervade-ruled (args .lengths .now) (args .count) (args .scratch .now) (at-pervade-top .pervade-top .result) _ (args .work .now) (entry .pre .1) (args .top-fill) (args .below-fill) hh (at-pervade-top .pervade-top .ensures t u us hh) in
     rw (e, ← pervade-worked (args .at) (args .next) (args .count - (args .count - 2)) (args .top-fill) (args .below-fill) t u us (omega arith)) (at-lay-down .lay-down .ensures made)
 

@@ -4,7 +4,7 @@ use mathlib.Core.Path.{_≡_, sym}
 use Prim.Native.Nat.{_-_}
 use Rattle.format.specs.ReadWrite.{lone-write}
 use Rattle.format.specs.Suffices.{suffices}
-use Rattle.stack.specs.StackLaws.{holds-count}
+use Rattle.stack.specs.StackLaws.{stacked-count}
 use Rattle.run.proofs.StepLaws.{put-worked}
 use borrow.Author.Needs.{needs}
 use Rattle.run.proofs.steps.put.Statement.{statement}
@@ -20,7 +20,7 @@ store-requires c κs =
     let at-shared-slice-known = c .before .before .before .before in
     let (t, read) = entry .pre .2 in
     let (bytes, within) = lone-write (entry .args .ty .now) (λ i. omega (arith, at-shared-slice-known .shared-slice-known .given i)) t read in
-    (entry .pre .0, rw (← bytes) (suffices t within), entry .pre .1 .held .slotted, entry .pre .1 .held .room)
+    (entry .pre .0, rw (← bytes) (suffices t within), entry .pre .1 .stacked .slotted, entry .pre .1 .stacked .room)
 
 -- src/steps.rt:89:16
 add-t12 : tie.Need-add-t12
@@ -43,7 +43,7 @@ returns c =
     let args = entry .args in
     λ t ts p read h.
     let (bytes, within) = lone-write (args .ty .now) (λ i. omega (arith, at-shared-slice-known .shared-slice-known .given i)) t read in
-    let n = holds-count (args .lengths .now) (args .count) (args .scratch .now) h in
+    let n = stacked-count (args .lengths .now) (args .count) (args .scratch .now) h in
     let z : args .count - args .count ≡ 0 = omega arith in
     (t ∷ ts, put-worked t ts p (args .next) (omega (arith, entry .pre .0)), rw z at (at-store .store .ensures (args .count) ts t (omega arith) h within (sym bytes)))
 

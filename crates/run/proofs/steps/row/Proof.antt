@@ -1,9 +1,9 @@
 use native.Mathlib.Omega.{arith}
 use mathlib.Core.List.{_∷_}
 use Prim.Native.Nat.{_-_}
-use Rattle.stack.specs.Stack.{Holds}
-use Rattle.stack.specs.StackLaws.{holds-count}
-use Rattle.run.proofs.StepLaws.{one-held, row-worked, row-ruled}
+use Rattle.stack.specs.Stack.{Stacked}
+use Rattle.stack.specs.StackLaws.{stacked-count}
+use Rattle.run.proofs.StepLaws.{has-one, row-worked, row-ruled}
 use borrow.Author.Needs.{needs}
 use Rattle.run.proofs.steps.row.Statement.{statement}
 use Rattle.run.proofs.steps.row.Tie as tie
@@ -26,8 +26,8 @@ lay-down-requires c κs =
     let entry = c .before .before .before .before .before .before .before .before .before .before .before .before in
     let at-row-top = c .before .before .before .before .before in
     let args = entry .args in
-    one-held (entry .pre .2 .types) (entry .pre .2 .held) (entry .pre .0) λ t us e.
-    let hh : Holds (args .lengths .now) (args .count) (args .scratch .now) (t ∷ us) = rw e at (entry .pre .2 .held) in
+    has-one (entry .pre .2 .types) (entry .pre .2 .stacked) (entry .pre .0) λ t us e.
+    let hh : Stacked (args .lengths .now) (args .count) (args .scratch .now) (t ∷ us) = rw e at (entry .pre .2 .stacked) in
     row-ruled (args .lengths .now) (args .count) (args .scratch .now) (at-row-top .row-top .result) _ (args .work .now) (entry .pre .1) hh (at-row-top .row-top .ensures t us hh)
 
 -- src/steps.rt:93:1
@@ -50,9 +50,9 @@ returns c =
     let at-lay-down = c .before .before .before .before in
     let args = entry .args in
     λ ts h.
-    one-held ts h (entry .pre .0) λ t us e.
-    let hh : Holds (args .lengths .now) (args .count) (args .scratch .now) (t ∷ us) = rw e at h in
-    let n = holds-count (args .lengths .now) (args .count) (args .scratch .now) hh in
+    has-one ts h (entry .pre .0) λ t us e.
+    let hh : Stacked (args .lengths .now) (args .count) (args .scratch .now) (t ∷ us) = rw e at h in
+    let n = stacked-count (args .lengths .now) (args .count) (args .scratch .now) hh in
     let made = row-ruled (args .lengths .now) (args .count) (args .scratch .now) (at-row-top .row-top .result) _ (args .work .now) (entry .pre .1) hh (at-row-top .row-top .ensures t us hh) in
     rw (e, ← row-worked (args .at) (args .next) (args .count - (args .count - 1)) t us (omega arith)) (at-lay-down .lay-down .ensures made)
 

@@ -1,10 +1,10 @@
 use native.Mathlib.Omega.{arith}
 use mathlib.Core.List.{_∷_}
 use Prim.Native.Nat.{_-_}
-use Rattle.stack.specs.Stack.{Holds}
-use Rattle.stack.specs.StackLaws.{holds-count}
+use Rattle.stack.specs.Stack.{Stacked}
+use Rattle.stack.specs.StackLaws.{stacked-count}
 use Rattle.format.specs.ReadWrite.{lone-write}
-use Rattle.run.proofs.StepLaws.{one-held, validate-worked, validate-ruled}
+use Rattle.run.proofs.StepLaws.{has-one, validate-worked, validate-ruled}
 use borrow.Author.Needs.{needs}
 use Rattle.run.proofs.steps.validate.Statement.{statement}
 use Rattle.run.proofs.steps.validate.Tie as tie
@@ -30,8 +30,8 @@ lay-down-requires c κs =
     let args = entry .args in
     let (spec, read) = entry .pre .3 in
     let within = lone-write (args .spec .now) (λ i. omega (arith, at-shared-slice-known .shared-slice-known .given i)) spec read .1 in
-    one-held (entry .pre .2 .types) (entry .pre .2 .held) (entry .pre .0) λ t us e.
-    let hh : Holds (args .lengths .now) (args .count) (args .scratch .now) (t ∷ us) = rw e at (entry .pre .2 .held) in
+    has-one (entry .pre .2 .types) (entry .pre .2 .stacked) (entry .pre .0) λ t us e.
+    let hh : Stacked (args .lengths .now) (args .count) (args .scratch .now) (t ∷ us) = rw e at (entry .pre .2 .stacked) in
     validate-ruled (args .lengths .now) (args .count) (args .scratch .now) (at-validate-top .validate-top .result) _ spec within hh (at-validate-top .validate-top .ensures spec t us hh read)
 
 -- src/steps.rt:174:1
@@ -56,9 +56,9 @@ returns c =
     let args = entry .args in
     λ spec ts read h.
     let within = lone-write (args .spec .now) (λ i. omega (arith, at-shared-slice-known .shared-slice-known .given i)) spec read .1 in
-    one-held ts h (entry .pre .0) λ t us e.
-    let hh : Holds (args .lengths .now) (args .count) (args .scratch .now) (t ∷ us) = rw e at h in
-    let n = holds-count (args .lengths .now) (args .count) (args .scratch .now) hh in
+    has-one ts h (entry .pre .0) λ t us e.
+    let hh : Stacked (args .lengths .now) (args .count) (args .scratch .now) (t ∷ us) = rw e at h in
+    let n = stacked-count (args .lengths .now) (args .count) (args .scratch .now) hh in
     let made = validate-ruled (args .lengths .now) (args .count) (args .scratch .now) (at-validate-top .validate-top .result) _ spec within hh (at-validate-top .validate-top .ensures spec t us hh read) in
     rw (e, ← validate-worked (args .at) (args .next) (args .count - (args .count - 1)) spec t us (omega arith)) (at-lay-down .lay-down .ensures made)
 

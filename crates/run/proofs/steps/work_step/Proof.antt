@@ -42,7 +42,7 @@ part-put-end : tie.Need-part-put-end
 part-put-end c =
     let entry = c .before .before .before .before .before .before .before .before in
     let at-read-step = c .before .before .before in
-    put-read (entry .args .s .now) (at-read-step .read-step .ensures) (c .before .read .given .1) λ t e x. x .inside
+    put-read (entry .args .s .now) (at-read-step .read-step .ensures) (c .before .read .given .1) λ t e x. x .there
 
 -- src/steps.rt:41:13
 put-requires : tie.Need-put-requires
@@ -54,7 +54,7 @@ put-requires c κs =
     let args = entry .args in
     put-read (args .s .now) (at-read-step .read-step .ensures) (at-read .read .given .1) λ t e x.
     let took = took-step (args .s .now) (λ i. omega (arith, at-shared-slice-known .shared-slice-known .given i)) (args .count) (args .at) (args .at) (steps.put t) _ e in
-    (omega (arith, took .room), entry .pre .1, (t, x .alone))
+    (omega (arith, took .room), entry .pre .1, (t, x .reads))
 
 -- src/steps.rt:43:25
 enum-known-read-2 : tie.Need-enum-known-read-2
@@ -127,7 +127,7 @@ part-validate-end : tie.Need-part-validate-end
 part-validate-end c =
     let entry = c .before .before .before .before .before .before .before .before in
     let at-read-step = c .before .before .before in
-    validating-read (entry .args .s .now) (at-read-step .read-step .ensures) (c .before .read5 .given .1) λ t e x. x .inside
+    validating-read (entry .args .s .now) (at-read-step .read-step .ensures) (c .before .read5 .given .1) λ t e x. x .there
 
 -- src/steps.rt:59:49
 validate-requires : tie.Need-validate-requires
@@ -139,7 +139,7 @@ validate-requires c κs =
     let args = entry .args in
     validating-read (args .s .now) (at-read-step .read-step .ensures) (at-read5 .read5 .given .1) λ t e x.
     let took = took-step (args .s .now) (λ i. omega (arith, at-shared-slice-known .shared-slice-known .given i)) (args .count) (args .at) (args .at) (steps.validating t) _ e in
-    (took .enough, entry .pre .0, entry .pre .1, (t, x .alone))
+    (took .enough, entry .pre .0, entry .pre .1, (t, x .reads))
 
 -- src/steps.rt:68:29
 enum-known-read-6 : tie.Need-enum-known-read-6
@@ -167,7 +167,7 @@ returns c =
     let args = entry .args in
     λ ts h.
     put-read (args .s .now) (at-read-step .read-step .ensures) (at-read .read .given .1) λ t e x.
-    worked (args .s .now) (args .at) h (at-put .put .result .answer) _ (at-put .put .result .count) _ (steps.put t) e (at-put .put .ensures t ts (args .at) (x .alone) h)
+    worked (args .s .now) (args .at) h (at-put .put .result .answer) _ (at-put .put .result .count) _ (steps.put t) e (at-put .put .ensures t ts (args .at) (x .reads) h)
 
 -- src/steps.rt:27:1
 same-length-3 : tie.Need-same-length-3
@@ -263,7 +263,7 @@ returns-5 c =
     let args = entry .args in
     λ ts h.
     validating-read (args .s .now) (at-read-step .read-step .ensures) (at-read5 .read5 .given .1) λ t e x.
-    worked (args .s .now) (args .at) h (at-validate .validate .result .answer) _ (at-validate .validate .result .count) _ (steps.validating t) e (at-validate .validate .ensures t ts (x .alone) h)
+    worked (args .s .now) (args .at) h (at-validate .validate .result .answer) _ (at-validate .validate .result .count) _ (steps.validating t) e (at-validate .validate .ensures t ts (x .reads) h)
 
 -- src/steps.rt:27:1
 returns-6 : tie.Need-returns-6

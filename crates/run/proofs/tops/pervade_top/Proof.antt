@@ -1,10 +1,10 @@
 use mathlib.Core.Path.{_∙_}
 use native.Mathlib.Omega.{arith}
-use Rattle.stack.specs.StackLaws.{holds-top, holds-below}
-use Rattle.run.proofs.RuleLaws.{held-lone}
+use Rattle.stack.specs.StackLaws.{stacked-top, stacked-below}
+use Rattle.run.proofs.RuleLaws.{bytes-lone}
 use mathlib.Core.List.{_∷_}
-use Rattle.stack.specs.Stack.{Holds}
-use Rattle.run.proofs.StepLaws.{two-held}
+use Rattle.stack.specs.Stack.{Stacked}
+use Rattle.run.proofs.StepLaws.{has-two}
 use borrow.Author.Needs.{needs}
 use Rattle.run.proofs.tops.pervade_top.Statement.{statement}
 use Rattle.run.proofs.tops.pervade_top.Tie as tie
@@ -66,9 +66,9 @@ pervade-types-requires c κs =
     let at-load = c .before .before .before .before in
     let at-load2 = c .before .before .before in
     let args = entry .args in
-    two-held (entry .pre .1 .types) (entry .pre .1 .held) (entry .pre .0) λ t u us e.
-    let hh : Holds (args .lengths .now) (args .count) (args .scratch .now) (t ∷ u ∷ us) = rw e at (entry .pre .1 .held) in
-    rw (held-lone (at-load .load .ensures .1 (args .scratch .now) ∙ holds-top (args .lengths .now) (args .count) (args .scratch .now) hh) (hh .within .0), held-lone (at-load2 .load2 .ensures .1 (args .scratch .now) ∙ holds-below (args .lengths .now) (args .count) (args .scratch .now) hh) (hh .within .1 .0))
+    has-two (entry .pre .1 .types) (entry .pre .1 .stacked) (entry .pre .0) λ t u us e.
+    let hh : Stacked (args .lengths .now) (args .count) (args .scratch .now) (t ∷ u ∷ us) = rw e at (entry .pre .1 .stacked) in
+    rw (bytes-lone (at-load .load .ensures .1 (args .scratch .now) ∙ stacked-top (args .lengths .now) (args .count) (args .scratch .now) hh) (hh .within .0), bytes-lone (at-load2 .load2 .ensures .1 (args .scratch .now) ∙ stacked-below (args .lengths .now) (args .count) (args .scratch .now) hh) (hh .within .1 .0))
 
 -- src/tops.rt:57:1
 same-length : tie.Need-same-length
@@ -83,7 +83,7 @@ returns c =
     let at-pervade-types = c .before .before in
     let args = entry .args in
     λ t u ts h.
-    at-pervade-types .pervade-types .ensures ∙ rw (held-lone (at-load .load .ensures .1 (args .scratch .now) ∙ holds-top (args .lengths .now) (args .count) (args .scratch .now) h) (h .within .0), held-lone (at-load2 .load2 .ensures .1 (args .scratch .now) ∙ holds-below (args .lengths .now) (args .count) (args .scratch .now) h) (h .within .1 .0))
+    at-pervade-types .pervade-types .ensures ∙ rw (bytes-lone (at-load .load .ensures .1 (args .scratch .now) ∙ stacked-top (args .lengths .now) (args .count) (args .scratch .now) h) (h .within .0), bytes-lone (at-load2 .load2 .ensures .1 (args .scratch .now) ∙ stacked-below (args .lengths .now) (args .count) (args .scratch .now) h) (h .within .1 .0))
 
 pub pervade-top-spec : {M : Type 1} → statement M
 pervade-top-spec =

@@ -1,10 +1,10 @@
 use mathlib.Core.Path.{_∙_}
 use native.Mathlib.Omega.{arith}
-use Rattle.stack.specs.StackLaws.{holds-top}
-use Rattle.run.proofs.RuleLaws.{held-lone}
+use Rattle.stack.specs.StackLaws.{stacked-top}
+use Rattle.run.proofs.RuleLaws.{bytes-lone}
 use mathlib.Core.List.{_∷_}
-use Rattle.stack.specs.Stack.{Holds}
-use Rattle.run.proofs.StepLaws.{one-held}
+use Rattle.stack.specs.Stack.{Stacked}
+use Rattle.run.proofs.StepLaws.{has-one}
 use borrow.Author.Needs.{needs}
 use Rattle.run.proofs.tops.row_top.Statement.{statement}
 use Rattle.run.proofs.tops.row_top.Tie as tie
@@ -42,9 +42,9 @@ row-known-requires c κs =
     let entry = c .before .before .before .before .before .before in
     let at-load = c .before .before in
     let args = entry .args in
-    one-held (entry .pre .1 .types) (entry .pre .1 .held) (entry .pre .0) λ t us e.
-    let hh : Holds (args .lengths .now) (args .count) (args .scratch .now) (t ∷ us) = rw e at (entry .pre .1 .held) in
-    rw (held-lone (at-load .load .ensures .1 (args .scratch .now) ∙ holds-top (args .lengths .now) (args .count) (args .scratch .now) hh) (hh .within .0))
+    has-one (entry .pre .1 .types) (entry .pre .1 .stacked) (entry .pre .0) λ t us e.
+    let hh : Stacked (args .lengths .now) (args .count) (args .scratch .now) (t ∷ us) = rw e at (entry .pre .1 .stacked) in
+    rw (bytes-lone (at-load .load .ensures .1 (args .scratch .now) ∙ stacked-top (args .lengths .now) (args .count) (args .scratch .now) hh) (hh .within .0))
 
 -- src/tops.rt:32:1
 same-length : tie.Need-same-length
@@ -58,7 +58,7 @@ returns c =
     let at-row-known = c .before .before in
     let args = entry .args in
     λ t ts hh.
-    at-row-known .row-known .ensures ∙ rw (held-lone (at-load .load .ensures .1 (args .scratch .now) ∙ holds-top (args .lengths .now) (args .count) (args .scratch .now) hh) (hh .within .0))
+    at-row-known .row-known .ensures ∙ rw (bytes-lone (at-load .load .ensures .1 (args .scratch .now) ∙ stacked-top (args .lengths .now) (args .count) (args .scratch .now) hh) (hh .within .0))
 
 pub row-top-spec : {M : Type 1} → statement M
 row-top-spec =

@@ -2,10 +2,10 @@ use mathlib.Core.Path.{_∙_, subst}
 use native.Mathlib.Omega.{arith}
 use mathlib.Core.List.{_∷_}
 use Rattle.lent.specs.Written.{Puts}
-use Rattle.stack.specs.Stack.{Holds}
-use Rattle.stack.specs.StackLaws.{holds-top}
-use Rattle.run.proofs.RuleLaws.{held-lone}
-use Rattle.run.proofs.StepLaws.{one-held}
+use Rattle.stack.specs.Stack.{Stacked}
+use Rattle.stack.specs.StackLaws.{stacked-top}
+use Rattle.run.proofs.RuleLaws.{bytes-lone}
+use Rattle.run.proofs.StepLaws.{has-one}
 use borrow.Author.Needs.{needs}
 use Rattle.run.proofs.tops.validate_top.Statement.{statement}
 use Rattle.run.proofs.tops.validate_top.Tie as tie
@@ -43,7 +43,7 @@ validate-known-requires c κs =
     let entry = c .before .before .before .before .before .before .before in
     let at-load = c .before .before in
     let args = entry .args in
-    (one-held (entry .pre .2 .types) (entry .pre .2 .held) (entry .pre .0) λ t us e. let hh : Holds (args .lengths .now) (args .count) (args .scratch .now) (t ∷ us) = rw e at (entry .pre .2 .held) in rw (entry .pre .3 .1, held-lone (at-load .load .ensures .1 (args .scratch .now) ∙ holds-top (args .lengths .now) (args .count) (args .scratch .now) hh) (hh .within .0)), entry .pre .1)
+    (has-one (entry .pre .2 .types) (entry .pre .2 .stacked) (entry .pre .0) λ t us e. let hh : Stacked (args .lengths .now) (args .count) (args .scratch .now) (t ∷ us) = rw e at (entry .pre .2 .stacked) in rw (entry .pre .3 .1, bytes-lone (at-load .load .ensures .1 (args .scratch .now) ∙ stacked-top (args .lengths .now) (args .count) (args .scratch .now) hh) (hh .within .0)), entry .pre .1)
 
 -- src/tops.rt:101:1
 same-length : tie.Need-same-length
@@ -57,7 +57,7 @@ returns c =
     let at-validate-known = c .before .before in
     let args = entry .args in
     λ s t ts h e.
-    subst (λ o. Puts (at-validate-known .validate-known .result) (at-validate-known .validate-known .last .1 .1 .1 .0) o) (rw (e, held-lone (at-load .load .ensures .1 (args .scratch .now) ∙ holds-top (args .lengths .now) (args .count) (args .scratch .now) h) (h .within .0))) (at-validate-known .validate-known .ensures)
+    subst (λ o. Puts (at-validate-known .validate-known .result) (at-validate-known .validate-known .last .1 .1 .1 .0) o) (rw (e, bytes-lone (at-load .load .ensures .1 (args .scratch .now) ∙ stacked-top (args .lengths .now) (args .count) (args .scratch .now) h) (h .within .0))) (at-validate-known .validate-known .ensures)
 
 pub validate-top-spec : {M : Type 1} → statement M
 validate-top-spec =

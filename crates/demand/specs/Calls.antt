@@ -20,7 +20,7 @@ use Rattle.machine.specs.Sheet.{sheetRun}
 use Rattle.machine.specs.Call.{Tally, tally, called, writeTypes, zeroed, atFront, handOver, sheetCall}
 use Rattle.machine.specs.Real.{RealShape, Holds}
 use Rattle.demand.specs.Claims.{Leaves, Mismatched, EachHolds}
-use Rattle.machine.specs.StepsHold.{Held}
+use Rattle.holding.specs.StepsHold.{Held}
 use Rattle.machine.specs.StepsWithin.{writeTypes-suffices, writeTypes-same}
 use Rattle.machine.specs.Sheets.{sheet-steps, left-within}
 

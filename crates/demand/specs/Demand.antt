@@ -21,9 +21,9 @@ use Rattle.demand.specs.Claims.{Leaves, Mismatched, verdictOf, FirstCond
 use Rattle.machine.specs.StepsTook.{skim-took}
 use Rattle.machine.specs.Sheets.{sheet-steps, accepted-steps, skim-steps, left-within}
 use Rattle.machine.specs.StepsReads.{writeSteps-same}
-use Rattle.machine.specs.StepsHold.{steps-hold}
-use Rattle.machine.specs.Orders.{order-shape}
-use Rattle.machine.specs.Verdicts.{Answered, passes, fails, answered}
+use Rattle.holding.specs.StepsHold.{steps-hold}
+use Rattle.orders.specs.Orders.{order-shape}
+use Rattle.orders.specs.Verdicts.{Answered, passes, fails, answered}
 use Rattle.demand.specs.Calls.{call-accepted, leaves-run, held-each}
 use Rattle.demand.specs.SecondCalls.{not-both, pervadings, leaves-of, mismatched-of, steps-of, record-same, both-or-neither}
 

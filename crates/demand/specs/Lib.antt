@@ -2,6 +2,7 @@ pub mod Claims
 pub mod Calls
 pub mod SecondCalls
 pub mod Demand
+pub mod Buffers
 pub mod Numbers
 pub mod Numbered
 pub mod WorkedWith

@@ -24,10 +24,10 @@ use Rattle.validation.specs.CheckShape.{unsided}
 use Rattle.validation.specs.Validate.{validate}
 use Rattle.validation.specs.Claims.{ofValidation, Listed}
 use Rattle.validation.specs.RefusalsLaws.{validate-listed}
-use Rattle.machine.specs.SheetLimits.{maxSteps, maxStack, scratchBytes}
+use Rattle.machine.specs.SheetLimits.{maxSteps, maxStack, scratchBytes, resultBytes}
 use Rattle.machine.specs.Steps.{Step, put, row, pervading, join, validating, Opcode, aPut, aRow, aPervading, aJoin, aValidating, opcodeOf, opcodes, takes, leaves, maxFlag}
-use Rattle.machine.specs.Run.{Answer, gives, refuses, following, orRefuses, aside, Stack, onto, pervadeTypes, step}
-use Rattle.machine.specs.Sheet.{opcodeIn, placed, opcodeFrom, argumentFrom, stepFrom, workFrom, toEnd, sheetFrom, skimFrom, outcomeOf, sheetRun, skim}
+use Rattle.machine.specs.Run.{Answer, gives, refuses, following, orRefuses, aside, Stack, State, fresh, afterStep, onto, pervadeTypes, step, work}
+use Rattle.machine.specs.Sheet.{opcodeIn, placed, opcodeFrom, argumentFrom, stepFrom, workFrom, toEnd, sheetMore, skimMore, sheetFrom, skimFrom, outcomeOf, sheetRun, skim}
 use Rattle.machine.specs.WellFormed.{WellFormed}
 use Rattle.machine.specs.Call.{called, tally, writeTypes, zeroed, atFront, handOver, sheetCall}
 use Rattle.demand.specs.Numbers.{ofRecords, ofLone, ofReading, ofSheet, ofSheetCall, RefusedWith, answerIn}
@@ -232,13 +232,13 @@ module _ (s : List ℕ) where
       stops-bind _ (stops-need (leb (leaves c h) maxStack) overflow p refl) λ _.
       stops-more ofReading records-reading (stops-argument c p)
 
-  stops-skim : (n h : ℕ) → Stops ofReading (skimFrom s n h)
-  unfolding skimFrom
-  stops-skim zero h = stops-toEnd [] (stops-here (stop overflow) λ p. stops-stop refl)
-  stops-skim (suc n) h =
+  stops-skim : (n : ℕ) (st : State ℕ) → Stops ofReading (skimMore s n st)
+  unfolding skimMore
+  stops-skim zero st = stops-toEnd [] (stops-here (stop overflow) λ p. stops-stop refl)
+  stops-skim (suc n) st =
       stops-toEnd []
-      (stops-bind _ (stops-here (stepFrom s h) (stops-step h)) λ x.
-      stops-bind _ (stops-skim n (leaves (opcodeOf x) h)) λ xs.
+      (stops-bind _ (stops-here (stepFrom s (st .stack)) (stops-step (st .stack))) λ x.
+      stops-bind _ (stops-skim n (afterStep st (leaves (opcodeOf x) (st .stack)))) λ xs.
       stops-give)
 
 outcome-number : {A : Type 0} (ns : List ℕ) (r : Read A) → ((k p : ℕ) → r ≡ stopped k p → Among ns k) → RefusedWith ns (outcomeOf r)
@@ -247,12 +247,12 @@ outcome-number ns (stopped j q) h = refused-with (h j q refl)
 
 -- "Read to the end, rule refusals passed over", a sheet meets no refusal but "1 to 5, 11 and 12".
 pub skim-numbered : (s : List ℕ) → RefusedWith ofReading (skim s)
-unfolding skim
-skim-numbered s = outcome-number ofReading (skimFrom s maxSteps 0 0) (stops-skim s maxSteps 0 .number-is 0)
+unfolding skim skimFrom
+skim-numbered s = outcome-number ofReading (skimMore s maxSteps (fresh 0) 0) (stops-skim s maxSteps (fresh 0) .number-is 0)
 
--- "Meets none of 1 to 5, 11 and 12, and both buffers hold 39,936 bytes": with such buffers a sheet of any bytes is well-formed, or
+-- "Meets none of 1 to 5, 11 and 12, and both buffers hold the bytes that are asked for": with such buffers a sheet of any bytes is well-formed, or
 -- its reading meets one of these.
-pub well-formed-or-refused : (s result scratch : List ℕ) → scratchBytes ≤ length result → scratchBytes ≤ length scratch → ((xs : List Step) × WellFormed s result scratch xs) ⊎ ((k : ℕ) × (p : ℕ) × (skim s ≡ refused k p) × Among ofReading k)
+pub well-formed-or-refused : (s result scratch : List ℕ) → resultBytes ≤ length result → scratchBytes ≤ length scratch → ((xs : List Step) × WellFormed s result scratch xs) ⊎ ((k : ℕ) × (p : ℕ) × (skim s ≡ refused k p) × Among ofReading k)
 well-formed-or-refused s result scratch r c = go (skim s) refl
   where
     go : (o : Outcome (List Step)) → skim s ≡ o → ((xs : List Step) × WellFormed s result scratch xs) ⊎ ((k : ℕ) × (p : ℕ) × (skim s ≡ refused k p) × Among ofReading k)
@@ -296,6 +296,13 @@ step-refuses join (t ∷ u ∷ st) = tt
 step-refuses (validating spec) [] = refl
 step-refuses (validating spec) (t ∷ st) = validating-refuses (validate unsided spec t) st (validate-listed unsided spec t)
 
+work-refuses : (x : Step) (st : State Stack) → RefusesWith ofSheet (work x st)
+work-refuses x st = go (step x (st .stack)) (step-refuses x (st .stack))
+  where
+    go : (a : Answer Stack) → RefusesWith ofSheet a → RefusesWith ofSheet (following a λ b. gives (afterStep st b))
+    go (gives b) h = tt
+    go (refuses k) h = h
+
 -- ---- a sheet, worked: 1 to 5 and 8 to 12
 
 reading-sheet : All (Among ofSheet) ofReading
@@ -306,12 +313,14 @@ stops-placed ns (gives a) p h = stops-give
 stops-placed ns (refuses k) p h = stops-stop h
 
 module _ (s : List ℕ) where
-  stops-work : (st : Stack) (p : ℕ) → Stops ofSheet (workFrom s st p)
+  stops-work : (st : State Stack) (p : ℕ) → Stops ofSheet (workFrom s st p)
   unfolding workFrom
-  stops-work st p = stops-bind _ (stops-more ofSheet reading-sheet (stops-step s (length st) p)) λ x. stops-placed ofSheet (step x st) p (step-refuses x st)
+  stops-work st p =
+      stops-bind _ (stops-more ofSheet reading-sheet (stops-step s (length (st .stack)) p)) λ x.
+      stops-placed ofSheet (work x st) p (work-refuses x st)
 
-  stops-sheet : (n : ℕ) (st : Stack) → Stops ofSheet (sheetFrom s n st)
-  unfolding sheetFrom
+  stops-sheet : (n : ℕ) (st : State Stack) → Stops ofSheet (sheetMore s n st)
+  unfolding sheetMore
   stops-sheet zero st = stops-toEnd s st (stops-here (stop overflow) λ p. stops-stop refl)
   stops-sheet (suc n) st = stops-toEnd s st (stops-bind _ (stops-here (workFrom s st) (stops-work st)) λ st₁. stops-sheet n st₁)
 
@@ -321,8 +330,10 @@ mapped-numbered f (refused k p) h = refused-with (h .number-is k p refl)
 
 -- The run of a sheet, of any bytes.
 pub run-numbered : (s : List ℕ) → RefusedWith ofSheet (sheetRun s)
-unfolding sheetRun
-run-numbered s = mapped-numbered reverse (outcomeOf (sheetFrom s maxSteps [] 0)) (outcome-number ofSheet (sheetFrom s maxSteps [] 0) (stops-sheet s maxSteps [] .number-is 0))
+unfolding sheetRun sheetFrom
+run-numbered s =
+    let run = sheetMore s maxSteps (fresh []) 0 in
+    mapped-numbered (λ st. reverse (st .stack)) (outcomeOf run) (outcome-number ofSheet run (stops-sheet s maxSteps (fresh []) .number-is 0))
 
 -- ---- the sheet call: 1 to 5 and 7 to 12
 

@@ -14,8 +14,8 @@ use Rattle.machine.specs.Conditions.{SamePuts}
 use Rattle.demand.specs.Claims.{Leaves, Mismatched, SecondConditions}
 use Rattle.machine.specs.Sheets.{left-within}
 use Rattle.machine.specs.StepsTook.{skim-took}
-use Rattle.machine.specs.Verdicts.{Pervadings, Answered, passes, fails, answered}
-use Rattle.machine.specs.Orders.{order-mismatch}
+use Rattle.orders.specs.Verdicts.{Pervadings, Answered, passes, fails, answered}
+use Rattle.orders.specs.Orders.{order-mismatch}
 use Rattle.demand.specs.Calls.{leaves-run, call-leaves, call-mismatch}
 
 -- Accepted and refused are two.

@@ -22,7 +22,7 @@ use Rattle.validation.specs.Validate.{validate}
 use Rattle.machine.specs.SheetLimits.{scratchBytes}
 use Rattle.machine.specs.Steps.{Step, put, row, pervading, join, validating, writeSteps, SheetOf}
 use Rattle.machine.specs.Run.{pervadeTypes, step}
-use Rattle.machine.specs.Sheet.{opcodeFrom, argumentFrom, stepFrom, workFrom, sheetFrom, sheetRun}
+use Rattle.machine.specs.Sheet.{opcodeFrom, argumentFrom, stepFrom, workFrom, sheetMore, sheetFrom, sheetRun}
 use Rattle.machine.specs.Call.{writeTypes}
 use Rattle.machine.specs.Real.{fits, realPervade, theOneBelow, Feeds, realStep, realRun, Through}
 use Rattle.machine.specs.Conditions.{RowsNoOpenDef, JoinsAlike}
@@ -67,7 +67,7 @@ worked-sheet = record {
 -- ---- it is accepted
 
 worked-run : sheetRun workedBytes ≡ accepted workedLeft
-unfolding inside below byte judged number code kindOf readMark readDim readDims shapeFrom scalarFrom readTy cmpDim larger compatible joinDim isAny rowShape mergeDims mergeClosing mergeFrom joinDims joinClosing joinShapes codeOf supersetCodes supersetOf union together pervadeDims pervadeClosing pervade joinTypes whollyAny rowScalar rowBy agree mismatch shapeMismatch sidedShape checkShape checkScalar validate pervadeTypes step opcodeFrom argumentFrom stepFrom workFrom sheetFrom sheetRun
+unfolding inside below byte judged number code kindOf readMark readDim readDims shapeFrom scalarFrom readTy cmpDim larger compatible joinDim isAny rowShape mergeDims mergeClosing mergeFrom joinDims joinClosing joinShapes codeOf supersetCodes supersetOf union together pervadeDims pervadeClosing pervade joinTypes whollyAny rowScalar rowBy agree mismatch shapeMismatch sidedShape checkShape checkScalar validate pervadeTypes step opcodeFrom argumentFrom stepFrom workFrom sheetMore sheetFrom sheetRun
 worked-run = refl
 
 worked-length : length (writeTypes workedLeft) ≡ 15

@@ -19,7 +19,7 @@ use Rattle.rules.specs.Types.{joinTypes, firstField, rowScalar, rowBy}
 use Rattle.machine.specs.SheetLimits.{scratchBytes}
 use Rattle.machine.specs.Steps.{Step, put, row, join, writeSteps, SheetOf}
 use Rattle.machine.specs.Run.{step}
-use Rattle.machine.specs.Sheet.{opcodeFrom, argumentFrom, stepFrom, workFrom, sheetFrom, sheetRun}
+use Rattle.machine.specs.Sheet.{opcodeFrom, argumentFrom, stepFrom, workFrom, sheetMore, sheetFrom, sheetRun}
 use Rattle.machine.specs.Call.{writeTypes}
 use Rattle.machine.specs.Real.{RealShape, fits, theTop, Feeds, realStep, realRun, Through}
 use Rattle.machine.specs.Conditions.{RowsNoOpenDef, JoinsAlike}
@@ -85,7 +85,7 @@ open-sheet = record { bytes = refl; within = (open-within 2 (omega arith), (open
 open-run : sheetRun openBytes ≡ accepted openLeft
 unfolding inside below byte judged number code kindOf readMark readDim readDims shapeFrom readName readFields defFrom boxFrom scalarFrom readTy
     joinDim rank rowShape joinDims joinLonger joinEnds joinClosing joinShapes codeOf supersetCodes supersetOf union joinTypes firstField rowScalar
-    rowBy step opcodeFrom argumentFrom stepFrom workFrom sheetFrom sheetRun
+    rowBy step opcodeFrom argumentFrom stepFrom workFrom sheetMore sheetFrom sheetRun
 open-run = refl
 
 open-length : length (writeTypes openLeft) ≡ 32

@@ -22,7 +22,7 @@ use Rattle.rules.specs.Pervade.{againstAbsent, together, pervadeDims, pervadeCl
 use Rattle.machine.specs.SheetLimits.{scratchBytes}
 use Rattle.machine.specs.Steps.{Step, put, pervading, writeSteps, SheetOf}
 use Rattle.machine.specs.Run.{gives, refuses, pervadeTypes, step}
-use Rattle.machine.specs.Sheet.{opcodeFrom, argumentFrom, stepFrom, workFrom, sheetFrom, sheetRun}
+use Rattle.machine.specs.Sheet.{opcodeFrom, argumentFrom, stepFrom, workFrom, sheetMore, sheetFrom, sheetRun}
 use Rattle.machine.specs.Call.{sheetCall, writeTypes}
 use Rattle.machine.specs.WellFormed.{typesLeft}
 use Rattle.machine.specs.Real.{RealShape, fits, realPervade, Feeds, realStep, realRun, Through}
@@ -180,7 +180,7 @@ one-record = refl
 
 pairs-run : sheetRun pairsBytes ≡ accepted (oneLeft ∷ [])
 unfolding byte judged number code kindOf readMark readDim readDims shapeFrom scalarFrom readTy codeOf supersetCodes supersetOf union againstAbsent
-    together pervadeDims pervadeClosing pervade pervadeTypes step opcodeFrom argumentFrom stepFrom workFrom sheetFrom sheetRun
+    together pervadeDims pervadeClosing pervade pervadeTypes step opcodeFrom argumentFrom stepFrom workFrom sheetMore sheetFrom sheetRun
 pairs-run = refl
 
 one-length : length (writeTypes (oneLeft ∷ [])) ≡ 15
@@ -195,7 +195,7 @@ pairs-leaves =
 -- [3] and [4] are refused at the pervading.
 unlike-run : sheetRun unlikeBytes ≡ refused unpervaded 34
 unfolding byte judged number code kindOf readMark readDim readDims shapeFrom scalarFrom readTy cmpDim codeOf supersetCodes supersetOf union together
-    pervadeDims pervadeClosing pervade pervadeTypes step opcodeFrom argumentFrom stepFrom workFrom sheetFrom sheetRun
+    pervadeDims pervadeClosing pervade pervadeTypes step opcodeFrom argumentFrom stepFrom workFrom sheetMore sheetFrom sheetRun
 unlike-run = refl
 
 pub unlike-mismatched : Mismatched unlikeBytes buffer buffer

@@ -1,5 +1,6 @@
 -- What an answer of the sheet call says of the sheet's run: the types left and their bytes in the result, or the refusal. With
--- 39,936 bytes in both buffers no refusal is for want of room, since at most eight types are left and 4,992 bytes suffice for each.
+-- the bytes that are asked for in both buffers no refusal is for want of room, since no more types are left than the stack has places
+-- and `maxBytes` suffice for each.
 use Prim.Native.Nat.{ℕ, _≤_}
 use native.Mathlib.Omega.{arith}
 use mathlib.Core.Bool.{Bool, true, false, cond}
@@ -14,7 +15,7 @@ use Rattle.model.specs.Types.{Ty}
 use Rattle.model.specs.Within.{All, Within}
 use Rattle.format.specs.Reader.{Bytes}
 use Rattle.format.specs.Outcome.{Outcome, accepted, refused}
-use Rattle.machine.specs.SheetLimits.{maxStack, scratchBytes}
+use Rattle.machine.specs.SheetLimits.{maxStack, scratchBytes, resultBytes}
 use Rattle.machine.specs.Steps.{Step}
 use Rattle.machine.specs.Run.{gives, Stack, step, steps}
 use Rattle.machine.specs.Sheet.{sheetRun}
@@ -24,7 +25,7 @@ use Rattle.machine.specs.StepsWithin.{writeTypes-suffices}
 use Rattle.machine.specs.StepsReads.{step-room}
 use Rattle.machine.specs.Sheets.{accepted-steps, left-within}
 
--- ---- at most eight types are left
+-- ---- no more types are left than the stack has places
 
 steps-few : (xs : List Step) (st st₁ : Stack) → length st ≤ maxStack → steps xs st ≡ gives st₁ → length st₁ ≤ maxStack
 unfolding steps
@@ -35,7 +36,7 @@ steps-few (x ∷ xs) st st₁ h e = following-gives (step x st) e λ st₂ e₁ 
 pub record Few (ts : List Ty) : Type 0 where
   pub within : All Within ts
   pub few : length ts ≤ maxStack
-  pub suffices : length (writeTypes ts) ≤ scratchBytes
+  pub suffices : length (writeTypes ts) ≤ resultBytes
 
 pub run-few : (s : List ℕ) → Bytes s → (ts : List Ty) → sheetRun s ≡ accepted ts → Few ts
 run-few s small ts e =
@@ -78,7 +79,7 @@ module _ (s result scratch : List ℕ) where
   -- ---- a refusal
 
   -- With enough room in both buffers it is the run's.
-  pub call-refused : {k p : ℕ} {out after : List ℕ} → Bytes s → scratchBytes ≤ length result → scratchBytes ≤ length scratch → called (refused k p) out after ≡ sheetCall s result scratch → sheetRun s ≡ refused k p
+  pub call-refused : {k p : ℕ} {out after : List ℕ} → Bytes s → resultBytes ≤ length result → scratchBytes ≤ length scratch → called (refused k p) out after ≡ sheetCall s result scratch → sheetRun s ≡ refused k p
   unfolding sheetCall handOver
   call-refused {k} {p} {out} {after} small wide enough e =
       let h : called (refused k p) out after ≡ handOver (length s) (sheetRun s) result (zeroed scratch) = e ∙ rw (le-ltb (length scratch) scratchBytes enough) in

@@ -1,13 +1,13 @@
 -- Worked examples of the sheet in one list: document 01's own, and those where its words are easily read otherwise. What comes
 -- first of several refusals, which place is named, which side is the first, and what stands at the bottom.
-use Prim.Native.Nat.{ℕ, zero, suc, _*_, _≤_}
+use Prim.Native.Nat.{ℕ, zero, suc, _≤_}
+use native.Mathlib.Omega.{arith}
 use mathlib.Core.Bool.{Bool, true, false}
 use mathlib.Core.List.{List, [], _∷_, _++_, map}
 use mathlib.Core.Option.{Option, none, some}
 use mathlib.Core.Path.{_≡_, refl}
 use lib.ListN.{length, replicate}
 use borrow.Author.Tests.{le-ltb}
-use Rattle.model.specs.Limits.{maxBytes}
 use Rattle.model.specs.Refusals.{ended, unmarked, outOfRange, tooShort, unpervaded, wrongScalar, wrongShape, underflow, overflow}
 use Rattle.model.specs.Types.{static, unknown, Shape, shape, Kind, num, char, plain, boxAny, boxAll, Ty, ty, inside, below}
 use Rattle.model.specs.Within.{All}
@@ -24,12 +24,13 @@ use Rattle.validation.specs.CheckShape.{agree, equalDim, equalDims, mismatch, s
 use Rattle.validation.specs.AsFields.{keepsLimits}
 use Rattle.validation.specs.CheckScalar.{checkScalar}
 use Rattle.validation.specs.Validate.{validate}
-use Rattle.machine.specs.SheetLimits.{maxSteps, maxStack, scratchBytes, programBytes}
-use Rattle.machine.specs.Steps.{Step, put, row, pervading, join, validating, markOf, opcodes, flagByte, maxFlag, writeSteps}
+use Rattle.machine.specs.SheetLimits.{maxSteps, maxStack, scratchBytes, resultBytes, programBytes}
+use Rattle.machine.specs.Steps.{Step, put, row, pervading, join, validating, markOf, opcodes, takes, lays, flagByte, maxFlag, writeSteps}
 use Rattle.machine.specs.Run.{pervadeTypes, step}
-use Rattle.machine.specs.Sheet.{opcodeFrom, argumentFrom, stepFrom, workFrom, sheetFrom, skimFrom, sheetRun, skim}
+use Rattle.machine.specs.Sheet.{opcodeFrom, argumentFrom, stepFrom, workFrom, sheetMore, skimMore, sheetFrom, skimFrom, sheetRun, skim}
 use Rattle.machine.specs.Call.{tally, called, writeTypes, zeroed, handOver, sheetCall}
 use Rattle.machine.specs.Real.{RealShape, fits, realPervade, Kept, theTop, theOneBelow, realStep, realRun}
+use Rattle.machine.specs.Conditions.{Alike, PutOrPervade}
 
 pub data Example : Type 0 where
   -- a sheet's bytes, and the bytes of the types left
@@ -49,9 +50,13 @@ Holds (theSteps s xs) = skim s ≡ accepted xs
 
 -- ---- limits, marks and flags as they stand in the paper, once
 
--- 64 steps, a stack of eight, 39,936 bytes of scratch, which are eight types of 4,992, and 49,152 bytes for the program
-pub sheet-limited : (_≡_ {A = List ℕ} (maxSteps ∷ maxStack ∷ scratchBytes ∷ programBytes ∷ []) (64 ∷ 8 ∷ 39936 ∷ 49152 ∷ [])) × (scratchBytes ≡ maxStack * maxBytes)
-sheet-limited = (refl, refl)
+-- 64 steps, a stack of eight, 39,936 bytes for the scratch and for the result, and 49,152 for the program
+pub sheet-limited : _≡_ {A = List ℕ} (maxSteps ∷ maxStack ∷ scratchBytes ∷ resultBytes ∷ programBytes ∷ []) (64 ∷ 8 ∷ 39936 ∷ 39936 ∷ 49152 ∷ [])
+sheet-limited = refl
+
+-- what each takes and what it lays down
+pub heights-are : _≡_ {A = List (ℕ × ℕ)} (map (λ c. (takes c, lays c)) opcodes) ((0, 1) ∷ (1, 1) ∷ (2, 1) ∷ (2, 1) ∷ (1, 1) ∷ [])
+heights-are = refl
 
 -- 50 55 put, 52 57 row, 50 56 pervade, 4A 4E join, 56 41 validate
 pub marks-are : map (λ c. markBytes (markOf c)) opcodes ≡ (0x50 ∷ 0x55 ∷ []) ∷ (0x52 ∷ 0x57 ∷ []) ∷ (0x50 ∷ 0x56 ∷ []) ∷ (0x4A ∷ 0x4E ∷ []) ∷ (0x56 ∷ 0x41 ∷ []) ∷ []
@@ -123,7 +128,7 @@ examples =
     ∷ []
 
 pub examples-hold : All Holds examples
-unfolding examples inside below byte judged number bytesOf code kindOf writeShape writeScalar writeTy readMark readDim readDims shapeFrom readName readFields defFrom boxFrom scalarFrom readTy cmpDim larger compatible joinDim isAny rank rowShape mergeDims mergeClosing mergeFrom joinDims joinLonger joinEnds joinClosing joinShapes codeOf supersetCodes supersetOf union againstAbsent together pervadeDims pervadeClosing pervade joinTypes whollyAny rowScalar rowBy agree equalDim equalDims mismatch shapeMismatch sidedShape checkShape keepsLimits checkScalar validate writeSteps pervadeTypes step opcodeFrom argumentFrom stepFrom workFrom sheetFrom skimFrom sheetRun skim writeTypes
+unfolding examples inside below byte judged number bytesOf code kindOf writeShape writeScalar writeTy readMark readDim readDims shapeFrom readName readFields defFrom boxFrom scalarFrom readTy cmpDim larger compatible joinDim isAny rank rowShape mergeDims mergeClosing mergeFrom joinDims joinLonger joinEnds joinClosing joinShapes codeOf supersetCodes supersetOf union againstAbsent together pervadeDims pervadeClosing pervade joinTypes whollyAny rowScalar rowBy agree equalDim equalDims mismatch shapeMismatch sidedShape checkShape keepsLimits checkScalar validate writeSteps pervadeTypes step opcodeFrom argumentFrom stepFrom workFrom sheetMore skimMore sheetFrom skimFrom sheetRun skim writeTypes
 examples-hold = (refl, (refl, (refl, (refl, (refl, (refl, (refl, (refl, (refl, (refl, (refl, (refl, (refl, (refl, (refl, (refl, (refl, (refl, (refl, (refl, (refl, (refl, (refl, (refl, (refl, tt)))))))))))))))))))))))))
 
 -- ---- the whole call
@@ -143,22 +148,22 @@ call-no-scratch s result = (refl, refl)
 module _ (scratch : List ℕ) (enough : scratchBytes ≤ length scratch) where
   -- An empty sheet needs no result.
   pub call-empty : sheetCall [] [] scratch ≡ called (accepted (tally 0 0)) [] (zeroed scratch)
-  unfolding sheetCall sheetRun sheetFrom handOver writeTypes
+  unfolding sheetCall sheetRun sheetFrom sheetMore handOver writeTypes
   call-empty = rw (le-ltb (length scratch) scratchBytes enough)
 
   -- The bytes go to the front of the result, and one past them stays.
   pub call-one : sheetCall oneSheet (replicate 8 7) scratch ≡ called (accepted (tally 1 7)) (oneRecord ++ (7 ∷ [])) (zeroed scratch)
-  unfolding sheetCall sheetRun sheetFrom workFrom stepFrom opcodeFrom argumentFrom step handOver writeTypes byte judged number bytesOf code kindOf writeShape writeScalar writeTy readMark readDim readDims shapeFrom scalarFrom readTy
+  unfolding sheetCall sheetRun sheetFrom sheetMore workFrom stepFrom opcodeFrom argumentFrom step handOver writeTypes byte judged number bytesOf code kindOf writeShape writeScalar writeTy readMark readDim readDims shapeFrom scalarFrom readTy
   call-one = rw (le-ltb (length scratch) scratchBytes enough)
 
   -- A refusal writes nothing to the result: a row first.
   pub call-refused : sheetCall (0x52 ∷ 0x57 ∷ []) (replicate 8 7) scratch ≡ called (refused underflow 0) (replicate 8 7) (zeroed scratch)
-  unfolding sheetCall sheetRun sheetFrom workFrom stepFrom opcodeFrom handOver byte
+  unfolding sheetCall sheetRun sheetFrom sheetMore workFrom stepFrom opcodeFrom handOver byte
   call-refused = rw (le-ltb (length scratch) scratchBytes enough)
 
   -- A result that is one byte too short stays as lent, and is found at the sheet's length.
   pub call-short : sheetCall oneSheet (replicate 6 7) scratch ≡ called (refused tooShort 9) (replicate 6 7) (zeroed scratch)
-  unfolding sheetCall sheetRun sheetFrom workFrom stepFrom opcodeFrom argumentFrom step handOver writeTypes byte judged number bytesOf code kindOf writeShape writeScalar writeTy readMark readDim readDims shapeFrom scalarFrom readTy
+  unfolding sheetCall sheetRun sheetFrom sheetMore workFrom stepFrom opcodeFrom argumentFrom step handOver writeTypes byte judged number bytesOf code kindOf writeShape writeScalar writeTy readMark readDim readDims shapeFrom scalarFrom readTy
   call-short = rw (le-ltb (length scratch) scratchBytes enough)
 
 -- ---- real shapes
@@ -199,3 +204,41 @@ realExamples =
 pub realExamples-hold : All RealHolds realExamples
 unfolding realExamples fits realPervade realStep realRun
 realExamples-hold = (refl, (refl, (refl, (refl, (refl, (refl, (refl, (refl, (refl, (refl, (refl, tt)))))))))))
+
+-- ---- the conditions of demand 3
+
+pub data ConditionExample : Type 0 where
+  -- two shapes that a join may take
+  theAlike : Shape → Shape → ConditionExample
+  theUnlike : Shape → Shape → ConditionExample
+  -- a step that the second half speaks of
+  thePutOrPervade : Step → ConditionExample
+  theOther : Step → ConditionExample
+
+abbrev pub ConditionShown : ConditionExample → Type 0
+ConditionShown (theAlike s t) = Alike s t
+ConditionShown (theUnlike s t) = Alike s t → ⊥
+ConditionShown (thePutOrPervade x) = PutOrPervade x
+ConditionShown (theOther x) = PutOrPervade x → ⊥
+
+unfoldable pub conditionExamples : List ConditionExample
+conditionExamples =
+    -- Closed shapes of equal count, or two open ones.
+    theAlike (shape (static 2 ∷ []) none) (shape (unknown ∷ []) none)
+    ∷ theUnlike (shape (static 2 ∷ []) none) (shape [] none)
+    ∷ theAlike (shape (static 2 ∷ []) (some [])) (shape [] (some []))
+    ∷ theUnlike (shape (static 2 ∷ []) none) (shape (static 2 ∷ []) (some []))
+    ∷ theUnlike (shape (static 2 ∷ []) (some [])) (shape (static 2 ∷ []) none)
+    -- Puts, and pervadings with flag byte 0.
+    ∷ thePutOrPervade (put (nums []))
+    ∷ thePutOrPervade (pervading false false)
+    ∷ theOther (pervading true false)
+    ∷ theOther (pervading false true)
+    ∷ theOther row
+    ∷ theOther join
+    ∷ theOther (validating (nums []))
+    ∷ []
+
+pub conditionExamples-shown : All ConditionShown conditionExamples
+unfolding conditionExamples
+conditionExamples-shown = (refl, (λ h. omega arith, (tt, (λ h. h, (λ h. h, (tt, (refl, (λ h. omega arith, (λ h. omega arith, (λ h. h, (λ h. h, (λ h. h, tt))))))))))))

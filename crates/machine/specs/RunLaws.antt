@@ -3,7 +3,7 @@
 use Prim.Native.Nat.{ℕ, _<_}
 use native.Mathlib.Omega.{arith}
 use mathlib.Core.Bool.{Bool, true, false, cond}
-use mathlib.Core.List.{_∷_}
+use mathlib.Core.List.{List, [], _∷_, _++_}
 use mathlib.Core.Option.{Option, none, some}
 use mathlib.Core.Path.{_≡_, refl, ap}
 use lib.ListN.{length}
@@ -15,8 +15,16 @@ use Rattle.rules.specs.Pervade.{pervade}
 use Rattle.rules.specs.Scalars.{union}
 use Rattle.rules.specs.Types.{joinTypes}
 use Rattle.machine.specs.SheetLimits.{maxStack}
-use Rattle.machine.specs.Steps.{put, pervading, join}
-use Rattle.machine.specs.Run.{Answer, gives, refuses, following, orRefuses, aside, Stack, onto, pervadeTypes, step}
+use Rattle.machine.specs.Steps.{Step, put, pervading, join, flagByte}
+use Rattle.machine.specs.Run.{Answer, gives, refuses, following, orRefuses, aside, Stack, onto, pervadeTypes, step, steps}
+
+-- ---- flags
+
+-- a flag byte 0 fills neither side
+pub unfilled : (f g : Bool) → flagByte f g ≡ 0 → (f ≡ false) × (g ≡ false)
+unfilled false false h = (refl, refl)
+unfilled true g h = absurd (omega arith)
+unfilled false true h = absurd (omega arith)
 
 -- ---- the top is the first
 
@@ -38,6 +46,19 @@ step-pervading f g t u st = refl
 pub step-join : (top below : Ty) (st : Stack) → step join (top ∷ below ∷ st) ≡ gives (joinTypes top below ∷ st)
 unfolding step
 step-join t u st = refl
+
+-- ---- lists of steps
+
+-- Steps and then others are worked as the others from what the first leave.
+pub steps-append : (xs ys : List Step) (st : Stack) → steps (xs ++ ys) st ≡ following (steps xs st) (λ st₁. steps ys st₁)
+unfolding steps
+steps-append [] ys st = refl
+steps-append (x ∷ xs) ys st = go (step x st) (λ st₁. steps-append xs ys st₁)
+  where
+    go : (a : Answer Stack) → ((st₁ : Stack) → steps (xs ++ ys) st₁ ≡ following (steps xs st₁) (λ st₂. steps ys st₂))
+        → following a (λ st₁. steps (xs ++ ys) st₁) ≡ following (following a (λ st₁. steps xs st₁)) (λ st₂. steps ys st₂)
+    go (gives st₁) h = h st₁
+    go (refuses k) h = refl
 
 -- ---- answers
 

@@ -12,9 +12,9 @@ use Rattle.model.specs.Types.{Ty}
 use Rattle.format.specs.Reader.{Read, got, stopped, Reader, _>>=_, _>>_, give, stop, need, here, byte, judged}
 use Rattle.format.specs.Records.{Mark, mark, isCount, orStop, readType}
 use Rattle.format.specs.Outcome.{Outcome, accepted, refused, mapped}
-use Rattle.machine.specs.SheetLimits.{maxSteps, maxStack}
+use Rattle.machine.specs.SheetLimits.{maxStack}
 use Rattle.machine.specs.Steps.{Step, put, row, pervading, join, validating, Opcode, aPut, aRow, aPervading, aJoin, aValidating, opcodeOf, markOf, opcodes, takes, leaves, maxFlag, fillsTop, fillsBelow}
-use Rattle.machine.specs.Run.{Answer, gives, refuses, Stack, step}
+use Rattle.machine.specs.Run.{Answer, gives, refuses, Stack, State, fresh, afterStep, stepsLeft, work}
 
 -- ---- one step
 
@@ -60,10 +60,11 @@ module _ (s : List ℕ) where
     need (leb (leaves c h) maxStack) overflow p
     argumentFrom c p
 
-  unfoldable pub workFrom : Stack → ℕ → Reader Stack
+  -- A step from a state, and its rule.
+  unfoldable pub workFrom : State Stack → ℕ → Reader (State Stack)
   workFrom st p = do
-    x ← stepFrom (length st) p
-    placed (step x st) p
+    x ← stepFrom (length (st .stack)) p
+    placed (work x st) p
 
   -- ---- all steps
 
@@ -71,20 +72,27 @@ module _ (s : List ℕ) where
   abbrev pub toEnd : {A : Type 0} → A → Reader A → Reader A
   toEnd a more = λ at. cond (ltb at (length s)) (more at) (got a at)
 
-  -- From any stack, with at most n steps more.
-  unfoldable pub sheetFrom : ℕ → Stack → Reader Stack
-  sheetFrom zero st = toEnd st (here (stop overflow))
-  sheetFrom (suc n) st = toEnd st do
+  -- From any state, with at most n steps more.
+  unfoldable pub sheetMore : ℕ → State Stack → Reader (State Stack)
+  sheetMore zero st = toEnd st (here (stop overflow))
+  sheetMore (suc n) st = toEnd st do
     st₁ ← here (workFrom st)
-    sheetFrom n st₁
+    sheetMore n st₁
 
-  -- From any height, with at most n steps more, rule refusals passed over: the steps that were read.
-  unfoldable pub skimFrom : ℕ → ℕ → Reader (List Step)
-  skimFrom zero h = toEnd [] (here (stop overflow))
-  skimFrom (suc n) h = toEnd [] do
-    x ← here (stepFrom h)
-    xs ← skimFrom n (leaves (opcodeOf x) h)
+  -- The same with rule refusals passed over, where only the height is known: the steps that were read.
+  unfoldable pub skimMore : ℕ → State ℕ → Reader (List Step)
+  skimMore zero st = toEnd [] (here (stop overflow))
+  skimMore (suc n) st = toEnd [] do
+    x ← here (stepFrom (st .stack))
+    xs ← skimMore n (afterStep st (leaves (opcodeOf x) (st .stack)))
     give (x ∷ xs)
+
+  -- From any state, with as many steps more as that state has left.
+  unfoldable pub sheetFrom : State Stack → Reader (State Stack)
+  sheetFrom st = sheetMore (stepsLeft st) st
+
+  unfoldable pub skimFrom : State ℕ → Reader (List Step)
+  skimFrom st = skimMore (stepsLeft st) st
 
 -- ---- from the empty stack
 
@@ -94,8 +102,8 @@ outcomeOf (stopped k p) = refused k p
 
 -- The types left, bottom first.
 unfoldable pub sheetRun : List ℕ → Outcome (List Ty)
-sheetRun s = mapped reverse (outcomeOf (sheetFrom s maxSteps [] 0))
+sheetRun s = mapped (λ st. reverse (st .stack)) (outcomeOf (sheetFrom s (fresh []) 0))
 
 -- The steps, as they are read to the end.
 unfoldable pub skim : List ℕ → Outcome (List Step)
-skim s = outcomeOf (skimFrom s maxSteps 0 0)
+skim s = outcomeOf (skimFrom s (fresh 0) 0)

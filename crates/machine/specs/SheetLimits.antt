@@ -1,6 +1,7 @@
--- The limits of a sheet (document 01, "The sheet, added"), each named once. Definitions and theorems cite the names and never the
--- numbers.
-use Prim.Native.Nat.{ℕ}
+-- The limits of a sheet (document 01, "The sheet, added"), each named once and derived from its parts where it has some. Definitions
+-- and theorems cite the names and never the numbers; those stand in Examples, once.
+use Prim.Native.Nat.{ℕ, _*_}
+use Rattle.model.specs.Limits.{maxBytes}
 
 -- steps of a sheet
 abbrev pub maxSteps : ℕ
@@ -10,9 +11,13 @@ maxSteps = 64
 abbrev pub maxStack : ℕ
 maxStack = 8
 
--- bytes of scratch that a call asks for and zeroes; a result buffer of as many is never too short
+-- bytes of scratch that a call asks for and zeroes: a place for each type on the stack
 abbrev pub scratchBytes : ℕ
-scratchBytes = 39936
+scratchBytes = maxStack * maxBytes
+
+-- bytes of a result that is never too short: those of as many types as can be left
+abbrev pub resultBytes : ℕ
+resultBytes = maxStack * maxBytes
 
 -- bytes of a sheet that the program reads
 abbrev pub programBytes : ℕ

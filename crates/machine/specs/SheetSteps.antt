@@ -1,16 +1,25 @@
 -- What a loop over a sheet's steps needs of its reading: where the bytes end, a step past the last one allowed, one step and then
 -- the steps after it; and of one step, what each part of its reading answers in turn, and then its rule.
-use Prim.Native.Nat.{ℕ, zero, suc, _≤_, _<_}
+use Prim.Native.Nat.{ℕ, zero, suc, _-_, _≤_, _<_}
+use native.Mathlib.Omega.{arith}
 use mathlib.Core.List.{List}
-use mathlib.Core.Path.{_≡_}
+use mathlib.Core.Path.{_≡_, _∙_}
 use lib.ListN.{length}
 use borrow.Author.Tests.{lt-ltb, le-ltb, le-leb, lt-leb}
 use Rattle.model.specs.Refusals.{underflow, overflow}
 use Rattle.format.specs.Reader.{got, stopped, Reader}
-use Rattle.machine.specs.SheetLimits.{maxStack}
+use Rattle.format.specs.ReaderLaws.{split}
+use Rattle.machine.specs.SheetLimits.{maxSteps, maxStack}
 use Rattle.machine.specs.Steps.{Step, Opcode, takes, leaves}
-use Rattle.machine.specs.Run.{Stack, step}
-use Rattle.machine.specs.Sheet.{placed, opcodeFrom, argumentFrom, stepFrom, workFrom, toEnd, sheetFrom}
+use Rattle.machine.specs.Run.{Answer, gives, refuses, following, Stack, State, afterStep, stepsLeft, step, work}
+use Rattle.machine.specs.Sheet.{placed, opcodeFrom, argumentFrom, stepFrom, workFrom, toEnd, sheetMore, sheetFrom}
+use Rattle.machine.specs.RunLaws.{following-gives}
+
+-- ---- a rule's answer
+
+pub placed-got : {A C : Type 0} (a : Answer A) (p at : ℕ) {b : A} {n : ℕ} → placed a p at ≡ got b n → (a ≡ gives b → at ≡ n → C) → C
+placed-got (gives x) p at e k = k (cc) (cc)
+placed-got (refuses j) p at e k = let z : _≡_ {A = ℕ} 0 1 = cc in absurd (omega arith)
 
 module _ (s : List ℕ) where
   -- ---- all steps
@@ -21,22 +30,45 @@ module _ (s : List ℕ) where
   pub toEnd-more : {A : Type 0} (a : A) (more : Reader A) (at : ℕ) → at < length s → toEnd s a more at ≡ more at
   toEnd-more a more at h = rw (lt-ltb at (length s) h)
 
-  pub sheetFrom-end : (n : ℕ) (st : Stack) (at : ℕ) → length s ≤ at → sheetFrom s n st at ≡ got st at
-  unfolding sheetFrom
-  sheetFrom-end zero st at h = rw (le-ltb at (length s) h)
-  sheetFrom-end (suc n) st at h = rw (le-ltb at (length s) h)
+  pub work-taken : (st st₁ : State Stack) (p at n : ℕ) → workFrom s st p at ≡ got st₁ n → st₁ .taken ≡ suc (st .taken)
+  unfolding workFrom
+  work-taken st st₁ p at n e =
+      split (stepFrom s (length (st .stack)) p at) e λ x m e₁ e₂.
+      placed-got (work x st) p m e₂ λ e₃ _.
+      following-gives (step x (st .stack)) e₃ λ a _ e₄.
+      let w : afterStep st a ≡ st₁ = cc in
+      rw (← w)
 
-  pub sheetFrom-over : (st : Stack) (at : ℕ) → at < length s → sheetFrom s 0 st at ≡ stopped overflow at
-  unfolding sheetFrom
-  sheetFrom-over st at h = rw (lt-ltb at (length s) h)
+  more-end : (n : ℕ) (st : State Stack) (at : ℕ) → length s ≤ at → sheetMore s n st at ≡ got st at
+  unfolding sheetMore
+  more-end zero st at h = rw (le-ltb at (length s) h)
+  more-end (suc n) st at h = rw (le-ltb at (length s) h)
 
-  pub sheetFrom-step : (n : ℕ) (st st₁ : Stack) (at next : ℕ) → at < length s → workFrom s st at at ≡ got st₁ next → sheetFrom s (suc n) st at ≡ sheetFrom s n st₁ next
-  unfolding sheetFrom
-  sheetFrom-step n st st₁ at next h e = rw (lt-ltb at (length s) h, e)
+  module _ (st : State Stack) (at : ℕ) where
+    -- the bytes have ended
+    pub sheetFrom-end : length s ≤ at → sheetFrom s st at ≡ got st at
+    unfolding sheetFrom
+    sheetFrom-end h = more-end (stepsLeft st) st at h
 
-  pub sheetFrom-stop : (n : ℕ) (st : Stack) (at k p : ℕ) → at < length s → workFrom s st at at ≡ stopped k p → sheetFrom s (suc n) st at ≡ stopped k p
-  unfolding sheetFrom
-  sheetFrom-stop n st at k p h e = rw (lt-ltb at (length s) h, e)
+    -- a step past the last one allowed
+    pub sheetFrom-over : maxSteps ≤ st .taken → at < length s → sheetFrom s st at ≡ stopped overflow at
+    unfolding sheetFrom sheetMore
+    sheetFrom-over l h =
+        let none-left : stepsLeft st ≡ 0 = omega arith in
+        rw (none-left, lt-ltb at (length s) h)
+
+    -- one step, and then the steps after it; or its refusal
+    pub sheetFrom-step : (st₁ : State Stack) (next : ℕ) → st .taken < maxSteps → at < length s → workFrom s st at at ≡ got st₁ next → sheetFrom s st at ≡ sheetFrom s st₁ next
+    unfolding sheetFrom sheetMore
+    sheetFrom-step st₁ next l h e =
+        let one-less : stepsLeft st ≡ suc (stepsLeft st₁) = omega (arith, work-taken st st₁ at at next e) in
+        rw (one-less, lt-ltb at (length s) h, e)
+
+    pub sheetFrom-stop : (k p : ℕ) → st .taken < maxSteps → at < length s → workFrom s st at at ≡ stopped k p → sheetFrom s st at ≡ stopped k p
+    unfolding sheetFrom sheetMore
+    sheetFrom-stop k p l h e =
+        let one-less : stepsLeft st ≡ suc (maxSteps - suc (st .taken)) = omega arith in
+        rw (one-less, lt-ltb at (length s) h, e)
 
   -- ---- one step
 
@@ -62,12 +94,28 @@ module _ (s : List ℕ) where
       unfolding stepFrom
       step-argument l r = rw (marked, le-leb (takes c) h l, le-leb (leaves c h) maxStack r)
 
-  -- as it is worked on a stack
-  module _ (st : Stack) (p at : ℕ) where
-    pub work-unread : (k q : ℕ) → stepFrom s (length st) p at ≡ stopped k q → workFrom s st p at ≡ stopped k q
+  -- as it is worked from a state
+  module _ (st : State Stack) (p at : ℕ) where
+    pub work-unread : (k q : ℕ) → stepFrom s (length (st .stack)) p at ≡ stopped k q → workFrom s st p at ≡ stopped k q
     unfolding workFrom
     work-unread k q e = rw e
 
-    pub work-rule : (x : Step) (end : ℕ) → stepFrom s (length st) p at ≡ got x end → workFrom s st p at ≡ placed (step x st) p end
-    unfolding workFrom
-    work-rule x end e = rw e
+    module _ (x : Step) (end : ℕ) (e : stepFrom s (length (st .stack)) p at ≡ got x end) where
+      pub work-rule : workFrom s st p at ≡ placed (work x st) p end
+      unfolding workFrom
+      work-rule = rw e
+
+      -- what its rule gives lies on the stack, and one step more is taken; what its rule refuses is refused
+      pub work-given : (a : Stack) (n : ℕ) → placed (step x (st .stack)) p end ≡ got a n → workFrom s st p at ≡ got (afterStep st a) n
+      work-given a n r = work-rule ∙ go (step x (st .stack)) r
+        where
+          go : (q : Answer Stack) → placed q p end ≡ got a n → placed (following q (λ b. gives (afterStep st b))) p end ≡ got (afterStep st a) n
+          go (gives b) r = let w : b ≡ a = cc in let v : end ≡ n = cc in rw (w, v)
+          go (refuses k) r = let z : _≡_ {A = ℕ} 0 1 = cc in absurd (omega arith)
+
+      pub work-refused : (k q : ℕ) → placed (step x (st .stack)) p end ≡ stopped k q → workFrom s st p at ≡ stopped k q
+      work-refused k q r = work-rule ∙ go (step x (st .stack)) r
+        where
+          go : (a : Answer Stack) → placed a p end ≡ stopped k q → placed (following a (λ b. gives (afterStep st b))) p end ≡ stopped k q
+          go (gives b) r = let z : _≡_ {A = ℕ} 0 1 = cc in absurd (omega arith)
+          go (refuses j) r = let w : j ≡ k = cc in let v : p ≡ q = cc in rw (w, v)

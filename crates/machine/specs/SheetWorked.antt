@@ -1,24 +1,24 @@
 -- A sheet's run against the run of a list of steps: the height that each step leaves, and that an accepted sheet, read to the end
 -- with the rules passed over, gives steps that are worked to the same stack.
-use Prim.Native.Nat.{ℕ, zero, suc, _-_}
+use Prim.Native.Nat.{ℕ, zero, suc, _+_, _-_}
 use native.Mathlib.Omega.{arith}
 use mathlib.Core.Bool.{Bool, true, false, cond}
 use mathlib.Core.List.{List, [], _∷_}
-use mathlib.Core.Path.{_≡_, refl, _∙_, ap}
+use mathlib.Core.Path.{_≡_, refl, sym, _∙_, ap}
 use lib.ListN.{length}
 use lib.Dec.{ltb}
 use Rattle.model.specs.Refusals.{overflow}
 use Rattle.model.specs.Types.{Ty}
-use Rattle.format.specs.Reader.{Read, got, stopped, Reader, andThen, _>>=_, stop, here}
+use Rattle.format.specs.Reader.{Read, got, stopped, Reader, andThen, _>>=_, give, stop, here}
 use Rattle.format.specs.ReaderLaws.{split}
 use Rattle.rules.specs.Types.{intoRow, joinTypes}
 use Rattle.validation.specs.CheckShape.{unsided}
 use Rattle.validation.specs.Validate.{validate}
 use Rattle.machine.specs.SheetLimits.{maxStack}
 use Rattle.machine.specs.Steps.{Step, put, row, pervading, join, validating, opcodeOf, leaves}
-use Rattle.machine.specs.Run.{Answer, gives, refuses, following, aside, Stack, onto, pervadeTypes, step, steps}
-use Rattle.machine.specs.Sheet.{placed, stepFrom, workFrom, sheetFrom, skimFrom}
-use Rattle.machine.specs.SheetSteps.{toEnd-end, toEnd-more}
+use Rattle.machine.specs.Run.{Answer, gives, refuses, following, aside, Stack, onto, pervadeTypes, State, afterStep, onStack, step, work, steps}
+use Rattle.machine.specs.Sheet.{placed, stepFrom, workFrom, sheetMore, skimMore}
+use Rattle.machine.specs.SheetSteps.{placed-got, toEnd-end, toEnd-more}
 use Rattle.machine.specs.RunLaws.{step-join, following-gives}
 use Rattle.machine.specs.StepsTook.{ended-or, stepAndMore}
 
@@ -31,7 +31,7 @@ pub step-height : (x : Step) (st st₁ : Stack) → step x st ≡ gives st₁ �
 unfolding step
 step-height (put t) st st₁ e = go (ltb (length st) maxStack) e
   where
-    go : (b : Bool) → cond b (gives (t ∷ st)) (refuses overflow) ≡ gives st₁ → length st₁ ≡ suc (length st - 0)
+    go : (b : Bool) → cond b (gives (t ∷ st)) (refuses overflow) ≡ gives st₁ → length st₁ ≡ length st - 0 + 1
     go true e = let w : t ∷ st ≡ st₁ = cc in rw (← w) (omega arith)
     go false e = let z : _≡_ {A = ℕ} 0 1 = cc in absurd (omega arith)
 step-height row [] st₁ e = let z : _≡_ {A = ℕ} 0 1 = cc in absurd (omega arith)
@@ -48,39 +48,40 @@ step-height (validating spec) (t ∷ st) st₁ e = omega (arith, onto-height st 
 -- ---- the same answer
 
 -- The same answer, the place aside.
-abbrev pub Same : Answer Stack → Read Stack → Type 0
-Same (gives st) r = (n : ℕ) × (r ≡ got st n)
+abbrev pub Same : Answer Stack → Read (State Stack) → Type 0
+Same (gives a) r = (st : State Stack) × (n : ℕ) × (r ≡ got st n) × (st .stack ≡ a)
 Same (refuses k) r = (p : ℕ) × (r ≡ stopped k p)
 
 -- the rest of a sheet, after a step's rule has answered
-pub same-after : (s : List ℕ) (n : ℕ) (xs : List Step) (a : Answer Stack) (p at : ℕ) → ((st : Stack) → a ≡ gives st → Same (steps xs st) (sheetFrom s n st at)) → Same (following a (λ st. steps xs st)) (andThen (placed a p at) (λ st. sheetFrom s n st))
-same-after s n xs (gives st) p at k = k st refl
-same-after s n xs (refuses j) p at k = (p, refl)
+pub same-after : (s : List ℕ) (n : ℕ) (xs : List Step) (st : State Stack) (a : Answer Stack) (p at : ℕ)
+    → ((b : Stack) → a ≡ gives b → Same (steps xs b) (sheetMore s n (afterStep st b) at))
+    → Same (following a (λ b. steps xs b)) (andThen (placed (following a (λ b. gives (afterStep st b))) p at) (λ st₁. sheetMore s n st₁))
+same-after s n xs st (gives b) p at k = k b refl
+same-after s n xs st (refuses j) p at k = (p, refl)
 
 module _ (s : List ℕ) where
-  abbrev pub workAndMore : ℕ → Stack → Reader Stack
+  abbrev pub workAndMore : ℕ → State Stack → Reader (State Stack)
   workAndMore most st = do
     st₁ ← here (workFrom s st)
-    sheetFrom s most st₁
+    sheetMore s most st₁
 
   -- ---- an accepted sheet is read to the end
 
-  placed-got : {A C : Type 0} (a : Answer A) (p at : ℕ) {b : A} {n : ℕ} → placed a p at ≡ got b n → (a ≡ gives b → at ≡ n → C) → C
-  placed-got (gives x) p at e k = k (cc) (cc)
-  placed-got (refuses j) p at e k = let z : _≡_ {A = ℕ} 0 1 = cc in absurd (omega arith)
-
-  pub accepted-skims : (most : ℕ) (st st₁ : Stack) (at n : ℕ) → sheetFrom s most st at ≡ got st₁ n → (xs : List Step) × (skimFrom s most (length st) at ≡ got xs n) × (steps xs st ≡ gives st₁)
-  unfolding skimFrom sheetFrom workFrom steps
+  pub accepted-skims : (most : ℕ) (st st₁ : State Stack) (at n : ℕ) → sheetMore s most st at ≡ got st₁ n
+      → (xs : List Step) × (skimMore s most (onStack length st) at ≡ got xs n) × (steps xs (st .stack) ≡ gives (st₁ .stack))
+  unfolding skimMore sheetMore workFrom steps
   accepted-skims zero st st₁ at n e =
       ended-or s st (here (stop overflow)) at e
-      (λ end x y. ([], toEnd-end s [] (here (stop overflow)) at end ∙ ap (got []) y, ap gives x))
+      (λ end x y. ([], toEnd-end s [] (here (stop overflow)) at end ∙ ap (got []) y, ap (λ z. gives (z .stack)) x))
       (λ _ e₁. let z : _≡_ {A = ℕ} 0 1 = cc in absurd (omega arith))
   accepted-skims (suc most) st st₁ at n e =
       ended-or s st (workAndMore most st) at e
-      (λ end x y. ([], toEnd-end s [] (stepAndMore s most (length st)) at end ∙ ap (got []) y, ap gives x))
+      (λ end x y. ([], toEnd-end s [] (stepAndMore s most (onStack length st)) at end ∙ ap (got []) y, ap (λ z. gives (z .stack)) x))
       (λ more e₁.
       split (workFrom s st at at) e₁ λ st₂ m₂ e₂ e₃.
-      split (stepFrom s (length st) at at) e₂ λ x m e₄ e₅.
-      placed-got (step x st) at m e₅ λ k w.
-      let (xs, e₆, e₇) = accepted-skims most st₂ st₁ m₂ n e₃ in
-      (x ∷ xs, toEnd-more s [] (stepAndMore s most (length st)) at more ∙ rw (e₄, w, ← step-height x st st₂ k, e₆), rw k e₇))
+      split (stepFrom s (length (st .stack)) at at) e₂ λ x m e₄ e₅.
+      placed-got (work x st) at m e₅ λ k w.
+      following-gives (step x (st .stack)) k λ a k₁ k₂.
+      let v : afterStep st a ≡ st₂ = cc in
+      let (xs, e₆, e₇) = accepted-skims most (afterStep st a) st₁ m₂ n (rw v e₃) in
+      (x ∷ xs, toEnd-more s [] (stepAndMore s most (onStack length st)) at more ∙ rw (e₄, w, ← step-height x (st .stack) a k₁, e₆), rw k₁ e₇))

@@ -11,39 +11,39 @@ use Rattle.format.specs.Outcome.{accepted, mapped}
 use Rattle.rules.specs.Lists.{all-reverse}
 use Rattle.machine.specs.SheetLimits.{maxSteps}
 use Rattle.machine.specs.Steps.{Step, SheetOf}
-use Rattle.machine.specs.Run.{Answer, gives, refuses, aside, Stack, steps, bottomFirst}
-use Rattle.machine.specs.Sheet.{sheetFrom, outcomeOf, sheetRun, skim}
+use Rattle.machine.specs.Run.{Answer, gives, refuses, aside, Stack, State, fresh, steps, bottomFirst}
+use Rattle.machine.specs.Sheet.{sheetMore, sheetFrom, skimFrom, outcomeOf, sheetRun, skim}
 use Rattle.machine.specs.WellFormed.{Heights}
 use Rattle.machine.specs.StepsTook.{skim-took}
 use Rattle.machine.specs.SheetWorked.{Same, accepted-skims}
 use Rattle.machine.specs.StepsReads.{written-worked, written-skims}
 use Rattle.machine.specs.StepsWithin.{steps-within}
 
-same-aside : (a : Answer Stack) (r : Read Stack) → Same a r → aside (mapped reverse (outcomeOf r)) ≡ bottomFirst a
-same-aside (gives st) r (n, e) = rw e
+same-aside : (a : Answer Stack) (r : Read (State Stack)) → Same a r → aside (mapped (λ st. reverse (st .stack)) (outcomeOf r)) ≡ bottomFirst a
+same-aside (gives b) r (st, n, e, w) = rw (e, w)
 same-aside (refuses k) r (p, e) = rw e
 
 -- The bytes of a list of steps get what the steps get, the place aside.
 pub sheet-steps : (s : List ℕ) (xs : List Step) → SheetOf s xs → aside (sheetRun s) ≡ bottomFirst (steps xs [])
-unfolding sheetRun
-sheet-steps s xs h = same-aside (steps xs []) (sheetFrom s maxSteps [] 0) (written-worked s xs [] maxSteps 0 (h .few) (omega arith) (h .within) (h .bytes))
+unfolding sheetRun sheetFrom
+sheet-steps s xs h = same-aside (steps xs []) (sheetMore s maxSteps (fresh []) 0) (written-worked s xs (fresh []) maxSteps 0 (h .few) (omega arith) (h .within) (h .bytes))
 
 -- An accepted sheet is the bytes of a list of steps, worked to the types left.
 pub accepted-steps : (s : List ℕ) → Bytes s → (ts : List Ty) → sheetRun s ≡ accepted ts → (xs : List Step) × SheetOf s xs × (steps xs [] ≡ gives (reverse ts))
-unfolding sheetRun skim
-accepted-steps s small ts e = go (sheetFrom s maxSteps [] 0) refl e
+unfolding sheetRun sheetFrom skim skimFrom
+accepted-steps s small ts e = go (sheetMore s maxSteps (fresh []) 0) refl e
   where
-    go : (r : Read Stack) → sheetFrom s maxSteps [] 0 ≡ r → mapped reverse (outcomeOf r) ≡ accepted ts → (xs : List Step) × SheetOf s xs × (steps xs [] ≡ gives (reverse ts))
+    go : (r : Read (State Stack)) → sheetMore s maxSteps (fresh []) 0 ≡ r → mapped (λ st. reverse (st .stack)) (outcomeOf r) ≡ accepted ts → (xs : List Step) × SheetOf s xs × (steps xs [] ≡ gives (reverse ts))
     go (stopped k p) h e = let z : _≡_ {A = ℕ} 0 1 = cc in absurd (omega arith)
     go (got st n) h e =
-        let (xs, e₁, e₂) = accepted-skims s maxSteps [] st 0 n h in
-        let w : reverse st ≡ ts = cc in
-        (xs, skim-took s small xs (rw e₁) .0, rw (← w, reverse-reverse st) e₂)
+        let (xs, e₁, e₂) = accepted-skims s maxSteps (fresh []) st 0 n h in
+        let w : reverse (st .stack) ≡ ts = cc in
+        (xs, skim-took s small xs (rw e₁) .0, rw (← w, reverse-reverse (st .stack)) e₂)
 
 -- Steps that lack no types and lay down none too many are read back to the end.
 pub skim-steps : (s : List ℕ) (xs : List Step) → SheetOf s xs → Heights xs 0 → skim s ≡ accepted xs
-unfolding skim
-skim-steps s xs h k = let (n, e) = written-skims s xs 0 maxSteps 0 (h .few) k (h .within) (h .bytes) in rw e
+unfolding skim skimFrom
+skim-steps s xs h k = let (n, e) = written-skims s xs (fresh 0) maxSteps 0 (h .few) k (h .within) (h .bytes) in rw e
 
 -- The types left keep every limit.
 pub left-within : (s : List ℕ) (xs : List Step) (ts : List Ty) → SheetOf s xs → sheetRun s ≡ accepted ts → (steps xs [] ≡ gives (reverse ts)) × All Within ts

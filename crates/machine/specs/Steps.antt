@@ -44,7 +44,7 @@ opcodes = aPut ∷ aRow ∷ aPervading ∷ aJoin ∷ aValidating ∷ []
 
 -- ---- heights
 
--- How many types a step takes off the stack. Each step lays one down.
+-- How many types a step takes off the stack, and how many it lays down.
 abbrev pub takes : Opcode → ℕ
 takes aPut = 0
 takes aRow = 1
@@ -52,9 +52,16 @@ takes aPervading = 2
 takes aJoin = 2
 takes aValidating = 1
 
+abbrev pub lays : Opcode → ℕ
+lays aPut = 1
+lays aRow = 1
+lays aPervading = 1
+lays aJoin = 1
+lays aValidating = 1
+
 -- The height that a step leaves of height h.
 abbrev pub leaves : Opcode → ℕ → ℕ
-leaves c h = suc (h - takes c)
+leaves c h = h - takes c + lays c
 
 -- ---- writing
 

@@ -16,11 +16,12 @@ use Rattle.format.specs.Records.{markBytes, isCount}
 use Rattle.format.specs.WriteRead.{write-read}
 use Rattle.machine.specs.SheetLimits.{maxStack}
 use Rattle.machine.specs.Steps.{Step, put, row, pervading, join, validating, Opcode, aPut, aRow, aPervading, aJoin, aValidating, opcodeOf, markOf, takes, leaves, flagByte, maxFlag, fillsTop, fillsBelow, writeArgument, writeStep, writeSteps, StepWithin}
-use Rattle.machine.specs.Run.{gives, refuses, Stack, step, steps}
-use Rattle.machine.specs.Sheet.{placed, opcodeFrom, argumentFrom, stepFrom, workFrom, sheetFrom, skimFrom}
+use Rattle.machine.specs.Run.{gives, refuses, Stack, State, afterStep, step, work, steps}
+use Rattle.machine.specs.Sheet.{placed, opcodeFrom, argumentFrom, stepFrom, workFrom, sheetMore, skimMore}
 use Rattle.machine.specs.WellFormed.{Heights}
+use Rattle.machine.specs.Opcodes.{mark-two, takes-few, lays-few}
 use Rattle.machine.specs.SheetWorked.{Same, same-after, step-height, workAndMore}
-use Rattle.machine.specs.SheetSteps.{toEnd-end, toEnd-more}
+use Rattle.machine.specs.SheetSteps.{toEnd-end, toEnd-more, work-rule}
 use Rattle.machine.specs.StepsTook.{stepAndMore}
 
 -- ---- one step
@@ -101,60 +102,54 @@ step-room x st st₁ h e = go (leb (takes (opcodeOf x)) (length st)) (leb (leave
 module _ (s : List ℕ) where
   -- a step has bytes
   longer : (x : Step) (at : ℕ) (rest : List ℕ) → drop at s ≡ writeStep x ++ rest → at < length s
-  longer x at rest e = omega (arith, length-drop at s, ap length e, length-append (writeStep x) rest, length-append (markBytes (markOf (opcodeOf x))) (writeArgument x), two (opcodeOf x))
-    where
-      two : (c : Opcode) → length (markBytes (markOf c)) ≡ 2
-      two aPut = refl
-      two aRow = refl
-      two aPervading = refl
-      two aJoin = refl
-      two aValidating = refl
+  longer x at rest e = omega (arith, length-drop at s, ap length e, length-append (writeStep x) rest, length-append (markBytes (markOf (opcodeOf x))) (writeArgument x), mark-two (opcodeOf x))
 
-  read-worked : (st : Stack) (x : Step) (p at n : ℕ) → stepFrom s (length st) p at ≡ got x n → workFrom s st p at ≡ placed (step x st) p n
-  unfolding workFrom
-  read-worked st x p at n e = rw e
-
-  worked : (st : Stack) (x : Step) (p at : ℕ) (rest : List ℕ) → length st ≤ maxStack → StepWithin x → drop at s ≡ writeStep x ++ rest → workFrom s st p at ≡ placed (step x st) p (at + length (writeStep x))
+  worked : (st : State Stack) (x : Step) (p at : ℕ) (rest : List ℕ) → length (st .stack) ≤ maxStack → StepWithin x → drop at s ≡ writeStep x ++ rest
+      → workFrom s st p at ≡ placed (work x st) p (at + length (writeStep x))
   unfolding workFrom stepFrom
-  worked st x p at rest h w e = go (leb (takes (opcodeOf x)) (length st)) (leb (leaves (opcodeOf x) (length st)) maxStack) refl refl
+  worked st x p at rest h w e = go (leb c h₀) (leb (leaves (opcodeOf x) h₀) maxStack) refl refl
     where
+      -- what it takes, and the height
+      c : ℕ
+      c = takes (opcodeOf x)
+
+      h₀ : ℕ
+      h₀ = length (st .stack)
+
       e₁ : opcodeFrom s p at ≡ got (opcodeOf x) (at + length (markBytes (markOf (opcodeOf x))))
       e₁ = reads-opcode s (opcodeOf x) p .run at (writeArgument x ++ rest) (e ∙ append-assoc (markBytes (markOf (opcodeOf x))) (writeArgument x) rest)
 
-      go : (t u : Bool) → leb (takes (opcodeOf x)) (length st) ≡ t → leb (leaves (opcodeOf x) (length st)) maxStack ≡ u → workFrom s st p at ≡ placed (step x st) p (at + length (writeStep x))
-      go false u a b = rw (e₁, a, lacks x st (leb-false (takes (opcodeOf x)) (length st) a))
-      go true false a b = rw (e₁, a, b, overfull x st h (leb-true (takes (opcodeOf x)) (length st) a) (leb-false (leaves (opcodeOf x) (length st)) maxStack b))
-      go true true a b = read-worked st x p at (at + length (writeStep x)) (reads-step s x (length st) p w (leb-true (takes (opcodeOf x)) (length st) a) (leb-true (leaves (opcodeOf x) (length st)) maxStack b) .run at rest e)
+      go : (t u : Bool) → leb c h₀ ≡ t → leb (leaves (opcodeOf x) h₀) maxStack ≡ u → workFrom s st p at ≡ placed (work x st) p (at + length (writeStep x))
+      go false u a b = rw (e₁, a, lacks x (st .stack) (leb-false c h₀ a))
+      go true false a b = rw (e₁, a, b, overfull x (st .stack) h (leb-true c h₀ a) (leb-false (leaves (opcodeOf x) h₀) maxStack b))
+      go true true a b =
+          let r = reads-step s x h₀ p w (leb-true c h₀ a) (leb-true (leaves (opcodeOf x) h₀) maxStack b) .run at rest e in
+          work-rule s st p at x (at + length (writeStep x)) r
 
   -- The bytes of a list of steps get what the steps get.
-  pub written-worked : (xs : List Step) (st : Stack) (most at : ℕ) → length xs ≤ most → length st ≤ maxStack → All StepWithin xs → drop at s ≡ writeSteps xs → Same (steps xs st) (sheetFrom s most st at)
-  unfolding writeSteps steps sheetFrom
-  written-worked [] st zero at l h w e = (at, toEnd-end s st (here (stop overflow)) at (omega (arith, length-drop at s, ap length e)))
-  written-worked [] st (suc most) at l h w e = (at, toEnd-end s st (workAndMore s most st) at (omega (arith, length-drop at s, ap length e)))
+  pub written-worked : (xs : List Step) (st : State Stack) (most at : ℕ) → length xs ≤ most → length (st .stack) ≤ maxStack → All StepWithin xs → drop at s ≡ writeSteps xs
+      → Same (steps xs (st .stack)) (sheetMore s most st at)
+  unfolding writeSteps steps sheetMore
+  written-worked [] st zero at l h w e = (st, at, toEnd-end s st (here (stop overflow)) at (omega (arith, length-drop at s, ap length e)), refl)
+  written-worked [] st (suc most) at l h w e = (st, at, toEnd-end s st (workAndMore s most st) at (omega (arith, length-drop at s, ap length e)), refl)
   written-worked (x ∷ xs) st zero at l h w e = absurd (omega arith)
   written-worked (x ∷ xs) st (suc most) at l h w e =
       rw (toEnd-more s st (workAndMore s most st) at (longer x at (writeSteps xs) e), worked st x at at (writeSteps xs) h (w .0) e)
-      (same-after s most xs (step x st) at (at + length (writeStep x)) λ st₁ k.
-      written-worked xs st₁ most (at + length (writeStep x)) (omega arith) (step-room x st st₁ h k) (w .1) (drop-past s at (writeStep x) (writeSteps xs) e))
+      (same-after s most xs st (step x (st .stack)) at (at + length (writeStep x)) λ a k.
+      written-worked xs (afterStep st a) most (at + length (writeStep x)) (omega arith) (step-room x (st .stack) a h k) (w .1) (drop-past s at (writeStep x) (writeSteps xs) e))
 
   -- Read to the end, they are given back.
-  pub written-skims : (xs : List Step) (h most at : ℕ) → length xs ≤ most → Heights xs h → All StepWithin xs → drop at s ≡ writeSteps xs → (n : ℕ) × (skimFrom s most h at ≡ got xs n)
-  unfolding writeSteps skimFrom
-  written-skims [] h zero at l k w e = (at, toEnd-end s [] (here (stop overflow)) at (omega (arith, length-drop at s, ap length e)))
-  written-skims [] h (suc most) at l k w e = (at, toEnd-end s [] (stepAndMore s most h) at (omega (arith, length-drop at s, ap length e)))
-  written-skims (x ∷ xs) h zero at l k w e = absurd (omega arith)
-  written-skims (x ∷ xs) h (suc most) at l k w e =
-      let (n, r) = written-skims xs (leaves (opcodeOf x) h) most (at + length (writeStep x)) (omega arith) (k .2) (w .1) (drop-past s at (writeStep x) (writeSteps xs) e) in
-      (n, toEnd-more s [] (stepAndMore s most h) at (longer x at (writeSteps xs) e) ∙ rw (reads-step s x h at (w .0) (k .0) (k .1) .run at (writeSteps xs) e, r))
+  pub written-skims : (xs : List Step) (st : State ℕ) (most at : ℕ) → length xs ≤ most → Heights xs (st .stack) → All StepWithin xs → drop at s ≡ writeSteps xs
+      → (n : ℕ) × (skimMore s most st at ≡ got xs n)
+  unfolding writeSteps skimMore
+  written-skims [] st zero at l k w e = (at, toEnd-end s [] (here (stop overflow)) at (omega (arith, length-drop at s, ap length e)))
+  written-skims [] st (suc most) at l k w e = (at, toEnd-end s [] (stepAndMore s most st) at (omega (arith, length-drop at s, ap length e)))
+  written-skims (x ∷ xs) st zero at l k w e = absurd (omega arith)
+  written-skims (x ∷ xs) st (suc most) at l k w e =
+      let (n, r) = written-skims xs (afterStep st (leaves (opcodeOf x) (st .stack))) most (at + length (writeStep x)) (omega arith) (k .2) (w .1) (drop-past s at (writeStep x) (writeSteps xs) e) in
+      (n, toEnd-more s [] (stepAndMore s most st) at (longer x at (writeSteps xs) e) ∙ rw (reads-step s x (st .stack) at (w .0) (k .0) (k .1) .run at (writeSteps xs) e, r))
 
 -- ---- steps are told by their bytes
-
-takes-few : (c : Opcode) → takes c ≤ 2
-takes-few aPut = omega arith
-takes-few aRow = omega arith
-takes-few aPervading = omega arith
-takes-few aJoin = omega arith
-takes-few aValidating = omega arith
 
 pub writeSteps-same : (xs ys : List Step) → All StepWithin xs → All StepWithin ys → writeSteps xs ≡ writeSteps ys → xs ≡ ys
 unfolding writeSteps
@@ -162,7 +157,7 @@ writeSteps-same [] [] v w e = refl
 writeSteps-same [] (y ∷ ys) v w e = absurd (omega (arith, longer [] y 0 (writeSteps ys) e))
 writeSteps-same (x ∷ xs) [] v w e = absurd (omega (arith, longer [] x 0 (writeSteps xs) (sym e)))
 writeSteps-same (x ∷ xs) (y ∷ ys) v w e =
-    let a = reads-step (writeStep x ++ writeSteps xs) x 2 0 (v .0) (takes-few (opcodeOf x)) (omega (arith, takes-few (opcodeOf x))) .run 0 (writeSteps xs) refl in
-    let b = reads-step (writeStep x ++ writeSteps xs) y 2 0 (w .0) (takes-few (opcodeOf y)) (omega (arith, takes-few (opcodeOf y))) .run 0 (writeSteps ys) e in
+    let a = reads-step (writeStep x ++ writeSteps xs) x 2 0 (v .0) (takes-few (opcodeOf x)) (omega (arith, takes-few (opcodeOf x), lays-few (opcodeOf x))) .run 0 (writeSteps xs) refl in
+    let b = reads-step (writeStep x ++ writeSteps xs) y 2 0 (w .0) (takes-few (opcodeOf y)) (omega (arith, takes-few (opcodeOf y), lays-few (opcodeOf y))) .run 0 (writeSteps ys) e in
     let z : x ≡ y = cc in
     rw (z, writeSteps-same xs ys (v .1) (w .1) (append-cancel-left (writeStep y) (writeSteps xs) (writeSteps ys) (rw z at e)))

@@ -17,7 +17,8 @@ use Rattle.format.specs.ReadWrite.{read-write}
 use Rattle.format.specs.Outcome.{accepted}
 use Rattle.machine.specs.SheetLimits.{maxSteps, maxStack}
 use Rattle.machine.specs.Steps.{Step, Opcode, aPut, aRow, aPervading, aJoin, aValidating, opcodeOf, markOf, opcodes, takes, leaves, flagByte, maxFlag, fillsTop, fillsBelow, writeArgument, writeStep, writeSteps, StepWithin, SheetOf}
-use Rattle.machine.specs.Sheet.{isMark, opcodeIn, opcodeFrom, argumentFrom, stepFrom, toEnd, skimFrom, outcomeOf, skim}
+use Rattle.machine.specs.Run.{State, fresh, afterStep}
+use Rattle.machine.specs.Sheet.{isMark, opcodeIn, opcodeFrom, argumentFrom, stepFrom, toEnd, skimMore, skimFrom, outcomeOf, skim}
 use Rattle.machine.specs.WellFormed.{Heights}
 
 -- ---- marks and flags
@@ -113,10 +114,10 @@ ended-or {A = A} {C = C} s a more at {b} {n} e k l = go (ltb at (length s)) refl
     go false h e = k (ltb-false at (length s) h) (cc) (cc)
 
 -- a step, and at most `most` after it
-abbrev pub stepAndMore : List ℕ → ℕ → ℕ → Reader (List Step)
-stepAndMore s most h = do
-  x ← here (stepFrom s h)
-  xs ← skimFrom s most (leaves (opcodeOf x) h)
+abbrev pub stepAndMore : List ℕ → ℕ → State ℕ → Reader (List Step)
+stepAndMore s most st = do
+  x ← here (stepFrom s (st .stack))
+  xs ← skimMore s most (afterStep st (leaves (opcodeOf x) (st .stack)))
   give (x ∷ xs)
 
 -- What is known of steps that were read from height h on to the end.
@@ -128,21 +129,21 @@ pub record Took-steps (s : List ℕ) (most h at : ℕ) (xs : List Step) (n : ℕ
   pub ended : length s ≤ n
 
 module _ (s : List ℕ) (small : Bytes s) where
-  pub took-steps : (most h at : ℕ) (xs : List Step) (n : ℕ) → skimFrom s most h at ≡ got xs n → Took-steps s most h at xs n
-  unfolding skimFrom writeSteps
-  took-steps zero h at xs n e =
+  pub took-steps : (most : ℕ) (st : State ℕ) (at : ℕ) (xs : List Step) (n : ℕ) → skimMore s most st at ≡ got xs n → Took-steps s most (st .stack) at xs n
+  unfolding skimMore writeSteps
+  took-steps zero st at xs n e =
       ended-or s [] (here (stop overflow)) at e
       (λ end x y. rw (← x, ← y) record { bytes = took-none; within = tt; heights = tt; few = omega arith; ended = end })
       (λ _ e₁. let z : _≡_ {A = ℕ} 0 1 = cc in absurd (omega arith))
-  took-steps (suc most) h at xs n e =
-      ended-or s [] (stepAndMore s most h) at e
+  took-steps (suc most) st at xs n e =
+      ended-or s [] (stepAndMore s most st) at e
       (λ end x y. rw (← x, ← y) record { bytes = took-none; within = tt; heights = tt; few = omega arith; ended = end })
       (λ _ e₁.
-      split (stepFrom s h at at) e₁ λ x m e₂ e₃.
-      split (skimFrom s most (leaves (opcodeOf x) h) m) e₃ λ ys n′ e₄ e₅.
+      split (stepFrom s (st .stack) at at) e₁ λ x m e₂ e₃.
+      split (skimMore s most (afterStep st (leaves (opcodeOf x) (st .stack))) m) e₃ λ ys n′ e₄ e₅.
       gave e₅ λ w y.
-      let k = took-step s small h at at x m e₂ in
-      let r = took-steps most (leaves (opcodeOf x) h) m ys n′ e₄ in
+      let k = took-step s small (st .stack) at at x m e₂ in
+      let r = took-steps most (afterStep st (leaves (opcodeOf x) (st .stack))) m ys n′ e₄ in
       let few = r .few in
       rw (← w, ← y) record {
         bytes = took-join (k .bytes) (r .bytes);
@@ -154,12 +155,12 @@ module _ (s : List ℕ) (small : Bytes s) where
 
 -- Steps that were read to the end are all of the bytes.
 pub skim-took : (s : List ℕ) → Bytes s → (xs : List Step) → skim s ≡ accepted xs → SheetOf s xs × Heights xs 0
-unfolding skim
-skim-took s small xs e = go (skimFrom s maxSteps 0 0) refl e
+unfolding skim skimFrom
+skim-took s small xs e = go (skimMore s maxSteps (fresh 0) 0) refl e
   where
-    go : (r : Read (List Step)) → skimFrom s maxSteps 0 0 ≡ r → outcomeOf r ≡ accepted xs → SheetOf s xs × Heights xs 0
+    go : (r : Read (List Step)) → skimMore s maxSteps (fresh 0) 0 ≡ r → outcomeOf r ≡ accepted xs → SheetOf s xs × Heights xs 0
     go (stopped k p) h e = let z : _≡_ {A = ℕ} 0 1 = cc in absurd (omega arith)
     go (got ys n) h e =
         let w : ys ≡ xs = cc in
-        let t = took-steps s small maxSteps 0 0 ys n h in
+        let t = took-steps s small maxSteps (fresh 0) 0 ys n h in
         rw (← w) (record { bytes = t .bytes .is ∙ rw (drop-of-length-le s (t .ended), append-nil); within = t .within; few = t .few }, t .heights)

@@ -1,4 +1,4 @@
--- The types on the stack keep every limit: what is put does, and no rule leaves them. So the types left can be written, 4,992 bytes
+-- The types on the stack keep every limit: what is put does, and no rule leaves them. So the types left can be written, `maxBytes`
 -- suffice for each, and their bytes tell them.
 use Prim.Native.Nat.{ℕ, _*_, _≤_, max}
 use native.Mathlib.Omega.{arith}

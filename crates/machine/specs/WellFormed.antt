@@ -1,11 +1,11 @@
 -- Well-formed sheets (document 01, "The sheet, added"): read to the end, rule refusals passed over, a sheet meets none of 1 to 5,
--- 11 and 12, and both buffers hold 39,936 bytes. The types left are counted on that reading.
+-- 11 and 12, and both buffers hold the bytes that are asked for. The types left are counted on that reading.
 use Prim.Native.Nat.{ℕ, _≤_}
 use mathlib.Core.List.{List, [], _∷_}
 use mathlib.Core.Path.{_≡_}
 use lib.ListN.{length}
 use Rattle.format.specs.Outcome.{accepted}
-use Rattle.machine.specs.SheetLimits.{maxStack, scratchBytes}
+use Rattle.machine.specs.SheetLimits.{maxStack, scratchBytes, resultBytes}
 use Rattle.machine.specs.Steps.{Step, opcodeOf, takes, leaves}
 use Rattle.machine.specs.Sheet.{skim}
 
@@ -13,7 +13,7 @@ use Rattle.machine.specs.Sheet.{skim}
 -- refusals are 1 to 5, 11 and 12 (`demand`: `skim-numbered`), so that it meets none of them if it is accepted.
 pub record WellFormed (s result scratch : List ℕ) (xs : List Step) : Type 0 where
   pub read : skim s ≡ accepted xs
-  pub result-holds : scratchBytes ≤ length result
+  pub result-holds : resultBytes ≤ length result
   pub scratch-holds : scratchBytes ≤ length scratch
 
 -- The height that steps leave of height h; from the empty stack, the number of types left.

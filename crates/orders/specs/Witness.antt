@@ -10,13 +10,13 @@ use lib.ListN.{length, replicate, getElem?, length-append, length-map, length-re
 use lib.Dec.{ltb}
 use borrow.Author.Tests.{ltb-true, ltb-false}
 use Rattle.model.specs.Types.{Dim, static, unknown, Shape, shape, shapeOf}
 use Rattle.machine.specs.Steps.{Step, put, row, pervading, join, validating}
 use Rattle.machine.specs.Real.{RealShape, fits, Feeds, FitsPuts, theTop}
-use Rattle.machine.specs.Fitting.{FitAll, Follows, Fits, of-fits}
-use Rattle.machine.specs.Cells.{unnamed, differ, named, cellOf, joinNamed-comm, real-sure}
-use Rattle.machine.specs.Play.{laid}
-use Rattle.machine.specs.PlaySteps.{moves, feedMoves}
-use Rattle.machine.specs.Asked.{openingOf, namedAt, asked, realAt, realAsked}
+use Rattle.holding.specs.Fitting.{FitAll, Follows, Fits, of-fits}
+use Rattle.orders.specs.Cells.{unnamed, differ, named, cellOf, joinNamed-comm, real-sure}
+use Rattle.orders.specs.Play.{laid}
+use Rattle.orders.specs.PlaySteps.{moves, feedMoves}
+use Rattle.orders.specs.Asked.{openingOf, namedAt, asked, realAt, realAsked}
 
 -- ---- the real shapes
 

@@ -10,9 +10,9 @@ use borrow.Author.Tests.{eqb-true, eqb-false}
 use Rattle.model.specs.Types.{Dim, static, unknown, Shape, shape}
 use Rattle.rules.specs.Pervade.{againstAbsent, together, Pervaded, sizes, clash, pervadeDims, pervadeClosing, closedBy, pervade}
 use Rattle.rules.specs.PervadeLaws.{together-unknown, together-unfilled, together-comm, thenRest-sizes, pervadeDims-comm}
 use Rattle.machine.specs.Real.{RealShape, fits, realDim, consBoth, realPervade}
-use Rattle.machine.specs.Fitting.{Fit}
-use Rattle.machine.specs.Bare.{isOpen, BareClosing, Bare, Rest, Begins, begins-of, of-begins}
+use Rattle.holding.specs.Fitting.{Fit}
+use Rattle.holding.specs.Bare.{isOpen, BareClosing, Bare, Rest, Begins, begins-of, of-begins}
 
 -- ---- real pervading
 

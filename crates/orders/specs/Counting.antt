@@ -4,8 +4,8 @@ use native.Mathlib.Omega.{arith}
 use mathlib.Core.Bool.{Bool, true, false, cond}
 use mathlib.Core.List.{List, [], _∷_}
 use mathlib.Core.Path.{_≡_, refl, sym, _∙_, ap}
 use Rattle.machine.specs.Conditions.{count}
-use Rattle.machine.specs.Play.{gather, Commutes}
+use Rattle.orders.specs.Play.{gather, Commutes}
 
 module _ {A : Type 0} (same : A → A → Bool) (same-refl : (a : A) → same a a ≡ true) (same-true : (a b : A) → same a b ≡ true → a ≡ b) where
   -- a list without the first a in it

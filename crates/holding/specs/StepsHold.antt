@@ -18,16 +18,15 @@ use Rattle.rules.specs.Types.{firstField, rowScalar, rowBy, joinTypes}
 use Rattle.validation.specs.CheckShape.{unsided}
 use Rattle.validation.specs.Validate.{validate}
 use Rattle.validation.specs.ValidateLaws.{validate-shape}
 use Rattle.machine.specs.SheetLimits.{maxStack}
 use Rattle.machine.specs.Steps.{Step, put, row, pervading, join, validating}
 use Rattle.machine.specs.Run.{gives, following, orRefuses, aside, Stack, pervadeTypes, step, steps}
 use Rattle.machine.specs.Real.{RealShape, fits, Holds, realPervade, Feed, Feeds, realRow, keeps, ontoReal, realStep, goesOn, realRun, FitsPut, FitsPuts}
 use Rattle.machine.specs.Conditions.{namesClosing, NamesNoClosing, FillsNothing, JoinsAlike, Along}
-use Rattle.machine.specs.Bare.{Bare}
-use Rattle.machine.specs.PervadeHolds.{pervade-holds}
-use Rattle.machine.specs.RulesHold.{row-holds, join-holds, merge-holds}
-use Rattle.machine.specs.PlaySteps.{unfilled}
-use Rattle.machine.specs.RunLaws.{following-gives, orRefuses-gives, aside-gives, cond-gives}
+use Rattle.holding.specs.Bare.{Bare}
+use Rattle.holding.specs.PervadeHolds.{pervade-holds}
+use Rattle.holding.specs.RulesHold.{row-holds, join-holds, merge-holds}
+use Rattle.machine.specs.RunLaws.{unfilled, following-gives, orRefuses-gives, aside-gives, cond-gives}
 
 -- Each type holds the real shape beside it, and names no closing size.
 abbrev pub Held : Stack → List RealShape → Type 0

@@ -11,9 +11,9 @@ use lib.Dec.{eqb}
 use Rattle.model.specs.Types.{Dim, static, unknown}
 use Rattle.rules.specs.Pervade.{againstAbsent, together, Pervaded, sizes, clash, thenRest, pervadeDims}
 use Rattle.rules.specs.PervadeLaws.{together-unknown, together-unfilled, together-comm, thenRest-sizes}
 use Rattle.machine.specs.Real.{RealShape, realDim, consBoth, realPervade}
-use Rattle.machine.specs.Cells.{unnamed, differ, cell, named, joinNamed, joinCell, cellStatic, cellOf, namedBy, joinNamed-comm, joinCell-comm}
-use Rattle.machine.specs.PervadeHolds.{consBoth-some}
+use Rattle.orders.specs.Cells.{unnamed, differ, cell, named, joinNamed, joinCell, cellStatic, cellOf, namedBy, joinNamed-comm, joinCell-comm}
+use Rattle.holding.specs.PervadeHolds.{consBoth-some}
 
 -- ---- pervading joins cells
 

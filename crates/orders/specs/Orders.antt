@@ -10,17 +10,17 @@ use Rattle.model.specs.Types.{Shape, shape, Ty, shapeOf}
 use Rattle.rules.specs.Sizes.{Order, less, same, more}
 use Rattle.rules.specs.Order.{compare}
 use Rattle.rules.specs.OrderLaws.{compare-refl, compare-same}
 use Rattle.machine.specs.Steps.{Step}
 use Rattle.machine.specs.Run.{gives, refuses, steps}
 use Rattle.machine.specs.Conditions.{namesClosing, puts, isSame, sameType, SamePuts, countClosing}
-use Rattle.machine.specs.Cells.{named, cells-same}
-use Rattle.machine.specs.Play.{Commutes, gather, laid}
-use Rattle.machine.specs.PlaySteps.{moves, laid-moves}
-use Rattle.machine.specs.Asked.{cell-commutes, openingOf, closingOf, cellAt, said, asked, asked-said}
-use Rattle.machine.specs.Verdicts.{Pervadings, Checked, agrees, differs, checked, agreed}
-use Rattle.machine.specs.Endings.{endingOf, close, ending-commutes, endings, endings-add}
-use Rattle.machine.specs.EndingsPlay.{endingsOf, closing-told}
-use Rattle.machine.specs.Counting.{gather-counts}
+use Rattle.orders.specs.Cells.{named, cells-same}
+use Rattle.orders.specs.Play.{Commutes, gather, laid}
+use Rattle.orders.specs.PlaySteps.{moves, laid-moves}
+use Rattle.orders.specs.Asked.{cell-commutes, openingOf, closingOf, cellAt, said, asked, asked-said}
+use Rattle.orders.specs.Verdicts.{Pervadings, Checked, agrees, differs, checked, agreed}
+use Rattle.orders.specs.Endings.{endingOf, close, ending-commutes, endings, endings-add}
+use Rattle.orders.specs.EndingsPlay.{endingsOf, closing-told}
+use Rattle.orders.specs.Counting.{gather-counts}
 
 -- ---- the same puts gather to the same
 

@@ -13,10 +13,10 @@ use Rattle.model.specs.Types.{Dim, static, unknown, Shape, shape}
 use Rattle.rules.specs.Sizes.{joinDim}
 use Rattle.rules.specs.Shapes.{rowShape, mergeDims, mergeClosing, mergeFrom, joinDims, joinEnds, joinClosing, joinShapes}
 use Rattle.rules.specs.SizesLaws.{larger-either}
 use Rattle.machine.specs.Real.{RealShape, fits, realRow, Kept, theTop, theOneBelow, keeps}
 use Rattle.machine.specs.Conditions.{Alike}
-use Rattle.machine.specs.Fitting.{Fit}
-use Rattle.machine.specs.Bare.{isOpen, BareClosing, Bare, Rest, Begins, begins-of, of-begins}
+use Rattle.holding.specs.Fitting.{Fit}
+use Rattle.holding.specs.Bare.{isOpen, BareClosing, Bare, Rest, Begins, begins-of, of-begins}
 
 -- ---- row
 

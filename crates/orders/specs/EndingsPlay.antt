@@ -8,10 +8,10 @@ use mathlib.Core.Option.{some}
 use mathlib.Core.Path.{_≡_, sym, _∙_, ap}
 use Rattle.model.specs.Types.{Shape, shape}
 use Rattle.rules.specs.Pervade.{pervadeDims, pervadeClosing, pervade}
-use Rattle.machine.specs.PervadeHolds.{closedBy-some}
-use Rattle.machine.specs.Play.{Move, lay, mix, laid, mixed-some, play, gather, past-first}
-use Rattle.machine.specs.Asked.{closingOf}
-use Rattle.machine.specs.Endings.{Ending, addEnding, noEnding, endingOf, close, ending-commutes, endings, endings-add, close-add, close-of}
+use Rattle.holding.specs.PervadeHolds.{closedBy-some}
+use Rattle.orders.specs.Play.{Move, lay, mix, laid, mixed-some, play, gather, past-first}
+use Rattle.orders.specs.Asked.{closingOf}
+use Rattle.orders.specs.Endings.{Ending, addEnding, noEnding, endingOf, close, ending-commutes, endings, endings-add, close-add, close-of}
 
 abbrev total : List Ending → Ending
 total l = gather noEnding addEnding (λ g. g) l

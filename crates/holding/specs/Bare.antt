@@ -5,8 +5,8 @@ use mathlib.Core.List.{List, [], _∷_, append-nil}
 use mathlib.Core.Option.{Option, none, some}
 use mathlib.Core.Path.{_≡_, refl, sym}
 use Rattle.model.specs.Types.{Dim, Shape, shape}
 use Rattle.machine.specs.Real.{RealShape, fits}
-use Rattle.machine.specs.Fitting.{Fit, Fits, fits-of, of-fits}
+use Rattle.holding.specs.Fitting.{Fit, Fits, fits-of, of-fits}
 
 abbrev pub isOpen : Option (List Dim) → Bool
 isOpen none = false

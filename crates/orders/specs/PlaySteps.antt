@@ -1,8 +1,8 @@
 -- Puts and unfilled pervadings as moves: what the steps do to the shapes of the types, and the real run to the real shapes, is the
 -- same play with two different rules.
-use Prim.Native.Nat.{ℕ, suc, _-_}
+use Prim.Native.Nat.{ℕ, suc, _+_, _-_}
 use native.Mathlib.Omega.{arith}
-use mathlib.Core.Bool.{Bool, true, false}
+use mathlib.Core.Bool.{false}
 use mathlib.Core.List.{List, [], _∷_, map}
 use mathlib.Core.Option.{Option, none, some}
 use mathlib.Core.Path.{_≡_, refl, ap}
@@ -12,19 +12,13 @@ use Rattle.model.specs.Types.{Shape, ty, shapeOf}
 use Rattle.model.specs.Within.{All}
 use Rattle.rules.specs.Pervade.{pervade}
 use Rattle.rules.specs.Scalars.{union}
-use Rattle.machine.specs.Steps.{Step, put, row, pervading, join, validating, flagByte}
+use Rattle.machine.specs.Steps.{Step, put, row, pervading, join, validating}
 use Rattle.machine.specs.Run.{Answer, gives, refuses, following, orRefuses, Stack, onto, steps}
 use Rattle.machine.specs.WellFormed.{heightAfter, Heights}
 use Rattle.machine.specs.Real.{RealShape, realPervade, Feeds, realStep, ontoReal, goesOn, realRun}
 use Rattle.machine.specs.Conditions.{PutOrPervade, puts}
-use Rattle.machine.specs.Play.{Move, lay, mix, laid, Enough, heightLeft, mixed, play}
-use Rattle.machine.specs.RunLaws.{step-put, pervadeTypes-is, step-pervading}
-
--- a flag byte 0 fills neither side
-pub unfilled : (f g : Bool) → flagByte f g ≡ 0 → (f ≡ false) × (g ≡ false)
-unfilled false false h = (refl, refl)
-unfilled true g h = absurd (omega arith)
-unfilled false true h = absurd (omega arith)
+use Rattle.orders.specs.Play.{Move, lay, mix, laid, Enough, heightLeft, mixed, play}
+use Rattle.machine.specs.RunLaws.{unfilled, step-put, pervadeTypes-is, step-pervading}
 
 -- ---- shapes
 
@@ -56,13 +50,13 @@ pub steps-play : (xs : List Step) (st : Stack) → All PutOrPervade xs → Heigh
 unfolding steps play
 steps-play [] st p h = refl
 steps-play (put t ∷ xs) st p h =
-    let n : suc (length st - 0) ≡ suc (length st) = omega arith in
+    let n : length st - 0 + 1 ≡ suc (length st) = omega arith in
     rw (step-put t st (omega (arith, h .1))) (steps-play xs (t ∷ st) (p .1) (rw n at (h .2)))
 steps-play (row ∷ xs) st p h = absurd (p .0)
 steps-play (pervading f g ∷ xs) [] p h = absurd (omega (arith, h .0))
 steps-play (pervading f g ∷ xs) (t ∷ []) p h = absurd (omega (arith, h .0))
 steps-play (pervading f g ∷ xs) (ty s k ∷ ty t l ∷ st) p h =
-    let n : suc (suc (suc (length st)) - 2) ≡ suc (length st) = omega arith in
+    let n : suc (suc (length st)) - 2 + 1 ≡ suc (length st) = omega arith in
     let (a, b) = unfilled f g (p .0) in
     rw (a, b, step-pervading false false (ty s k) (ty t l) st, pervadeTypes-is false false s t k l) (go (pervade false false s t) (λ x. steps-play xs (ty x (union k l) ∷ st) (p .1) (rw n at (h .2))))
   where
@@ -74,11 +68,11 @@ steps-play (validating spec ∷ xs) st p h = absurd (p .0)
 
 pub enough-moves : (xs : List Step) (h : ℕ) → All PutOrPervade xs → Heights xs h → Enough (moves xs) h × (heightLeft (moves xs) h ≡ heightAfter xs h)
 enough-moves [] h p k = (tt, refl)
-enough-moves (put t ∷ xs) h p k = let n : suc (h - 0) ≡ suc h = omega arith in rw n (enough-moves xs (suc h) (p .1) (rw n at (k .2)))
+enough-moves (put t ∷ xs) h p k = let n : h - 0 + 1 ≡ suc h = omega arith in rw n (enough-moves xs (suc h) (p .1) (rw n at (k .2)))
 enough-moves (row ∷ xs) h p k = absurd (p .0)
 enough-moves (pervading f g ∷ xs) h p k =
     let l = k .0 in
-    let n : suc (h - 2) ≡ h - 1 = omega arith in
+    let n : h - 2 + 1 ≡ h - 1 = omega arith in
     let (a, b) = enough-moves xs (h - 1) (p .1) (rw n at (k .2)) in
     ((l, a), rw n b)
 enough-moves (join ∷ xs) h p k = absurd (p .0)
@@ -111,11 +105,11 @@ real-play (validating spec ∷ xs) f rs p = absurd (p .0)
 
 pub enough-feeds : (xs : List Step) (f : Feeds xs) (h : ℕ) → All PutOrPervade xs → Heights xs h → Enough (feedMoves xs f) h × (heightLeft (feedMoves xs f) h ≡ heightAfter xs h)
 enough-feeds [] f h p k = (tt, refl)
-enough-feeds (put t ∷ xs) f h p k = let n : suc (h - 0) ≡ suc h = omega arith in rw n (enough-feeds xs (f .1) (suc h) (p .1) (rw n at (k .2)))
+enough-feeds (put t ∷ xs) f h p k = let n : h - 0 + 1 ≡ suc h = omega arith in rw n (enough-feeds xs (f .1) (suc h) (p .1) (rw n at (k .2)))
 enough-feeds (row ∷ xs) f h p k = absurd (p .0)
 enough-feeds (pervading a b ∷ xs) f h p k =
     let l = k .0 in
-    let n : suc (h - 2) ≡ h - 1 = omega arith in
+    let n : h - 2 + 1 ≡ h - 1 = omega arith in
     let (c, d) = enough-feeds xs (f .1) (h - 1) (p .1) (rw n at (k .2)) in
     ((l, c), rw n d)
 enough-feeds (join ∷ xs) f h p k = absurd (p .0)

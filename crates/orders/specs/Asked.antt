@@ -9,14 +9,14 @@ use mathlib.Core.Path.{_≡_, refl, sym, _∙_, ap}
 use lib.ListN.{getElem?}
 use Rattle.model.specs.Types.{Dim, static, unknown, Shape, shape, shapeOf}
 use Rattle.rules.specs.Pervade.{Pervaded, sizes, clash, pervadeDims, pervadeClosing, closedBy, pervade}
 use Rattle.machine.specs.Steps.{Step, put, row, pervading, join, validating}
 use Rattle.machine.specs.Real.{RealShape, fits, realPervade, Feeds, FitsPuts}
-use Rattle.machine.specs.Fitting.{Fits, fits-of}
-use Rattle.machine.specs.PervadeHolds.{closedBy-some}
-use Rattle.machine.specs.Cells.{Named, unnamed, differ, Cell, cell, named, joinNamed, joinCell, cellOf, namedBy, joinNamed-idem, joinNamed-comm, joinNamed-assoc, joinCell-comm, joinCell-assoc, named-join}
-use Rattle.machine.specs.CellsPervade.{cell-pervade, differ-pervade, named-realPervade, differ-realPervade}
-use Rattle.machine.specs.Play.{Commutes, Joins, gather, laid}
-use Rattle.machine.specs.PlaySteps.{moves, feedMoves}
+use Rattle.holding.specs.Fitting.{Fits, fits-of}
+use Rattle.holding.specs.PervadeHolds.{closedBy-some}
+use Rattle.orders.specs.Cells.{Named, unnamed, differ, Cell, cell, named, joinNamed, joinCell, cellOf, namedBy, joinNamed-idem, joinNamed-comm, joinNamed-assoc, joinCell-comm, joinCell-assoc, named-join}
+use Rattle.orders.specs.CellsPervade.{cell-pervade, differ-pervade, named-realPervade, differ-realPervade}
+use Rattle.orders.specs.Play.{Commutes, Joins, gather, laid}
+use Rattle.orders.specs.PlaySteps.{moves, feedMoves}
 
 pub named-commutes : Commutes unnamed joinNamed
 named-commutes = record { unital = λ x. refl; comm = joinNamed-comm; assoc = joinNamed-assoc }

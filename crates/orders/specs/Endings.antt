@@ -8,9 +8,9 @@ use mathlib.Core.Option.{Option, none, some}
 use mathlib.Core.Path.{_≡_, refl, sym}
 use Rattle.model.specs.Types.{Dim, Shape}
 use Rattle.rules.specs.Pervade.{pervadeClosing}
-use Rattle.machine.specs.Bare.{isOpen}
-use Rattle.machine.specs.Play.{Commutes}
-use Rattle.machine.specs.Asked.{closingOf}
+use Rattle.holding.specs.Bare.{isOpen}
+use Rattle.orders.specs.Play.{Commutes}
+use Rattle.orders.specs.Asked.{closingOf}
 
 -- ---- endings
 

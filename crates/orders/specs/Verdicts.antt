@@ -11,16 +11,16 @@ use Rattle.model.specs.Refusals.{unpervaded}
 use Rattle.model.specs.Types.{Shape, Ty, shapeOf}
 use Rattle.model.specs.Within.{All}
 use Rattle.rules.specs.Pervade.{pervade}
 use Rattle.machine.specs.Steps.{Step}
 use Rattle.machine.specs.Run.{Answer, gives, refuses, Stack, steps}
 use Rattle.machine.specs.WellFormed.{typesLeft, Heights}
 use Rattle.machine.specs.Real.{RealShape, realPervade, Feeds, realRun, Through}
-use Rattle.machine.specs.Cells.{unnamed, differ, named, cell, cell-sure, real-sure}
-use Rattle.machine.specs.Play.{laid, play, gather-play, play-one}
+use Rattle.orders.specs.Cells.{unnamed, differ, named, cell, cell-sure, real-sure}
+use Rattle.orders.specs.Play.{laid, play, gather-play, play-one}
 use Rattle.machine.specs.Conditions.{PutOrPervade}
-use Rattle.machine.specs.PlaySteps.{moves, shapes, verdict, steps-play, enough-moves, feedMoves, real-play, enough-feeds}
-use Rattle.machine.specs.Asked.{named-commutes, cell-commutes, openingOf, cellAt, said, asked, asked-said, pervade-cell, pervade-joins, realAt, realAsked, realPervade-joins, asked-differ}
-use Rattle.machine.specs.Witness.{witness, fits-witness, bound, witness-agrees}
+use Rattle.orders.specs.PlaySteps.{moves, shapes, verdict, steps-play, enough-moves, feedMoves, real-play, enough-feeds}
+use Rattle.orders.specs.Asked.{named-commutes, cell-commutes, openingOf, cellAt, said, asked, asked-said, pervade-cell, pervade-joins, realAt, realAsked, realPervade-joins, asked-differ}
+use Rattle.orders.specs.Witness.{witness, fits-witness, bound, witness-agrees}
 
 -- A list of steps that the second half of demand 3 is about.
 pub record Pervadings (xs : List Step) : Type 0 where

@@ -1,0 +1,5 @@
+pub mod Fitting
+pub mod Bare
+pub mod PervadeHolds
+pub mod RulesHold
+pub mod StepsHold

@@ -1,0 +1,11 @@
+pub mod Cells
+pub mod CellsPervade
+pub mod Play
+pub mod PlaySteps
+pub mod Asked
+pub mod Witness
+pub mod Verdicts
+pub mod Endings
+pub mod EndingsPlay
+pub mod Counting
+pub mod Orders

@@ -7,7 +7,7 @@ use Rattle.model.specs.Refusals.{underflow, overflow}
 use Rattle.format.specs.Reader.{got, stopped}
 use Rattle.format.specs.Records.{readType}
 use Rattle.machine.specs.SheetLimits.{maxStack}
-use Rattle.machine.specs.Steps.{row, join, aPut, aRow, aPervading, aJoin, aValidating, takes}
+use Rattle.machine.specs.Steps.{row, join, aPut, aRow, aPervading, aJoin, aValidating, takes, lays}
 use Rattle.machine.specs.Sheet.{opcodeFrom, argumentFrom, stepFrom}
 use Rattle.machine.specs.SheetSteps.{step-unmarked, step-lacks, step-overfull, step-argument}
 use Rattle.cursor.specs.Answers.{opcodeFor, markedOf, fillsOf, TypeIs, StepIs}
@@ -80,8 +80,9 @@ module _ (s : List ℕ) (h at : ℕ) {m : MarkRead} (read : markedOf m at ≡ op
     pub step-low : h < taken → stepFrom s h at at ≡ stopped underflow at
     step-low l = step-lacks s h at at (opcodeFor c) next marked (omega (arith, some))
 
-    pub step-high : taken ≤ h → maxStack ≤ h - taken → stepFrom s h at at ≡ stopped overflow at
-    step-high l r = step-overfull s h at at (opcodeFor c) next marked (omega (arith, some)) (omega (arith, some))
+    module _ {laid : ℕ} (enough : taken ≤ h) (lay : (laid ≡ lays (opcodeFor c)) × (laid ≤ maxStack)) where
+      pub step-high : maxStack - laid < h - taken → stepFrom s h at at ≡ stopped overflow at
+      step-high r = step-overfull s h at at (opcodeFor c) next marked (omega (arith, some)) (omega (arith, some, lay .0, lay .1))
 
-    pub step-is : taken ≤ h → h - taken < maxStack → (d : Operation) (x : StepRead) → c ≡ d → StepIs x s (argumentFrom s (opcodeFor d) at next) → StepIs x s (stepFrom s h at at)
-    step-is l r d x same e = rw (step-argument s h at at (opcodeFor c) next marked (omega (arith, some)) (omega (arith, some)), same) e
+      pub step-is : h - taken ≤ maxStack - laid → (d : Operation) (x : StepRead) → c ≡ d → StepIs x s (argumentFrom s (opcodeFor d) at next) → StepIs x s (stepFrom s h at at)
+      step-is r d x same e = rw (step-argument s h at at (opcodeFor c) next marked (omega (arith, some)) (omega (arith, some, lay .0, lay .1)), same) e

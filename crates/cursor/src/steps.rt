@@ -15,7 +15,8 @@ use limits::refusal::OVERFLOW;
 use limits::refusal::UNDERFLOW;
 use stack::MAX_STACK;
 ghost use mathlib.Core.Path.{_≡_};
-ghost use Prim.Native.Nat.{ℕ};
+ghost use Prim.Native.Nat.{ℕ, _≤_};
+ghost use Rattle.machine.specs.SheetLimits.{maxStack};
 ghost use Rattle.machine.specs.Steps as steps;
 ghost use Rattle.machine.specs.Steps.{aPut, aPervading, aValidating};
 ghost use Rattle.machine.specs.Sheet.{argumentFrom, stepFrom};
@@ -39,7 +40,8 @@ pub fn read_step(s: &[u8], at: usize, height: usize) -> StepRead
             place: at,
         };
     }
-    if MAX_STACK <= height - taken {
+    let laid = lays(opcode);
+    if MAX_STACK - laid < height - taken {
         return StepRead::Refused {
             number: OVERFLOW,
             place: at,
@@ -63,6 +65,19 @@ fn takes(opcode: Operation) -> usize
         Operation::Row => 1,
         Operation::Pervading => 2,
         Operation::Join => 2,
+        Operation::Validating => 1,
+    }
+}
+
+// How many types it lays down.
+fn lays(opcode: Operation) -> usize
+    ensures { λ r. ⌜ (r ≡ steps.lays (opcodeFor opcode)) × (r ≤ maxStack) ⌝ }
+{
+    match opcode {
+        Operation::Put => 1,
+        Operation::Row => 1,
+        Operation::Pervading => 1,
+        Operation::Join => 1,
         Operation::Validating => 1,
     }
 }

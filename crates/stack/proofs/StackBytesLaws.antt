@@ -15,7 +15,7 @@ use Rattle.lent.specs.Over.{over, over-over, over-front}
 use Rattle.machine.specs.SheetLimits.{scratchBytes}
 use Rattle.machine.specs.Call.{writeTypes}
 use Rattle.stack.specs.Stack.{slotBytes, slots, Stacked, HasStack}
-use Rattle.stack.specs.StackLaws.{slot-ends}
+use Rattle.stack.specs.StackLaws.{length-slot}
 use Rattle.stack.specs.StackBytes.{stackBytes}
 
 -- ---- the types left
@@ -38,15 +38,9 @@ module _ (lengths : List ℕ) (count : ℕ) (d : List ℕ) where
   -- ---- their lengths
 
   module _ (has : HasStack lengths count d) where
-    slot-fits : (k : ℕ) → k < count → k * maxBytes + getD lengths k 0 ≤ length d
-    slot-fits k less = omega (arith, has .stacked .room, slot-ends lengths count d has k less)
-
-    length-slot : (k : ℕ) → k < count → length (slotBytes lengths d k) ≡ getD lengths k 0
-    length-slot k less = length-take-le (getD lengths k 0) (drop (k * maxBytes) d) (rw length-drop (omega (arith, slot-fits k less)))
-
     pub stack-more : (k : ℕ) → k < count → length (stackBytes lengths d (k + 1)) ≡ length (stackBytes lengths d k) + getD lengths k 0
     unfolding stackBytes
-    stack-more k less = rw add-one (length-append (stackBytes lengths d k) (slotBytes lengths d k) ∙ rw (length-slot k less))
+    stack-more k less = rw add-one (length-append (stackBytes lengths d k) (slotBytes lengths d k) ∙ rw (length-slot lengths count d has k less))
 
     pub total-more : (k : ℕ) → k < count → {size : ℕ} → size ≡ length (stackBytes lengths d k) → size + getD lengths k 0 ≡ length (stackBytes lengths d (k + 1))
     total-more k less e = omega (arith, stack-more k less)
@@ -67,7 +61,7 @@ module _ (lengths : List ℕ) (count : ℕ) (d : List ℕ) where
 
     -- the next of them has room where all have
     pub lay-fits : (k : ℕ) → k < count → {at room : ℕ} → at ≡ length (stackBytes lengths d k) → length (stackBytes lengths d count) ≤ room → at + length (slotBytes lengths d k) ≤ room
-    lay-fits k less e h = omega (arith, length-slot k less, stack-more k less, stack-within (k + 1) (omega arith))
+    lay-fits k less e h = omega (arith, length-slot lengths count d has k less, stack-more k less, stack-within (k + 1) (omega arith))
 
     -- the place after the next of them, whose bytes stand from start to end
     module _ (k : ℕ) (less : k < count) (start end : ℕ) {at : ℕ} (reached : at ≡ length (stackBytes lengths d k)) where
@@ -75,7 +69,7 @@ module _ (lengths : List ℕ) (count : ℕ) (d : List ℕ) where
         pub lay-adds : at + (end - start) ≡ length (stackBytes lengths d (k + 1))
         lay-adds =
             let n : end - start ≡ length (slotBytes lengths d k) = sym (length-take-le (end - start) (drop start d) (rw length-drop (omega (arith, has .stacked .room)))) ∙ ap length same in
-            omega (arith, length-slot k less, stack-more k less)
+            omega (arith, length-slot lengths count d has k less, stack-more k less)
 
         pub lay-stays : {room : ℕ} → length (stackBytes lengths d count) ≤ room → at + (end - start) ≤ room
         lay-stays h = omega (arith, lay-adds, stack-within (k + 1) (omega arith))

@@ -17,7 +17,11 @@ unfoldable pub slots : List ℕ → List ℕ → ℕ → List (List ℕ)
 slots lengths d zero = []
 slots lengths d (suc k) = slotBytes lengths d k ∷ slots lengths d k
 
--- The scratch holds these types, top first.
+-- how many bytes a type has
+abbrev pub size : Ty → ℕ
+size t = length (writeTy t)
+
+-- The scratch has these types, top first.
 pub record Stacked (lengths : List ℕ) (count : ℕ) (d : List ℕ) (ts : List Ty) : Type 0 where
   pub room : scratchBytes ≤ length d
   pub slotted : maxStack ≤ length lengths
@@ -26,7 +30,7 @@ pub record Stacked (lengths : List ℕ) (count : ℕ) (d : List ℕ) (ts : List 
   pub bytes : slots lengths d count ≡ map writeTy ts
   pub within : All Within ts
 
--- that it holds some
+-- that it has some
 pub record HasStack (lengths : List ℕ) (count : ℕ) (d : List ℕ) : Type 0 where
   pub types : List Ty
   pub stacked : Stacked lengths count d types

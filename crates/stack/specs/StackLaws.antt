@@ -1,21 +1,22 @@
--- What follows where a scratch holds types: how many, which stands where, and that a type stored over a slot leaves those below.
+-- What follows where a scratch has types: how many, which stands where, how long each is, and that a type stored over a slot leaves
+-- those below.
 use Prim.{tt}
 use Prim.Native.Nat.{ℕ, zero, suc, _+_, _-_, _*_, _≤_, _<_}
 use native.Mathlib.Omega.{arith}
 use native.Mathlib.Numerals.{add-one}
 use native.Mathlib.Nat.{eq-or-lt-of-le}
-use mathlib.Core.List.{List, [], _∷_, _++_, map, append-assoc}
+use mathlib.Core.List.{List, [], _∷_, _++_, map, reverse, reverseAux, append-assoc, append-nil}
 use mathlib.Core.Logic.{⊎-elim}
 use mathlib.Core.Path.{_≡_, refl, sym, _∙_, ap}
-use lib.ListN.{length, getD, take, drop, set, length-map, length-set}
-use lib.Seq.{length-take-le, take-take, take-add, drop-at, take-at, getD-set-same, getD-set-other}
+use lib.ListN.{length, getD, take, drop, set, length-map, length-set, length-drop}
+use lib.Seq.{length-take-le, take-suc, take-take, take-add, drop-at, take-at, getD-set-same, getD-set-other}
 use Rattle.model.specs.Limits.{maxBytes}
 use Rattle.model.specs.Types.{Ty}
 use Rattle.model.specs.Within.{All, Within}
 use Rattle.format.specs.Records.{writeTy}
 use Rattle.lent.specs.Over.{over, length-over}
 use Rattle.machine.specs.SheetLimits.{maxStack, scratchBytes}
-use Rattle.stack.specs.Stack.{slotBytes, slots, Stacked, HasStack}
+use Rattle.stack.specs.Stack.{slotBytes, slots, size, Stacked, HasStack}
 
 -- ---- none yet, whatever the scratch holds
 
@@ -55,8 +56,29 @@ module _ (lengths : List ℕ) (count : ℕ) (d : List ℕ) where
 
   -- ---- where its bytes are
 
-  pub slot-ends : HasStack lengths count d → (k : ℕ) → k < count → k * maxBytes + getD lengths k 0 ≤ scratchBytes
-  slot-ends has k less = omega (arith, has .stacked .few, has .stacked .short k less)
+  module _ (has : HasStack lengths count d) (k : ℕ) (less : k < count) where
+    pub slot-ends : k * maxBytes + getD lengths k 0 ≤ scratchBytes
+    slot-ends = omega (arith, has .stacked .few, has .stacked .short k less)
+
+    pub length-slot : length (slotBytes lengths d k) ≡ getD lengths k 0
+    length-slot = length-take-le (getD lengths k 0) (drop (k * maxBytes) d) (rw length-drop (omega (arith, has .stacked .room, slot-ends)))
+
+  -- ---- how long each is
+
+  sizes : HasStack lengths count d → (n : ℕ) → n ≤ count → (ts rest : List Ty) → slots lengths d n ≡ map writeTy ts → take n lengths ++ map size rest ≡ map size (reverseAux ts rest)
+  unfolding slots
+  sizes has zero h [] rest e = refl
+  sizes has zero h (t ∷ ts) rest e = let z : _≡_ {A = ℕ} 0 1 = cc in absurd (omega arith)
+  sizes has (suc n) h [] rest e = let z : _≡_ {A = ℕ} 0 1 = cc in absurd (omega arith)
+  sizes has (suc n) h (t ∷ ts) rest e =
+      let a : slotBytes lengths d n ≡ writeTy t = cc in
+      let b : slots lengths d n ≡ map writeTy ts = cc in
+      let c : getD lengths n 0 ≡ size t = sym (length-slot has n h) ∙ ap length a in
+      ap (λ l. l ++ map size rest) (take-suc lengths n 0 (omega (arith, has .stacked .slotted, has .stacked .few)))
+      ∙ append-assoc (take n lengths) (getD lengths n 0 ∷ []) (map size rest) ∙ rw c (sizes has n (omega arith) ts (t ∷ rest) b)
+
+  pub stacked-sizes : {ts : List Ty} → Stacked lengths count d ts → take count lengths ≡ map size (reverse ts)
+  stacked-sizes {ts} h = sym (append-nil (take count lengths)) ∙ sizes record { types = ts; stacked = h } count (omega arith) ts [] (h .bytes)
 
 -- ---- a type stored
 

@@ -20,7 +20,8 @@ use Rattle.machine.specs.Call.{Called, called, tally, writeTypes, zeroed, atFro
 use Rattle.stack.specs.Stack.{size, Stacked, HasStack}
 use Rattle.stack.specs.StackLaws.{stacked-sizes}
 use Rattle.run.specs.Answers.{InState, Works, Runs, calledOf}
-use Rattle.run.specs.declared.Reached.{Reached}
+use Rattle.run.specs.declared.Worked.{Worked}
+use Rattle.run.specs.declared.Ran.{Ran}
 use Rattle.run.specs.declared.Reached.the-variants.{At, Refused}
 use Rattle.run.specs.declared.SheetAnswer.{SheetAnswer}
 use Rattle.run.specs.declared.SheetAnswer.the-variants.{Accepted, Refused as Refuses}
@@ -41,18 +42,18 @@ module _ (s : List ℕ) (whole : Read (State Stack)) {lengths : List ℕ} {count
   going-end h = (g .state, g .same ∙ sheetFrom-end s (g .state) at h, g .here)
 
   -- one step more
-  module _ (few : taken < maxSteps) (more : at < length s) (a : Reached) (lengths₁ : List ℕ) (count₁ : ℕ) (d₁ : List ℕ) (works : Works a lengths₁ count₁ d₁ (workFrom s (g .state) at at)) where
-    pub going-step : {n : ℕ} → a ≡ At n → Going s whole lengths₁ count₁ d₁ (taken + 1) n
+  module _ (few : taken < maxSteps) (more : at < length s) (r : Worked) (lengths₁ d₁ : List ℕ) (works : Works (r .answer) lengths₁ (r .count) d₁ (workFrom s (g .state) at at)) where
+    pub going-step : {n : ℕ} → r .answer ≡ At n → Going s whole lengths₁ (r .count) d₁ (taken + 1) n
     going-step {n} is = go (rw is at works)
       where
-        go : Works (At n) lengths₁ count₁ d₁ (workFrom s (g .state) at at) → Going s whole lengths₁ count₁ d₁ (taken + 1) n
+        go : Works (At n) lengths₁ (r .count) d₁ (workFrom s (g .state) at at) → Going s whole lengths₁ (r .count) d₁ (taken + 1) n
         go (st, e, stacked) = record {
           state = st;
           here = record { stacked = stacked; steps = omega (arith, work-taken s (g .state) st at at n e, g .here .steps) };
           same = g .same ∙ sheetFrom-step s (g .state) at st n (omega (arith, g .here .steps)) more e;
         }
 
-    pub going-stop : {k p : ℕ} → a ≡ Refused k p → whole ≡ stopped k p
+    pub going-stop : {k p : ℕ} → r .answer ≡ Refused k p → whole ≡ stopped k p
     going-stop {k} {p} is = g .same ∙ sheetFrom-stop s (g .state) at k p (omega (arith, g .here .steps)) more (rw is at works)
 
 -- The same from whatever state the scratch had the stack of.
@@ -68,15 +69,15 @@ going-has s lengths₀ count₀ d₀ taken₀ has from =
 
 -- ---- what they come to
 
-module _ (s : List ℕ) (a : Reached) (count taken : ℕ) (lengths d : List ℕ) (runs : Runs a count taken lengths d (sheetFrom s (fresh []) 0)) where
-  pub run-left : {C : Type 0} {n : ℕ} → a ≡ At n → ((ts : Stack) → Stacked lengths count d ts → sheetRun s ≡ accepted (reverse ts) → C) → C
+module _ (s : List ℕ) (r : Ran) (lengths d : List ℕ) (runs : Runs (r .answer) (r .count) (r .taken) lengths d (sheetFrom s (fresh []) 0)) where
+  pub run-left : {C : Type 0} {n : ℕ} → r .answer ≡ At n → ((ts : Stack) → Stacked lengths (r .count) d ts → sheetRun s ≡ accepted (reverse ts) → C) → C
   unfolding sheetRun
   run-left {C} {n} is f = go (rw is at runs)
     where
-      go : Runs (At n) count taken lengths d (sheetFrom s (fresh []) 0) → C
+      go : Runs (At n) (r .count) (r .taken) lengths d (sheetFrom s (fresh []) 0) → C
       go (st, e, here) = f (st .stack) (here .stacked) (rw e)
 
-  pub run-refused : {k p : ℕ} → a ≡ Refused k p → (size : ℕ) (result x : List ℕ) → called (refused k p) result x ≡ handOver size (sheetRun s) result x
+  pub run-refused : {k p : ℕ} → r .answer ≡ Refused k p → (size : ℕ) (result x : List ℕ) → called (refused k p) result x ≡ handOver size (sheetRun s) result x
   unfolding sheetRun handOver
   run-refused {k} {p} is size result x =
       let e : sheetFrom s (fresh []) 0 ≡ stopped k p = rw is at runs in

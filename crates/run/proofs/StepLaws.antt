@@ -16,6 +16,7 @@ use Rattle.rules.specs.Types.{intoRow, joinTypes}
 use Rattle.rules.specs.TypesLaws.{joinTypes-within}
 use Rattle.validation.specs.CheckShape.{unsided}
 use Rattle.validation.specs.Validate.{validate}
+use Rattle.validation.specs.ValidateLaws.{validate-within}
 use Rattle.lent.specs.declared.Written.{Written}
 use Rattle.machine.specs.SheetLimits.{maxStack}
 use Rattle.machine.specs.Steps.{Step, put, row, pervading, join, validating}
@@ -132,6 +133,9 @@ started (refuses k) e = let z : _≡_ {A = ℕ} 0 1 = cc in absurd (omega arith)
 
 pub pervade-within : (f g : Bool) (t u : Ty) → Within t → Within u → (x : Ty) → atStart (pervadeTypes f g t u) ≡ accepted x → Within x
 pervade-within f g t u v w x is = pervadeTypes-within f g t u x v w (started (pervadeTypes f g t u) is)
+
+pub validated-within : (spec : Ty) → Within spec → (t : Ty) → Within t → (x : Ty) → validate unsided spec t ≡ accepted x → Within x
+validated-within spec v t w x is = validate-within unsided spec t x v w is
 
 -- ---- what a rule made of the types on top takes their place
 

@@ -36,7 +36,8 @@ hand-over-requires c κs =
     let at-enum-told = c .before .before .before in
     let args = entry .args in
     let none = stacked-none (args .lengths .now) (args .scratch .now) (entry .pre .0) (entry .pre .1) in
-    run-left (args .sheet .now) (at-run-steps .run-steps .result .answer) (at-run-steps .run-steps .result .count) (at-run-steps .run-steps .result .taken) _ _ (at-run-steps .run-steps .ensures (fresh []) (record { stacked = none; steps = refl })) (at-enum-told .enum-told .given .1) λ ts h e.
+    let runs = at-run-steps .run-steps .ensures (fresh []) (record { stacked = none; steps = refl }) in
+    run-left (args .sheet .now) (at-run-steps .run-steps .result) _ _ runs (at-enum-told .enum-told .given .1) λ ts h e.
     record { types = ts; stacked = h }
 
 -- src/sheet.rt:80:28
@@ -64,7 +65,8 @@ returns c =
     let at-hand-over = c .before .before in
     let args = entry .args in
     let none = stacked-none (args .lengths .now) (args .scratch .now) (entry .pre .0) (entry .pre .1) in
-    run-left (args .sheet .now) (at-run-steps .run-steps .result .answer) (at-run-steps .run-steps .result .count) (at-run-steps .run-steps .result .taken) _ _ (at-run-steps .run-steps .ensures (fresh []) (record { stacked = none; steps = refl })) (at-enum-told .enum-told .given .1) λ ts h e.
+    let runs = at-run-steps .run-steps .ensures (fresh []) (record { stacked = none; steps = refl }) in
+    run-left (args .sheet .now) (at-run-steps .run-steps .result) _ _ runs (at-enum-told .enum-told .given .1) λ ts h e.
     rw e (at-hand-over .hand-over .ensures ts h)
 
 -- src/sheet.rt:64:1
@@ -82,7 +84,8 @@ returns-2 c =
     let at-run-steps = c .before .before .before .before .before .before .before .before in
     let args = entry .args in
     let none = stacked-none (args .lengths .now) (args .scratch .now) (entry .pre .0) (entry .pre .1) in
-    (run-refused (args .sheet .now) (at-run-steps .run-steps .result .answer) (at-run-steps .run-steps .result .count) (at-run-steps .run-steps .result .taken) _ _ (at-run-steps .run-steps .ensures (fresh []) (record { stacked = none; steps = refl })) (c .before .answer .given .1) _ _ _, tt)
+    let runs = at-run-steps .run-steps .ensures (fresh []) (record { stacked = none; steps = refl }) in
+    (run-refused (args .sheet .now) (at-run-steps .run-steps .result) _ _ runs (c .before .answer .given .1) _ _ _, tt)
 
 pub run-sheet-spec : {M : Type 1} → statement M
 run-sheet-spec =

@@ -98,7 +98,8 @@ returns-2 c =
     let args = entry .args in
     λ st h.
     let g = at-loop .loop .inv .3 st h in
-    rw (c .enum-told .given .1) (going-stop (args .s .now) (sheetFrom (args .s .now) st 0) g (at-if1 .if1 .left) (at-loop-test .loop-test .taken) (at-work-step .work-step .result .answer) _ (at-work-step .work-step .result .count) _ (at-work-step .work-step .ensures (g .state) (g .here .stacked)) (c .enum-told .given .1))
+    let works = at-work-step .work-step .ensures (g .state) (g .here .stacked) in
+    rw (c .enum-told .given .1) (going-stop (args .s .now) (sheetFrom (args .s .now) st 0) g (at-if1 .if1 .left) (at-loop-test .loop-test .taken) (at-work-step .work-step .result) _ _ works (c .enum-told .given .1))
 
 -- src/sheet.rt:123:9
 add-steps : tie.Need-add-steps Inv-loop μ-loop
@@ -116,14 +117,11 @@ loop-again c =
     let at-loop-test = c .before .before .before .before .before .before .before .before .before .before .before .before .before .before in
     let at-if1 = c .before .before .before .before .before .before .before .before .before .before .before .before .before in
     let at-work-step = c .before .before .before .before .before .before .before .before .before in
-    let args = entry .args in (
-      at-work-step .work-step .kept .1 .1 .1 .0 ∙ at-loop .loop .inv .0,
-      at-work-step .work-step .kept .1 .1 .1 .1 .0 ∙ at-loop .loop .inv .1,
-      at-work-step .work-step .kept .1 .1 .1 .1 .1 .0 ∙ at-loop .loop .inv .2,
-      λ st h.
-          let g = at-loop .loop .inv .3 st h in
-          going-step (args .s .now) (sheetFrom (args .s .now) st 0) g (at-if1 .if1 .left) (at-loop-test .loop-test .taken) (at-work-step .work-step .result .answer) _ (at-work-step .work-step .result .count) _ (at-work-step .work-step .ensures (g .state) (g .here .stacked)) (c .before .answer .given .1),
-    )
+    let args = entry .args in
+    (at-work-step .work-step .kept .1 .1 .1 .0 ∙ at-loop .loop .inv .0, at-work-step .work-step .kept .1 .1 .1 .1 .0 ∙ at-loop .loop .inv .1, at-work-step .work-step .kept .1 .1 .1 .1 .1 .0 ∙ at-loop .loop .inv .2, λ st h.
+    let g = at-loop .loop .inv .3 st h in
+    let works = at-work-step .work-step .ensures (g .state) (g .here .stacked) in
+    going-step (args .s .now) (sheetFrom (args .s .now) st 0) g (at-if1 .if1 .left) (at-loop-test .loop-test .taken) (at-work-step .work-step .result) _ _ works (c .before .answer .given .1))
 
 -- src/sheet.rt:86:1
 same-length-7 : tie.Need-same-length-7 Inv-loop μ-loop

@@ -45,7 +45,8 @@ returns c =
     let at-join-top = c .before .before .before .before .before .before .before .before .before .before in
     let at-lay-down = c .before .before .before .before in
     let args = entry .args in
-    works-two (args .lengths .now) (args .count) (args .scratch .now) (at-join-top .join-top .result) _ (λ t u. accepted (joinTypes t u)) join-within (entry .pre .0) (at-join-top .join-top .ensures) join join-step (args .at) (args .next) (at-lay-down .lay-down .result) _ _ (at-lay-down .lay-down .ensures)
+    works-two (args .lengths .now) (args .count) (args .scratch .now) (at-join-top .join-top .result) _ (λ t u. accepted (joinTypes t u)) join-within (entry .pre .0) (at-join-top .join-top .ensures)
+    join join-step (args .at) (args .next) (at-lay-down .lay-down .result) _ _ (at-lay-down .lay-down .ensures)
 
 pub join-spec : {M : Type 1} → statement M
 join-spec =

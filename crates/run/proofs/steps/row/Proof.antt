@@ -45,7 +45,8 @@ returns c =
     let at-row-top = c .before .before .before .before .before .before .before .before .before .before in
     let at-lay-down = c .before .before .before .before in
     let args = entry .args in
-    works-one (args .lengths .now) (args .count) (args .scratch .now) (at-row-top .row-top .result) _ (λ t. accepted (intoRow t)) row-within (entry .pre .0) (at-row-top .row-top .ensures) row row-step (args .at) (args .next) (at-lay-down .lay-down .result) _ _ (at-lay-down .lay-down .ensures)
+    works-one (args .lengths .now) (args .count) (args .scratch .now) (at-row-top .row-top .result) _ (λ t. accepted (intoRow t)) row-within (entry .pre .0) (at-row-top .row-top .ensures)
+    row row-step (args .at) (args .next) (at-lay-down .lay-down .result) _ _ (at-lay-down .lay-down .ensures)
 
 pub row-spec : {M : Type 1} → statement M
 row-spec =

@@ -2,9 +2,8 @@ use native.Mathlib.Omega.{arith}
 use Rattle.format.specs.ReadWrite.{lone-write}
 use Rattle.validation.specs.CheckShape.{unsided}
 use Rattle.validation.specs.Validate.{validate}
-use Rattle.validation.specs.ValidateLaws.{validate-within}
 use Rattle.machine.specs.Steps.{validating}
-use Rattle.run.proofs.StepLaws.{validate-step, ruled-one, works-one}
+use Rattle.run.proofs.StepLaws.{validate-step, validated-within, ruled-one, works-one}
 use borrow.Author.Needs.{needs}
 use Rattle.run.proofs.steps.validate.Statement.{statement}
 use Rattle.run.proofs.steps.validate.Tie as tie
@@ -30,7 +29,8 @@ lay-down-requires c κs =
     let args = entry .args in
     let (spec, read) = entry .pre .1 in
     let within = lone-write (args .spec .now) (λ i. omega (arith, at-shared-slice-known .shared-slice-known .given i)) spec read .1 in
-    (entry .pre .0 .2, ruled-one (args .lengths .now) (args .count) (args .scratch .now) (at-validate-top .validate-top .result) _ (λ t. validate unsided spec t) (λ t v x e. validate-within unsided spec t x within v e) (entry .pre .0 .0) (at-validate-top .validate-top .ensures spec read) (entry .pre .0 .2))
+    (entry .pre .0 .2, ruled-one (args .lengths .now) (args .count) (args .scratch .now) (at-validate-top .validate-top .result) _ (λ t. validate unsided spec t)
+    (validated-within spec within) (entry .pre .0 .0) (at-validate-top .validate-top .ensures spec read) (entry .pre .0 .2))
 
 -- src/steps.rt:176:1
 same-length : tie.Need-same-length
@@ -54,7 +54,7 @@ returns c =
     let args = entry .args in
     λ spec read.
     let within = lone-write (args .spec .now) (λ i. omega (arith, at-shared-slice-known .shared-slice-known .given i)) spec read .1 in
-    works-one (args .lengths .now) (args .count) (args .scratch .now) (at-validate-top .validate-top .result) _ (λ t. validate unsided spec t) (λ t v x e. validate-within unsided spec t x within v e) (entry .pre .0 .0) (at-validate-top .validate-top .ensures spec read)
+    works-one (args .lengths .now) (args .count) (args .scratch .now) (at-validate-top .validate-top .result) _ (λ t. validate unsided spec t) (validated-within spec within) (entry .pre .0 .0) (at-validate-top .validate-top .ensures spec read)
     (validating spec) (validate-step spec) (args .at) (args .next) (at-lay-down .lay-down .result) _ _ (at-lay-down .lay-down .ensures)
 
 pub validate-spec : {M : Type 1} → statement M

@@ -28,6 +28,16 @@ abbrev pub both : {A B C : Type 0} → (A → B → Outcome C) → Outcome A →
 both f (accepted a) y = bound (f a) y
 both f (refused k p) y = refused k p
 
+-- Which of two inputs was refused, and how; the other is not read if the first is refused.
+pub data Refusal : Type 0 where
+  neither : Refusal
+  first second : ℕ → ℕ → Refusal
+
+abbrev pub refusalOf : {A B : Type 0} → Outcome A → Outcome B → Refusal
+refusalOf (accepted a) (accepted b) = neither
+refusalOf (accepted a) (refused k p) = second k p
+refusalOf (refused k p) y = first k p
+
 -- A lone type: nothing may stand after it.
 abbrev pub alone : {A : Type 0} → ℕ → Read A → Outcome A
 alone size (got a next) = cond (ltb next size) (refused trailing next) (accepted a)

@@ -52,9 +52,9 @@ module _ (s : List ℕ) where
 
   -- a byte that is judged as it is read: a count, a flag or a byte of a name
   unfoldable pub judged : (ℕ → Bool) → ℕ → Reader ℕ
-  judged fits p = do
+  judged allowed p = do
     b ← byte p
-    need (fits b) outOfRange p
+    need (allowed b) outOfRange p
     give b
 
   -- a number of k bytes, low byte first

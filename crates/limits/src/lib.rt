@@ -1,5 +1,4 @@
-// Every limit of a type, every code, every mark, every constant record and every refusal number, named once for all code. What a
-// sheet may have is named in `stack` (types held, scratch), `run` (steps) and `printer` (bytes of a sheet).
+// Every limit, every code, every mark, every constant record and every refusal number, named once for all code.
 pub mod marks;
 pub mod records;
 pub mod refusal;
@@ -29,6 +28,17 @@ pub const MAX_DEPTH: u64 = 8;
 
 // Bytes that suffice for any type.
 pub const MAX_BYTES: usize = 4992;
+
+// Steps of a sheet; types on the stack.
+pub const MAX_STEPS: usize = 64;
+
+pub const MAX_STACK: usize = 8;
+
+// Bytes of scratch: room of MAX_BYTES for each type on the stack.
+pub const SCRATCH_BYTES: usize = MAX_STACK * MAX_BYTES;
+
+// Bytes of a sheet that the program reads.
+pub const MAX_SHEET: usize = 49152;
 
 // The byte for a count that is absent.
 pub const ABSENT: u64 = 255;

@@ -18,16 +18,16 @@ use Rattle.record.specs.Answers.{nothing, eightBytes}
 module _ (s : List ℕ) where
   -- ---- a byte that is judged
 
-  module _ (fits : ℕ → Bool) (p at : ℕ) where
-    pub judged-stops : {k q : ℕ} → byte s p at ≡ stopped k q → judged s fits p at ≡ stopped k q
+  module _ (allowed : ℕ → Bool) (p at : ℕ) where
+    pub judged-stops : {k q : ℕ} → byte s p at ≡ stopped k q → judged s allowed p at ≡ stopped k q
     unfolding judged
     judged-stops e = rw e
 
-    pub judged-fits : {b n : ℕ} → byte s p at ≡ got b n → fits b ≡ true → judged s fits p at ≡ got b n
+    pub judged-allowed : {b n : ℕ} → byte s p at ≡ got b n → allowed b ≡ true → judged s allowed p at ≡ got b n
     unfolding judged
-    judged-fits e t = rw (e, t)
+    judged-allowed e t = rw (e, t)
 
-    pub judged-not : {b n : ℕ} → byte s p at ≡ got b n → fits b ≡ false → judged s fits p at ≡ stopped outOfRange p
+    pub judged-not : {b n : ℕ} → byte s p at ≡ got b n → allowed b ≡ false → judged s allowed p at ≡ stopped outOfRange p
     unfolding judged
     judged-not e t = rw (e, t)
 

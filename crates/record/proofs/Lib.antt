@@ -1,6 +1,6 @@
 pub mod Known
 pub mod ByValue
-mod ByteLaws
+pub mod ByteLaws
 mod ShapeLaws
 mod PlaceLaws
 mod TypeLaws

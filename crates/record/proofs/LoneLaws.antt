@@ -1,7 +1,7 @@
 -- Lone types: one law for each way out of a function, and what their parts are.
 use Prim.Native.Nat.{ℕ, _≤_, _<_}
 use native.Mathlib.Omega.{arith}
-use mathlib.Core.Path.{_≡_, refl, sym, ap}
+use mathlib.Core.Path.{_≡_, refl, sym, _∙_, ap}
 use mathlib.Core.List.{List}
 use lib.ListN.{length, drop, length-append}
 use borrow.Author.Tests.{lt-ltb, le-ltb}
@@ -9,11 +9,14 @@ use Rattle.model.specs.Refusals.{trailing}
 use Rattle.model.specs.Types.{Shape, Ty, ty, shapeOf}
 use Rattle.format.specs.Reader.{Bytes, got, stopped, mapRead}
 use Rattle.format.specs.Records.{writeShape, writeScalar, writeTy, readShape, readType}
-use Rattle.format.specs.Outcome.{Outcome, accepted, refused, mapped, bound, both, lone, scalarRecord}
+use Rattle.format.specs.Outcome.{Outcome, accepted, refused, mapped, bound, both, neither, first, second, refusalOf, lone, scalarRecord}
 use Rattle.format.specs.ReadWrite.{lone-parts, lone-write}
-use Rattle.record.specs.Answers.{shapeFor, nothing, nothings}
+use Rattle.record.specs.Answers.{shapeFor, nothing, nothings, loneOf, twoOf, whicheverOf}
 use Rattle.record.specs.Places.{HasShape}
 use Rattle.record.specs.declared.DynShape.{DynShape}
+use Rattle.record.specs.declared.Lone.{Lone}
+use Rattle.record.specs.declared.Two.{Two}
+use Rattle.record.specs.declared.Two.the-variants.{Accepted}
 use Rattle.record.proofs.Known.{stopped-map, got-map}
 
 -- ---- outcomes whose value is passed over
@@ -58,6 +61,34 @@ module _ {A B : Type 0} (x : Outcome A) (y : Outcome B) where
 
   pub both-passed : both nothings x y ≡ accepted 0 → (mapped nothing x ≡ accepted 0) × (mapped nothing y ≡ accepted 0)
   both-passed e = both-accepted e λ a b g h. (ap (mapped nothing) g, ap (mapped nothing) h)
+
+  -- ---- which of the two was refused
+
+  pub refusal-first : {k p : ℕ} → mapped nothing x ≡ refused k p → refusalOf x y ≡ first k p
+  refusal-first e = rw (passed-refused x e)
+
+  module _ (good : mapped nothing x ≡ accepted 0) where
+    pub refusal-second : {k p : ℕ} → mapped nothing y ≡ refused k p → refusalOf x y ≡ second k p
+    refusal-second e = passed-accepted x good λ a h. rw (h, passed-refused y e)
+
+    pub refusal-neither : mapped nothing y ≡ accepted 0 → refusalOf x y ≡ neither
+    refusal-neither e = passed-accepted x good λ a h. passed-accepted y e λ b g. rw (h, g)
+
+  whichever-both : whicheverOf (refusalOf x y) ≡ both nothings x y
+  whichever-both = go x y
+    where
+      go : (x : Outcome A) (y : Outcome B) → whicheverOf (refusalOf x y) ≡ both nothings x y
+      go (accepted a) (accepted b) = refl
+      go (accepted a) (refused k p) = refl
+      go (refused k p) y = refl
+
+  -- what reading the two answered, for a call that need not say which of them was refused
+  module _ (two : Two) (read : twoOf two ≡ refusalOf x y) where
+    pub both-good : two ≡ Accepted → both nothings x y ≡ accepted 0
+    both-good e = sym whichever-both ∙ ap whicheverOf (sym read ∙ ap twoOf e)
+
+    pub both-read : (l : Lone) → loneOf l ≡ whicheverOf (twoOf two) → loneOf l ≡ both nothings x y
+    both-read l e = e ∙ ap whicheverOf read ∙ whichever-both
 
 -- ---- a lone type
 

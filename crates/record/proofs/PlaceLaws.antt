@@ -46,11 +46,11 @@ module _ (s : List ℕ) (p : ℕ) where
           record { is = sym x; passes = record { end = omega arith; inside = omega (arith, ltb-true at (length s) h) } }
       go false h e = let z : _≡_ {A = ℕ} 0 1 = cc in absurd (omega arith)
 
-  judged-is : (fits : ℕ → Bool) (at : ℕ) {b n : ℕ} → judged s fits p at ≡ got b n → ByteIs s at b n × (fits b ≡ true)
+  judged-is : (allowed : ℕ → Bool) (at : ℕ) {b n : ℕ} → judged s allowed p at ≡ got b n → ByteIs s at b n × (allowed b ≡ true)
   unfolding judged
-  judged-is fits at {b} {n} e =
+  judged-is allowed at {b} {n} e =
       split (byte s p at) e λ x m e₁ e₂.
-      needed (fits x) _ _ _ _ e₂ λ t e₃.
+      needed (allowed x) _ _ _ _ e₂ λ t e₃.
       gave e₃ λ w y.
       rw (← w, ← y) (byte-is at e₁, t)
 

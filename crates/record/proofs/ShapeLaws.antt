@@ -63,16 +63,16 @@ pub passed-over : (r : Read (Unit {0})) {v n : ℕ} → mapRead nothing r ≡ go
 passed-over (got u m) {v} {n} e = let x : m ≡ n = cc in rw x
 passed-over (stopped k p) e = let z : _≡_ {A = ℕ} 0 1 = cc in absurd (omega arith)
 
-judged-got : (s : List ℕ) (fits : ℕ → Bool) (p at : ℕ) {b n : ℕ} → judged s fits p at ≡ got b n → fits b ≡ true
+judged-got : (s : List ℕ) (allowed : ℕ → Bool) (p at : ℕ) {b n : ℕ} → judged s allowed p at ≡ got b n → allowed b ≡ true
 unfolding judged
-judged-got s fits p at {b} {n} e = go (byte s p at) e
+judged-got s allowed p at {b} {n} e = go (byte s p at) e
   where
-    fit : (t : Bool) (x m : ℕ) → fits x ≡ t → andThen (need t outOfRange p m) (λ _. give x) ≡ got b n → fits b ≡ true
+    fit : (t : Bool) (x m : ℕ) → allowed x ≡ t → andThen (need t outOfRange p m) (λ _. give x) ≡ got b n → allowed b ≡ true
     fit true x m f e = let w : x ≡ b = cc in rw (← w) f
     fit false x m f e = let z : _≡_ {A = ℕ} 0 1 = cc in absurd (omega arith)
 
-    go : (r : Read ℕ) → andThen r (λ x. λ m. andThen (need (fits x) outOfRange p m) (λ _. give x)) ≡ got b n → fits b ≡ true
-    go (got x m) e = fit (fits x) x m refl e
+    go : (r : Read ℕ) → andThen r (λ x. λ m. andThen (need (allowed x) outOfRange p m) (λ _. give x)) ≡ got b n → allowed b ≡ true
+    go (got x m) e = fit (allowed x) x m refl e
     go (stopped k q) e = let z : _≡_ {A = ℕ} 0 1 = cc in absurd (omega arith)
 
 pub optional-count : (most n : ℕ) → isOptional most n ≡ true → (n ≡ absent → ⊥) → n ≤ most

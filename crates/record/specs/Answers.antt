@@ -7,11 +7,13 @@ use lib.ListN.{take, getD}
 use Rattle.model.specs.Types.{Dim, Shape, shape}
 use Rattle.format.specs.Reader.{Read, got, stopped}
 use Rattle.format.specs.Records.{dimOf}
-use Rattle.format.specs.Outcome.{Outcome, accepted, refused}
+use Rattle.format.specs.Outcome.{Outcome, accepted, refused, Refusal, neither, first, second}
 use Rattle.record.specs.declared.Answer.{Answer}
 use Rattle.record.specs.declared.Answer.the-variants.{Got, Refused}
 use Rattle.record.specs.declared.Lone.{Lone}
 use Rattle.record.specs.declared.Lone.the-variants.{Accepted, Refused as Refuses}
+use Rattle.record.specs.declared.Two.{Two}
+use Rattle.record.specs.declared.Two.the-variants.{Accepted as Both, First, Second}
 use Rattle.record.specs.declared.Dims.{Dims}
 use Rattle.record.specs.declared.DynShape.{DynShape}
 
@@ -48,3 +50,14 @@ shapeFor s = shape (dimsOf (s .dims)) (closingFor s)
 abbrev pub loneOf : Lone → Outcome ℕ
 loneOf Accepted = accepted 0
 loneOf (Refuses k p) = refused k p
+
+abbrev pub twoOf : Two → Refusal
+twoOf Both = neither
+twoOf (First k p) = first k p
+twoOf (Second k p) = second k p
+
+-- the refusal, whichever of two inputs it is of
+abbrev pub whicheverOf : Refusal → Outcome ℕ
+whicheverOf neither = accepted 0
+whicheverOf (first k p) = refused k p
+whicheverOf (second k p) = refused k p

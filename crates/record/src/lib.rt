@@ -7,6 +7,7 @@ mod types;
 mod whole;
 
 pub use bytes::list_count;
+pub use bytes::number_at;
 pub use bytes::wide;
 use limits::MAX_SIZES;
 pub use places::no_dims;
@@ -17,6 +18,8 @@ pub use whole::lone_scalar;
 pub use whole::lone_shape;
 pub use whole::read_both;
 pub use whole::read_lone;
+pub use whole::read_two;
+pub use whole::whichever;
 
 // A value with the place after it, or a refusal's number and place.
 pub enum Answer {
@@ -41,4 +44,11 @@ pub struct DynShape {
 pub enum Lone {
     Accepted,
     Refused { number: u8, place: usize },
+}
+
+// Two lone types, or the refusal of one of them.
+pub enum Two {
+    Accepted,
+    First { number: u8, place: usize },
+    Second { number: u8, place: usize },
 }

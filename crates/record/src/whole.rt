@@ -2,6 +2,7 @@
 use crate::Answer;
 use crate::DynShape;
 use crate::Lone;
+use crate::Two;
 use crate::places::scalar_known;
 use crate::places::shape_known;
 use crate::types::read_type;
@@ -12,8 +13,8 @@ ghost use mathlib.Core.Path.{_≡_};
 ghost use Prim.Native.Nat.{_≤_};
 ghost use lib.ListN.{length, drop};
 ghost use Rattle.model.specs.Types.{shapeOf};
-ghost use Rattle.format.specs.Outcome.{accepted, mapped, both, lone, scalarRecord};
-ghost use Rattle.record.specs.Answers.{answerOf, loneOf, shapeFor, nothing, nothings, passed};
+ghost use Rattle.format.specs.Outcome.{accepted, mapped, both, refusalOf, lone, scalarRecord};
+ghost use Rattle.record.specs.Answers.{answerOf, loneOf, twoOf, whicheverOf, shapeFor, nothing, nothings, passed};
 
 // A lone type: nothing may stand after it.
 pub fn read_lone(s: &[u8]) -> Lone
@@ -51,6 +52,32 @@ pub fn read_both(a: &[u8], b: &[u8]) -> Lone
         return first;
     };
     read_lone(b)
+}
+
+// Two lone types, of which the first is read whole before the other: which of them is refused.
+pub fn read_two(a: &[u8], b: &[u8]) -> Two
+    ensures { λ r. ⌜ twoOf r ≡ refusalOf (lone (now (a .entry))) (lone (now (b .entry))) ⌝ }
+{
+    let first = read_lone(a);
+    if let Lone::Refused { number, place } = first {
+        return Two::First { number, place };
+    }
+    let second = read_lone(b);
+    if let Lone::Refused { number, place } = second {
+        return Two::Second { number, place };
+    }
+    Two::Accepted
+}
+
+// The refusal, for a call that need not say which of the two it is of.
+pub fn whichever(two: Two) -> Lone
+    ensures { λ r. ⌜ loneOf r ≡ whicheverOf (twoOf two) ⌝ }
+{
+    match two {
+        Two::Accepted => Lone::Accepted,
+        Two::First { number, place } => Lone::Refused { number, place },
+        Two::Second { number, place } => Lone::Refused { number, place },
+    }
 }
 
 // The shape of a lone type.

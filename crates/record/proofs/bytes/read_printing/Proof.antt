@@ -1,7 +1,7 @@
 use mathlib.Core.Path.{_∙_, sym}
 use borrow.Author.Tests.{le-leb, lt-leb}
 use Rattle.record.proofs.Known.{known, told}
-use Rattle.record.proofs.ByteLaws.{judged-stops, judged-fits, judged-not}
+use Rattle.record.proofs.ByteLaws.{judged-stops, judged-allowed, judged-not}
 use borrow.Author.Needs.{needs}
 use Rattle.record.proofs.bytes.read_printing.Statement.{statement}
 use Rattle.record.proofs.bytes.read_printing.Tie as tie
@@ -39,7 +39,7 @@ returns-4 : tie.Need-returns-4
 returns-4 c =
     let at-read-byte = c .before .before .before .before .before in
     let at-b = c .before .before .before in
-    sym (judged-fits _ _ _ _ (known (at-read-byte .read-byte .ensures) (at-b .b .given .1)) (rw (le-leb _ _ (c .before .if1 .left), le-leb _ _ (c .if2 .left))))
+    sym (judged-allowed _ _ _ _ (known (at-read-byte .read-byte .ensures) (at-b .b .given .1)) (rw (le-leb _ _ (c .before .if1 .left), le-leb _ _ (c .if2 .left))))
 
 pub read-printing-spec : {M : Type 1} → statement M
 read-printing-spec =

@@ -1,0 +1,4 @@
+mod ShapeLaws
+mod LookLaws
+mod SpanLaws
+mod KindLaws

@@ -6,9 +6,6 @@ mod tops;
 pub use sheet::check_sheet;
 pub use sheet::measure_sheet;
 
-// Steps of a sheet.
-const MAX_STEPS: usize = 64;
-
 // What a call answers: how many types are left and their bytes in all, or the refusal.
 pub enum SheetAnswer {
     Accepted { types: usize, bytes: usize },

@@ -1,15 +1,15 @@
 // The whole sheet.
-use crate::MAX_STEPS;
 use crate::Ran;
 use crate::Reached;
 use crate::SheetAnswer;
 use crate::steps::work_step;
 use lent::Written;
 use limits::MAX_BYTES;
+use limits::MAX_STACK;
+use limits::MAX_STEPS;
+use limits::SCRATCH_BYTES;
 use limits::refusal::OVERFLOW;
 use limits::refusal::TOO_SHORT;
-use stack::MAX_STACK;
-use stack::SCRATCH_BYTES;
 use stack::clear;
 use stack::write_types;
 ghost use mathlib.Core.Path.{_≡_};

@@ -14,12 +14,6 @@ ghost use Rattle.model.specs.Limits.{maxBytes};
 ghost use Rattle.machine.specs.SheetLimits.{maxStack, scratchBytes};
 ghost use Rattle.stack.specs.Stack.{slotBytes, HasStack, Stores};
 
-// Types on the stack.
-pub const MAX_STACK: usize = 8;
-
-// Bytes of scratch: a slot of MAX_BYTES for each type on the stack.
-pub const SCRATCH_BYTES: usize = MAX_STACK * MAX_BYTES;
-
 // Where a type's bytes begin in the scratch, and where they end.
 pub struct Bounds {
     pub start: usize,

@@ -1,8 +1,8 @@
 // What becomes of the scratch in the end: the types left go to the result, and its bytes become zero.
-use crate::SCRATCH_BYTES;
 use crate::load;
 use lent::Written;
 use lent::lay;
+use limits::SCRATCH_BYTES;
 use limits::refusal::TOO_SHORT;
 ghost use mathlib.Core.Path.{_≡_};
 ghost use mathlib.Core.List.{List, _++_, reverse};

@@ -10,11 +10,11 @@ use crate::words::find;
 use crate::words::front;
 use crate::words::nth;
 use crate::words::part;
+use limits::MAX_SHEET;
+use limits::SCRATCH_BYTES;
 use limits::refusal::TOO_SHORT;
 use printer::CALL_TEXT;
-use printer::MAX_SHEET;
 use printer::put_call;
-use stack::SCRATCH_BYTES;
 use text::Decoded;
 use text::Number;
 

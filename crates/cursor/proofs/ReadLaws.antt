@@ -79,8 +79,8 @@ module _ (s : List ℕ) (at : ℕ) where
       let bytes : take (end - at) (drop at s) ≡ writeTy t = ap (λ x. take (end - at) x) (took .is) ∙ ap (λ x. take x (writeTy t ++ drop end s)) k ∙ take-append-seam (writeTy t) (drop end s) in
       record {
         forth = omega arith;
-        inside = omega (arith, some-bytes t);
-        alone = ap lone bytes ∙ write-lone t within;
+        there = omega (arith, some-bytes t);
+        reads = ap lone bytes ∙ write-lone t within;
       }
 
   module _ {r : Answer} (read : answerOf r ≡ mapRead (λ t. maxTypes - types t) (readType s at)) where

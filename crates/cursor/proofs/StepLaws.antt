@@ -7,11 +7,11 @@ use Rattle.model.specs.Refusals.{underflow, overflow}
 use Rattle.format.specs.Reader.{got, stopped}
 use Rattle.format.specs.Records.{readType}
 use Rattle.machine.specs.SheetLimits.{maxStack}
-use Rattle.machine.specs.Steps.{row, join, aPut, aRow, aPervading, aJoin, aValidating, takes}
+use Rattle.machine.specs.Steps.{row, join, aPut, aRow, aPervading, aJoin, aValidating, takes, lays}
 use Rattle.machine.specs.Sheet.{opcodeFrom, argumentFrom, stepFrom}
 use Rattle.machine.specs.SheetSteps.{step-unmarked, step-lacks, step-overfull, step-argument}
 use Rattle.cursor.specs.Answers.{opcodeFor, markedOf, fillsOf, TypeIs, StepIs}
-use Rattle.cursor.specs.declared.marks.Opcode.{Opcode}
+use Rattle.cursor.specs.declared.marks.Operation.{Operation}
 use Rattle.cursor.specs.declared.marks.MarkRead.{MarkRead}
 use Rattle.cursor.specs.declared.marks.MarkRead.the-variants.{Got as Mark, Refused as Unmarked}
 use Rattle.cursor.specs.declared.flags.FlagRead.{FlagRead}
@@ -73,15 +73,16 @@ module _ (s : List ℕ) (h at : ℕ) {m : MarkRead} (read : markedOf m at ≡ op
   pub mark-ends : {k n : ℕ} → m ≡ Unmarked k → n ≡ k → stepFrom s h at at ≡ stopped n at
   mark-ends {k} is e = rw e (step-unmarked s h at at k at (sym read ∙ ap (λ x. markedOf x at) is))
 
-  module _ {c : Opcode} {next taken : ℕ} (is : m ≡ Mark c next) (some : taken ≡ takes (opcodeFor c)) where
+  module _ {c : Operation} {next taken : ℕ} (is : m ≡ Mark c next) (some : taken ≡ takes (opcodeFor c)) where
     marked : opcodeFrom s at at ≡ got (opcodeFor c) next
     marked = sym read ∙ ap (λ x. markedOf x at) is
 
     pub step-low : h < taken → stepFrom s h at at ≡ stopped underflow at
     step-low l = step-lacks s h at at (opcodeFor c) next marked (omega (arith, some))
 
-    pub step-high : taken ≤ h → maxStack ≤ h - taken → stepFrom s h at at ≡ stopped overflow at
-    step-high l r = step-overfull s h at at (opcodeFor c) next marked (omega (arith, some)) (omega (arith, some))
+    module _ {laid : ℕ} (enough : taken ≤ h) (lay : (laid ≡ lays (opcodeFor c)) × (laid ≤ maxStack)) where
+      pub step-high : maxStack - laid < h - taken → stepFrom s h at at ≡ stopped overflow at
+      step-high r = step-overfull s h at at (opcodeFor c) next marked (omega (arith, some)) (omega (arith, some, lay .0, lay .1))
 
-    pub step-is : taken ≤ h → h - taken < maxStack → (d : Opcode) (x : StepRead) → c ≡ d → StepIs x s (argumentFrom s (opcodeFor d) at next) → StepIs x s (stepFrom s h at at)
-    step-is l r d x same e = rw (step-argument s h at at (opcodeFor c) next marked (omega (arith, some)) (omega (arith, some)), same) e
+      pub step-is : h - taken ≤ maxStack - laid → (d : Operation) (x : StepRead) → c ≡ d → StepIs x s (argumentFrom s (opcodeFor d) at next) → StepIs x s (stepFrom s h at at)
+      step-is r d x same e = rw (step-argument s h at at (opcodeFor c) next marked (omega (arith, some)) (omega (arith, some, lay .0, lay .1)), same) e

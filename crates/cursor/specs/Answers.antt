@@ -9,8 +9,8 @@ use Rattle.format.specs.Reader.{Read, got, stopped}
 use Rattle.format.specs.Outcome.{accepted, lone}
 use Rattle.machine.specs.Steps as steps
 use Rattle.machine.specs.Steps.{Step, put, row, pervading, join, validating, aPut, aRow, aPervading, aJoin, aValidating}
-use Rattle.cursor.specs.declared.marks.Opcode.{Opcode}
-use Rattle.cursor.specs.declared.marks.Opcode.the-variants.{Put, Row, Pervading, Join, Validating}
+use Rattle.cursor.specs.declared.marks.Operation.{Operation}
+use Rattle.cursor.specs.declared.marks.Operation.the-variants.{Put, Row, Pervading, Join, Validating}
 use Rattle.cursor.specs.declared.marks.MarkRead.{MarkRead}
 use Rattle.cursor.specs.declared.marks.MarkRead.the-variants.{Got as Mark, Refused as Unmarked}
 use Rattle.cursor.specs.declared.flags.FlagRead.{FlagRead}
@@ -22,7 +22,7 @@ use Rattle.cursor.specs.declared.StepRead.the-variants.{Put as APut, Row
 
 -- ---- a mark and a flag, whose refusals name the place p of the step's mark
 
-abbrev pub opcodeFor : Opcode → steps.Opcode
+abbrev pub opcodeFor : Operation → steps.Opcode
 opcodeFor Put = aPut
 opcodeFor Row = aRow
 opcodeFor Pervading = aPervading
@@ -42,8 +42,8 @@ fillsOf (Unflagged k) p = stopped k p
 -- The bytes from start to end are those of a lone type.
 pub record Stretch (s : List ℕ) (start end : ℕ) (t : Ty) : Type 0 where
   pub forth : start ≤ end
-  pub inside : end ≤ length s
-  pub alone : lone (take (end - start) (drop start s)) ≡ accepted t
+  pub there : end ≤ length s
+  pub reads : lone (take (end - start) (drop start s)) ≡ accepted t
 
 -- What was read from a place on is the type whose bytes stand there.
 abbrev pub TypeIs : TypeRead → List ℕ → ℕ → Read Ty → Type 0

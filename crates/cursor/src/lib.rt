@@ -1,25 +1,16 @@
 // A cursor over a sheet's bytes, and the steps that are read through it. The borrow checker covers no function over a struct
-// that holds a slice, so those here are few and thin, and proved by hand: each takes the cursor apart for a covered function
-// that reads one record from slice and place, and hands its answer on, in which the place then reached stands. The next
-// record's cursor is made there: one cursor for a whole step would bring the step's branches into a walk by hand.
+// that holds a slice, so those here are few and thin, and proved by hand: a step's cursor is made at the place reached, and taken
+// apart for a covered function on slice and place, whose answer is handed on with the place after the step. What a step is made
+// of is thus no matter of the proofs by hand.
 mod flags;
 mod marks;
 mod steps;
 mod types;
 
-use flags::FlagRead;
-use flags::read_flag;
-use marks::MarkRead;
-use marks::read_mark;
-pub use steps::read_step;
-use types::TypeRead;
-use types::read_stretch;
+use steps::read_step;
 ghost use mathlib.Core.Path.{_≡_};
-ghost use Prim.Native.Nat.{ℕ};
-ghost use Rattle.format.specs.Records.{readType};
-ghost use Rattle.machine.specs.Steps.{aPervading};
-ghost use Rattle.machine.specs.Sheet.{opcodeFrom, argumentFrom};
-ghost use Rattle.cursor.specs.Answers.{markedOf, fillsOf, TypeIs};
+ghost use Rattle.machine.specs.Sheet.{stepFrom};
+ghost use Rattle.cursor.specs.Answers.{StepIs};
 
 // A step's fields and the place after it, or the refusal. The bytes of its type stand from start to next.
 pub enum StepRead {
@@ -54,25 +45,11 @@ struct Cursor<'a> {
     at: usize,
 }
 
-// The mark at a place of a sheet; its callers need no cursor of their own.
-fn mark_at(s: &[u8], at: usize) -> MarkRead
-    ensures { λ r. ⌜ markedOf r at ≡ opcodeFrom (now (s .entry)) at at ⌝ }
+// The step whose mark stands at a place, on a stack of that height; its callers need no cursor of their own.
+pub fn step_at(s: &[u8], at: usize, height: usize) -> StepRead
+    ensures { λ r. ⌜ StepIs r (now (s .entry)) (stepFrom (now (s .entry)) height at at) ⌝ }
 {
-    next_mark(new(s, at))
-}
-
-// The same of a flag byte.
-fn flag_at(s: &[u8], at: usize) -> FlagRead
-    ensures { λ r. ⌜ ((p : ℕ) → fillsOf r p ≡ argumentFrom (now (s .entry)) aPervading p at) ⌝ }
-{
-    next_flag(new(s, at))
-}
-
-// The same of a type.
-fn type_at(s: &[u8], at: usize) -> TypeRead
-    ensures { λ r. ⌜ TypeIs r (now (s .entry)) at (readType (now (s .entry)) at) ⌝ }
-{
-    next_type(new(s, at))
+    next_step(new(s, at), height)
 }
 
 fn new<'a>(src: &'a [u8], at: usize) -> Cursor<'a>
@@ -81,20 +58,8 @@ fn new<'a>(src: &'a [u8], at: usize) -> Cursor<'a>
     Cursor { src, at }
 }
 
-fn next_mark<'a>(c: Cursor<'a>) -> MarkRead
-    ensures { λ r. ⌜ markedOf r (c .entry .at) ≡ opcodeFrom (now (c .entry .src)) (c .entry .at) (c .entry .at) ⌝ }
+fn next_step<'a>(c: Cursor<'a>, height: usize) -> StepRead
+    ensures { λ r. ⌜ StepIs r (now (c .entry .src)) (stepFrom (now (c .entry .src)) height (c .entry .at) (c .entry .at)) ⌝ }
 {
-    read_mark(c.src, c.at)
-}
-
-fn next_flag<'a>(c: Cursor<'a>) -> FlagRead
-    ensures { λ r. ⌜ ((p : ℕ) → fillsOf r p ≡ argumentFrom (now (c .entry .src)) aPervading p (c .entry .at)) ⌝ }
-{
-    read_flag(c.src, c.at)
-}
-
-fn next_type<'a>(c: Cursor<'a>) -> TypeRead
-    ensures { λ r. ⌜ TypeIs r (now (c .entry .src)) (c .entry .at) (readType (now (c .entry .src)) (c .entry .at)) ⌝ }
-{
-    read_stretch(c.src, c.at)
+    read_step(c.src, c.at, height)
 }

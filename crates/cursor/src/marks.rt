@@ -17,7 +17,7 @@ ghost use Rattle.machine.specs.Sheet.{isMark, opcodeIn, opcodeFrom};
 ghost use Rattle.cursor.specs.Answers.{markedOf};
 
 // Which step a mark begins.
-pub enum Opcode {
+pub enum Operation {
     Put,
     Row,
     Pervading,
@@ -27,7 +27,7 @@ pub enum Opcode {
 
 // A mark and the place after it, or the number of its refusal, which names the mark.
 pub enum MarkRead {
-    Got { opcode: Opcode, next: usize },
+    Got { opcode: Operation, next: usize },
     Refused { number: u8 },
 }
 
@@ -56,31 +56,31 @@ fn judge_mark(x: u8, y: u8, next: usize) -> MarkRead
 {
     if is_mark(PUT, x, y) {
         return MarkRead::Got {
-            opcode: Opcode::Put,
+            opcode: Operation::Put,
             next,
         };
     }
     if is_mark(ROW, x, y) {
         return MarkRead::Got {
-            opcode: Opcode::Row,
+            opcode: Operation::Row,
             next,
         };
     }
     if is_mark(PERVADE, x, y) {
         return MarkRead::Got {
-            opcode: Opcode::Pervading,
+            opcode: Operation::Pervading,
             next,
         };
     }
     if is_mark(JOIN, x, y) {
         return MarkRead::Got {
-            opcode: Opcode::Join,
+            opcode: Operation::Join,
             next,
         };
     }
     if is_mark(VALIDATE, x, y) {
         return MarkRead::Got {
-            opcode: Opcode::Validating,
+            opcode: Operation::Validating,
             next,
         };
     }

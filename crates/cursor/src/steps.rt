@@ -1,21 +1,22 @@
 // One step as it is read, its rule left out: its mark, the stack, then its flag or type.
 use crate::StepRead;
-use crate::flag_at;
 use crate::flags::FlagRead;
 use crate::flags::flag_number;
-use crate::mark_at;
+use crate::flags::read_flag;
 use crate::marks::MarkRead;
-use crate::marks::Opcode;
+use crate::marks::Operation;
 use crate::marks::mark_number;
-use crate::type_at;
+use crate::marks::read_mark;
 use crate::types::TypeRead;
+use crate::types::read_stretch;
 use crate::types::type_number;
 use crate::types::type_place;
+use limits::MAX_STACK;
 use limits::refusal::OVERFLOW;
 use limits::refusal::UNDERFLOW;
-use stack::MAX_STACK;
 ghost use mathlib.Core.Path.{_≡_};
-ghost use Prim.Native.Nat.{ℕ};
+ghost use Prim.Native.Nat.{ℕ, _≤_};
+ghost use Rattle.machine.specs.SheetLimits.{maxStack};
 ghost use Rattle.machine.specs.Steps as steps;
 ghost use Rattle.machine.specs.Steps.{aPut, aPervading, aValidating};
 ghost use Rattle.machine.specs.Sheet.{argumentFrom, stepFrom};
@@ -25,7 +26,7 @@ ghost use Rattle.cursor.specs.Answers.{opcodeFor, StepIs};
 pub fn read_step(s: &[u8], at: usize, height: usize) -> StepRead
     ensures { λ r. ⌜ StepIs r (now (s .entry)) (stepFrom (now (s .entry)) height at at) ⌝ }
 {
-    let marked = mark_at(s, at);
+    let marked = read_mark(s, at);
     let MarkRead::Got { opcode, next } = marked else {
         return StepRead::Refused {
             number: mark_number(marked),
@@ -39,31 +40,45 @@ pub fn read_step(s: &[u8], at: usize, height: usize) -> StepRead
             place: at,
         };
     }
-    if MAX_STACK <= height - taken {
+    let laid = lays(opcode);
+    if MAX_STACK - laid < height - taken {
         return StepRead::Refused {
             number: OVERFLOW,
             place: at,
         };
     }
     match opcode {
-        Opcode::Put => read_put(s, next),
-        Opcode::Row => StepRead::Row { next },
-        Opcode::Pervading => read_pervading(s, at, next),
-        Opcode::Join => StepRead::Join { next },
-        Opcode::Validating => read_validating(s, next),
+        Operation::Put => read_put(s, next),
+        Operation::Row => StepRead::Row { next },
+        Operation::Pervading => read_pervading(s, at, next),
+        Operation::Join => StepRead::Join { next },
+        Operation::Validating => read_validating(s, next),
     }
 }
 
 // How many types a step takes off the stack.
-fn takes(opcode: Opcode) -> usize
+fn takes(opcode: Operation) -> usize
     ensures { λ r. ⌜ r ≡ steps.takes (opcodeFor opcode) ⌝ }
 {
     match opcode {
-        Opcode::Put => 0,
-        Opcode::Row => 1,
-        Opcode::Pervading => 2,
-        Opcode::Join => 2,
-        Opcode::Validating => 1,
+        Operation::Put => 0,
+        Operation::Row => 1,
+        Operation::Pervading => 2,
+        Operation::Join => 2,
+        Operation::Validating => 1,
+    }
+}
+
+// How many types it lays down.
+fn lays(opcode: Operation) -> usize
+    ensures { λ r. ⌜ (r ≡ steps.lays (opcodeFor opcode)) × (r ≤ maxStack) ⌝ }
+{
+    match opcode {
+        Operation::Put => 1,
+        Operation::Row => 1,
+        Operation::Pervading => 1,
+        Operation::Join => 1,
+        Operation::Validating => 1,
     }
 }
 
@@ -71,7 +86,7 @@ fn takes(opcode: Opcode) -> usize
 fn read_put(s: &[u8], start: usize) -> StepRead
     ensures { λ r. ⌜ ((p : ℕ) → StepIs r (now (s .entry)) (argumentFrom (now (s .entry)) aPut p start)) ⌝ }
 {
-    let read = type_at(s, start);
+    let read = read_stretch(s, start);
     let TypeRead::Got { next } = read else {
         return StepRead::Refused {
             number: type_number(read),
@@ -85,7 +100,7 @@ fn read_put(s: &[u8], start: usize) -> StepRead
 fn read_pervading(s: &[u8], mark: usize, at: usize) -> StepRead
     ensures { λ r. ⌜ StepIs r (now (s .entry)) (argumentFrom (now (s .entry)) aPervading mark at) ⌝ }
 {
-    let read = flag_at(s, at);
+    let read = read_flag(s, at);
     let FlagRead::Got {
         top_fill,
         below_fill,
@@ -108,7 +123,7 @@ fn read_pervading(s: &[u8], mark: usize, at: usize) -> StepRead
 fn read_validating(s: &[u8], start: usize) -> StepRead
     ensures { λ r. ⌜ ((p : ℕ) → StepIs r (now (s .entry)) (argumentFrom (now (s .entry)) aValidating p start)) ⌝ }
 {
-    let read = type_at(s, start);
+    let read = read_stretch(s, start);
     let TypeRead::Got { next } = read else {
         return StepRead::Refused {
             number: type_number(read),

@@ -1,6 +1,6 @@
 -- Room that suffices for a text, by how many types it shows and how many bytes these take.
 use Prim.Native.Nat.{ℕ, _+_, _*_}
-use Rattle.machine.specs.SheetLimits.{maxStack, scratchBytes}
+use Rattle.machine.specs.SheetLimits.{maxStack, resultBytes}
 
 -- a number of 64 bits in decimal
 abbrev pub numberRoom : ℕ
@@ -24,8 +24,8 @@ textRoom between types bytes = headRoom + linesRoom between types bytes
 
 -- what the program prints, a line feed after it
 abbrev pub printRoom : ℕ
-printRoom = textRoom 1 maxStack scratchBytes + 1
+printRoom = textRoom 1 maxStack resultBytes + 1
 
 -- what a call answers, where up to three bytes stand between two lines
 abbrev pub callRoom : ℕ
-callRoom = textRoom 3 maxStack scratchBytes
+callRoom = textRoom 3 maxStack resultBytes

@@ -2,10 +2,6 @@
 use crate::parts::put;
 use crate::parts::put_hex;
 use crate::parts::put_number;
-use limits::MAX_DEPTH;
-use limits::MAX_TYPES;
-use record::Answer;
-use record::read_type;
 ghost use mathlib.Core.Path.{_≡_};
 ghost use mathlib.Core.List.{List};
 ghost use Prim.Native.Nat.{ℕ, _+_, _*_, _≤_};
@@ -25,14 +21,22 @@ pub fn put_refusal(number: u64, place: u64, out: &mut [u8], at: usize) -> usize
     put_head(b"no ", number, place, out, at)
 }
 
-// The types left, whose records stand one after the other in `bytes`.
-pub fn put_left(types: usize, bytes: &[u8], between: &[u8], out: &mut [u8], at: usize) -> usize
-    requires { ⌜ Left (now bytes) types ⌝ }
+// The types left, whose records stand one after the other in `bytes`, each of its length.
+pub fn put_left(
+    types: usize,
+    lengths: &[usize],
+    bytes: &[u8],
+    between: &[u8],
+    out: &mut [u8],
+    at: usize,
+) -> usize
+    requires { ⌜ Left (now bytes) (now lengths) types ⌝ }
     requires { ⌜ at + textRoom (length (now between)) types (length (now bytes)) ≤ length (now out) ⌝ }
-    ensures { λ r. ⌜ ((ts : List Ty) → LeftIs (now (bytes .entry)) types ts → Laid r at (now (out .entry)) (now (out .exit)) (reported (now (between .entry)) (accepted ts))) ⌝ }
+    ensures { λ r. ⌜ ((ts : List Ty) → LeftIs (now (bytes .entry)) (now (lengths .entry)) types ts
+        → Laid r at (now (out .entry)) (now (out .exit)) (reported (now (between .entry)) (accepted ts))) ⌝ }
 {
     let next = put_head(b"ok ", types as u64, bytes.len() as u64, &mut *out, at);
-    put_types(types, bytes, between, out, next)
+    put_types(types, lengths, bytes, between, out, next)
 }
 
 // A word and two numbers.
@@ -48,19 +52,24 @@ fn put_head(word: &[u8], m: u64, n: u64, out: &mut [u8], at: usize) -> usize
 }
 
 // Type by type, from the bottom.
-fn put_types(types: usize, bytes: &[u8], between: &[u8], out: &mut [u8], at: usize) -> usize
-    requires { ⌜ Left (now bytes) types ⌝ }
+fn put_types(
+    types: usize,
+    lengths: &[usize],
+    bytes: &[u8],
+    between: &[u8],
+    out: &mut [u8],
+    at: usize,
+) -> usize
+    requires { ⌜ Left (now bytes) (now lengths) types ⌝ }
     requires { ⌜ at + linesRoom (length (now between)) types (length (now bytes)) ≤ length (now out) ⌝ }
-    ensures { λ r. ⌜ ((ts : List Ty) → LeftIs (now (bytes .entry)) types ts → Laid r at (now (out .entry)) (now (out .exit)) (typeLines (now (between .entry)) 0 ts)) ⌝ }
+    ensures { λ r. ⌜ ((ts : List Ty) → LeftIs (now (bytes .entry)) (now (lengths .entry)) types ts
+        → Laid r at (now (out .entry)) (now (out .exit)) (typeLines (now (between .entry)) 0 ts)) ⌝ }
 {
     let mut i = 0usize;
     let mut from = 0usize;
     let mut end = at;
     while i < types {
-        let read = read_type(bytes, from, MAX_DEPTH, MAX_TYPES);
-        let Answer::Got { value: _, next } = read else {
-            return end;
-        };
+        let next = from + lengths[i];
         end = put_type(i, &bytes[from..next], between, &mut *out, end);
         from = next;
         i += 1;

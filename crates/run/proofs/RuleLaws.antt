@@ -1,40 +1,37 @@
--- What a rule wrote to a buffer that holds any type, and the bytes of types that are held.
-use Prim.Native.Nat.{ℕ, _+_, _-_, _≤_}
+-- What a rule wrote to a buffer that holds any type, and what a pervading makes of bytes that are types.
+use Prim.Native.Nat.{ℕ, _≤_}
 use native.Mathlib.Omega.{arith}
 use mathlib.Core.Bool.{Bool}
 use mathlib.Core.List.{List, _++_}
 use mathlib.Core.Option.{none, some}
 use mathlib.Core.Path.{_≡_, refl, sym, _∙_, ap}
-use lib.ListN.{length, take, drop, length-append, length-drop}
+use lib.ListN.{length, take, drop, length-append}
 use lib.Seq.{take-append-seam}
 use borrow.Author.Tests.{le-leb}
-use Rattle.model.specs.Limits.{maxBytes, maxTypes}
+use Rattle.model.specs.Limits.{maxBytes}
 use Rattle.model.specs.Refusals.{unpervaded}
-use Rattle.model.specs.Types.{Shape, Scalar, Ty, ty, types}
+use Rattle.model.specs.Types.{Shape, Scalar, Ty, ty, shapeOf, scalarOf}
 use Rattle.model.specs.Within.{Within}
-use Rattle.format.specs.Reader.{Bytes, got, stopped, mapRead}
-use Rattle.format.specs.Records.{writeTy, readType}
-use Rattle.format.specs.ReadWrite.{read-write}
-use Rattle.format.specs.WriteRead.{write-read, write-lone}
+use Rattle.format.specs.Records.{writeTy}
+use Rattle.format.specs.WriteRead.{write-lone}
 use Rattle.format.specs.Suffices.{suffices}
 use Rattle.format.specs.Outcome.{Outcome, accepted, refused, mapped, both, lone, delivery, deliver}
 use Rattle.lent.specs.Written.{delivered, Puts}
 use Rattle.lent.specs.declared.Written.{Written}
 use Rattle.lent.specs.declared.Written.the-variants.{Wrote, Refused as Unwritten}
-use Rattle.record.specs.Answers.{nothings, answerOf}
-use Rattle.record.specs.declared.Answer.{Answer}
-use Rattle.record.specs.declared.Answer.the-variants.{Got, Refused}
-use Rattle.record.proofs.Known.{known, told, got-map, stopped-map}
+use Rattle.record.specs.Answers.{nothings}
 use Rattle.rules.specs.Pervade.{pervade}
 use Rattle.rules.specs.Scalars.{union}
 use Rattle.machine.specs.Run.{pervadeTypes}
 use Rattle.record.proofs.LoneLaws.{both-accepted}
+use Rattle.join.specs.ShapesLaws.{by-scalars}
 use Rattle.run.specs.Answers.{atStart}
 
 -- ---- what a rule wrote
 
 module _ (o : Outcome Ty) (w : Written) (out : List ℕ) where
-  pub rule-wrote : {C : Type 0} {n : ℕ} → w ≡ Wrote n → Puts w out (mapped writeTy o) → ((t : Ty) → o ≡ accepted t → take n out ≡ writeTy t → n ≤ length out → C) → C
+  pub rule-wrote : {C : Type 0} {n : ℕ} → w ≡ Wrote n → Puts w out (mapped writeTy o)
+      → ((t : Ty) → o ≡ accepted t → take n out ≡ writeTy t → n ≤ length out → C) → C
   rule-wrote {C} {n} is puts f = go o refl (rw is at puts)
     where
       go : (x : Outcome Ty) → o ≡ x → Puts (Wrote n) out (mapped writeTy x) → C
@@ -49,7 +46,8 @@ module _ (o : Outcome Ty) (w : Written) (out : List ℕ) where
       go (accepted t) e = let z : _≡_ {A = ℕ} 0 1 = cc in absurd (omega arith)
 
   -- where any type has room, only the rule refuses
-  pub delivered-puts : (before : List ℕ) → delivered w out ≡ deliver (mapped writeTy o) before → ((t : Ty) → o ≡ accepted t → Within t) → maxBytes ≤ length before → Puts w out (mapped writeTy o)
+  pub delivered-puts : (before : List ℕ) → delivered w out ≡ deliver (mapped writeTy o) before
+      → ((t : Ty) → o ≡ accepted t → Within t) → maxBytes ≤ length before → Puts w out (mapped writeTy o)
   unfolding deliver
   delivered-puts before e keeps room = go w o refl e
     where
@@ -67,22 +65,28 @@ module _ (o : Outcome Ty) (w : Written) (out : List ℕ) where
               let y : out ≡ writeTy t ++ drop (length (writeTy t)) before = cc in
               rw (x, y) (ap accepted (sym (take-append-seam (writeTy t) (drop (length (writeTy t)) before))), rw length-append (omega arith))
 
--- ---- types that are held
+-- ---- types whose bytes are known
 
 -- bytes that are a type's are a lone type
-pub held-lone : {w : List ℕ} {t : Ty} → w ≡ writeTy t → Within t → lone w ≡ accepted t
-held-lone {w} {t} e within = ap lone e ∙ write-lone t within
+pub bytes-lone : {w : List ℕ} {t : Ty} → w ≡ writeTy t → Within t → lone w ≡ accepted t
+bytes-lone {w} {t} e within = ap lone e ∙ write-lone t within
 
 -- ---- a pervading
 
-module _ (f g : Bool) (s t : Shape) (k l : Scalar) where
-  pub shapes-clash : pervade f g s t ≡ none → mapped writeTy (atStart (pervadeTypes f g (ty s k) (ty t l))) ≡ refused unpervaded 0
-  unfolding pervadeTypes
-  shapes-clash e = rw e
+module _ (f g : Bool) (a b : Outcome Ty) {s t : Shape} (first : mapped shapeOf a ≡ accepted s) (second : mapped shapeOf b ≡ accepted t) where
+  abbrev Pervaded : Outcome (List ℕ)
+  Pervaded = both (λ t u. mapped writeTy (atStart (pervadeTypes f g t u))) a b
 
-  pub shapes-pervade : {x : Shape} → pervade f g s t ≡ some x → mapped writeTy (atStart (pervadeTypes f g (ty s k) (ty t l))) ≡ accepted (writeTy (ty x (union k l)))
+  pub types-clash : both nothings a b ≡ accepted 0 → pervade f g s t ≡ none → Pervaded ≡ refused unpervaded 0
   unfolding pervadeTypes
-  shapes-pervade e = rw e
+  types-clash good e = by-scalars a b first second _ (λ k l. refused unpervaded 0) clash ∙ both-accepted a b good (λ t u x y. rw (x, y))
+    where
+      clash : (k l : Scalar) → mapped writeTy (atStart (pervadeTypes f g (ty s k) (ty t l))) ≡ refused unpervaded 0
+      clash k l = rw e
 
-pub both-refuse : (x y : Outcome Ty) → both nothings x y ≡ accepted 0 → (k p : ℕ) → both {C = List ℕ} (λ t u. refused k p) x y ≡ refused k p
-both-refuse x y good k p = both-accepted x y good λ t u e h. rw (e, h)
+  pub types-pervade : {x : Shape} → pervade f g s t ≡ some x → both (λ t u. accepted (writeTy (ty x (union (scalarOf t) (scalarOf u))))) a b ≡ Pervaded
+  unfolding pervadeTypes
+  types-pervade {x} e = sym (by-scalars a b first second _ (λ k l. accepted (writeTy (ty x (union k l)))) meets)
+    where
+      meets : (k l : Scalar) → mapped writeTy (atStart (pervadeTypes f g (ty s k) (ty t l))) ≡ accepted (writeTy (ty x (union k l)))
+      meets k l = rw e

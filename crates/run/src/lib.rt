@@ -4,13 +4,11 @@ mod steps;
 mod tops;
 
 pub use sheet::check_sheet;
-
-// Steps of a sheet.
-const MAX_STEPS: usize = 64;
+pub use sheet::measure_sheet;
 
 // What a call answers: how many types are left and their bytes in all, or the refusal.
-pub enum Called {
-    Left { types: usize, bytes: usize },
+pub enum SheetAnswer {
+    Accepted { types: usize, bytes: usize },
     Refused { number: u8, place: usize },
 }
 
@@ -24,4 +22,11 @@ pub enum Reached {
 pub struct Worked {
     pub answer: Reached,
     pub count: usize,
+}
+
+// The same of all steps, and how many were taken.
+pub struct Ran {
+    pub answer: Reached,
+    pub count: usize,
+    pub taken: usize,
 }

@@ -7,21 +7,21 @@ use crate::tops::pervade_top;
 use crate::tops::row_top;
 use crate::tops::validate_top;
 use cursor::StepRead;
-use cursor::read_step;
+use cursor::step_at;
 use lent::Written;
 use stack::store;
 ghost use mathlib.Core.Path.{_≡_};
-ghost use Prim.Native.Nat.{ℕ, _-_, _≤_, _<_};
-ghost use lib.ListN.{length, drop};
+ghost use Prim.Native.Nat.{ℕ, _≤_, _<_};
+ghost use lib.ListN.{length};
 ghost use Rattle.model.specs.Limits.{maxBytes};
 ghost use Rattle.model.specs.Types.{Ty};
-ghost use Rattle.format.specs.Outcome.{accepted, lone};
+ghost use Rattle.format.specs.Outcome.{Outcome, accepted, lone};
 ghost use Rattle.machine.specs.SheetLimits.{maxStack};
 ghost use Rattle.machine.specs.Steps as steps;
-ghost use Rattle.machine.specs.Run.{Stack, aside, onto, step};
-ghost use Rattle.machine.specs.Sheet.{placed, workFrom};
-ghost use Rattle.stack.specs.Stack.{Holds, HasTypes};
-ghost use Rattle.run.specs.Answers.{Works, Ruled};
+ghost use Rattle.machine.specs.Run.{Stack, State};
+ghost use Rattle.machine.specs.Sheet.{workFrom};
+ghost use Rattle.stack.specs.Stack.{Stacked, HasStack};
+ghost use Rattle.run.specs.Answers.{Works, Ready, StepWorks, Ruled, LaysDown};
 
 // The step whose mark stands at a place. `work` is a buffer that holds any type.
 pub fn work_step(
@@ -32,10 +32,11 @@ pub fn work_step(
     scratch: &mut [u8],
     work: &mut [u8],
 ) -> Worked
-    requires { ⌜ (maxBytes ≤ length (now work)) × HasTypes (now lengths) count (now scratch) ⌝ }
-    ensures { λ r. ⌜ ((ts : Stack) → Holds (now (lengths .entry)) count (now (scratch .entry)) ts → Works (r .answer) (now (lengths .exit)) (r .count) (now (scratch .exit)) (workFrom (now (s .entry)) ts at at)) ⌝ }
+    requires { ⌜ (maxBytes ≤ length (now work)) × HasStack (now lengths) count (now scratch) ⌝ }
+    ensures { λ r. ⌜ ((st : State Stack) → Stacked (now (lengths .entry)) count (now (scratch .entry)) (st .stack)
+        → Works (r .answer) (now (lengths .exit)) (r .count) (now (scratch .exit)) (workFrom (now (s .entry)) st at at)) ⌝ }
 {
-    let read = read_step(s, at, count);
+    let read = step_at(s, at, count);
     match read {
         StepRead::Put { start, next } => {
             put(&s[start..next], next, count, &mut *lengths, &mut *scratch)
@@ -80,8 +81,9 @@ fn refuse(count: usize, number: u8, place: usize) -> Worked
 
 // A put has nothing to refuse: its reading found room for the type.
 fn put(ty: &[u8], next: usize, count: usize, lengths: &mut [usize], scratch: &mut [u8]) -> Worked
-    requires { ⌜ (count < maxStack) × HasTypes (now lengths) count (now scratch) × ((t : Ty) × (lone (now ty) ≡ accepted t)) ⌝ }
-    ensures { λ r. ⌜ ((t : Ty) (ts : Stack) (p : ℕ) → lone (now (ty .entry)) ≡ accepted t → Holds (now (lengths .entry)) count (now (scratch .entry)) ts → Works (r .answer) (now (lengths .exit)) (r .count) (now (scratch .exit)) (placed (step (steps.put t) ts) p next)) ⌝ }
+    requires { ⌜ (count < maxStack) × HasStack (now lengths) count (now scratch) × ((t : Ty) × (lone (now ty) ≡ accepted t)) ⌝ }
+    ensures { λ r. ⌜ ((t : Ty) (at : ℕ) → lone (now (ty .entry)) ≡ accepted t
+        → StepWorks (steps.put t) at next (now (lengths .entry)) count (now (scratch .entry)) r (now (lengths .exit)) (now (scratch .exit))) ⌝ }
 {
     store(&mut *lengths, count, &mut *scratch, ty);
     Worked {
@@ -98,8 +100,8 @@ fn row(
     scratch: &mut [u8],
     work: &mut [u8],
 ) -> Worked
-    requires { ⌜ (1 ≤ count) × (maxBytes ≤ length (now work)) × HasTypes (now lengths) count (now scratch) ⌝ }
-    ensures { λ r. ⌜ ((ts : Stack) → Holds (now (lengths .entry)) count (now (scratch .entry)) ts → Works (r .answer) (now (lengths .exit)) (r .count) (now (scratch .exit)) (placed (step steps.row ts) at next)) ⌝ }
+    requires { ⌜ Ready 1 (now lengths) count (now scratch) (now work) ⌝ }
+    ensures { λ r. ⌜ StepWorks steps.row at next (now (lengths .entry)) count (now (scratch .entry)) r (now (lengths .exit)) (now (scratch .exit)) ⌝ }
 {
     let w = row_top(count, &*lengths, &*scratch, &mut *work);
     lay_down(
@@ -124,8 +126,8 @@ fn pervade(
     scratch: &mut [u8],
     work: &mut [u8],
 ) -> Worked
-    requires { ⌜ (2 ≤ count) × (maxBytes ≤ length (now work)) × HasTypes (now lengths) count (now scratch) ⌝ }
-    ensures { λ r. ⌜ ((ts : Stack) → Holds (now (lengths .entry)) count (now (scratch .entry)) ts → Works (r .answer) (now (lengths .exit)) (r .count) (now (scratch .exit)) (placed (step (steps.pervading «top_fill» «below_fill») ts) at next)) ⌝ }
+    requires { ⌜ Ready 2 (now lengths) count (now scratch) (now work) ⌝ }
+    ensures { λ r. ⌜ StepWorks (steps.pervading «top_fill» «below_fill») at next (now (lengths .entry)) count (now (scratch .entry)) r (now (lengths .exit)) (now (scratch .exit)) ⌝ }
 {
     let w = pervade_top(
         count,
@@ -155,8 +157,8 @@ fn join(
     scratch: &mut [u8],
     work: &mut [u8],
 ) -> Worked
-    requires { ⌜ (2 ≤ count) × (maxBytes ≤ length (now work)) × HasTypes (now lengths) count (now scratch) ⌝ }
-    ensures { λ r. ⌜ ((ts : Stack) → Holds (now (lengths .entry)) count (now (scratch .entry)) ts → Works (r .answer) (now (lengths .exit)) (r .count) (now (scratch .exit)) (placed (step steps.join ts) at next)) ⌝ }
+    requires { ⌜ Ready 2 (now lengths) count (now scratch) (now work) ⌝ }
+    ensures { λ r. ⌜ StepWorks steps.join at next (now (lengths .entry)) count (now (scratch .entry)) r (now (lengths .exit)) (now (scratch .exit)) ⌝ }
 {
     let w = join_top(count, &*lengths, &*scratch, &mut *work);
     lay_down(
@@ -180,8 +182,9 @@ fn validate(
     scratch: &mut [u8],
     work: &mut [u8],
 ) -> Worked
-    requires { ⌜ (1 ≤ count) × (maxBytes ≤ length (now work)) × HasTypes (now lengths) count (now scratch) × ((t : Ty) × (lone (now spec) ≡ accepted t)) ⌝ }
-    ensures { λ r. ⌜ ((t : Ty) (ts : Stack) → lone (now (spec .entry)) ≡ accepted t → Holds (now (lengths .entry)) count (now (scratch .entry)) ts → Works (r .answer) (now (lengths .exit)) (r .count) (now (scratch .exit)) (placed (step (steps.validating t) ts) at next)) ⌝ }
+    requires { ⌜ Ready 1 (now lengths) count (now scratch) (now work) × ((t : Ty) × (lone (now spec) ≡ accepted t)) ⌝ }
+    ensures { λ r. ⌜ ((t : Ty) → lone (now (spec .entry)) ≡ accepted t
+        → StepWorks (steps.validating t) at next (now (lengths .entry)) count (now (scratch .entry)) r (now (lengths .exit)) (now (scratch .exit))) ⌝ }
 {
     let w = validate_top(count, &*lengths, &*scratch, spec, &mut *work);
     lay_down(
@@ -207,8 +210,8 @@ fn lay_down(
     at: usize,
     next: usize,
 ) -> Worked
-    requires { ⌜ Ruled (now lengths) count (now scratch) k w (now work) ⌝ }
-    ensures { λ r. ⌜ ((x : Ruled (now (lengths .entry)) count (now (scratch .entry)) k w (now (work .entry))) → Works (r .answer) (now (lengths .exit)) (r .count) (now (scratch .exit)) (placed (onto (drop (count - k) (x .types)) (aside (x .outcome))) at next)) ⌝ }
+    requires { ⌜ HasStack (now lengths) count (now scratch) × ((o : Outcome Ty) × Ruled count k w (now work) o) ⌝ }
+    ensures { λ r. ⌜ LaysDown (now (lengths .entry)) count (now (scratch .entry)) k w (now (work .entry)) at next r (now (lengths .exit)) (now (scratch .exit)) ⌝ }
 {
     match w {
         Written::Wrote(n) => {

@@ -6,34 +6,67 @@ use limits::refusal::UNPERVADED;
 use record::lone_shape;
 use shape::Verdict;
 use shape::pervade_dyn_shapes;
+use stack::Bounds;
 use stack::load;
 use ty::Which;
 use ty::row_known;
 use validate::Side;
 use validate::validate_known;
 ghost use mathlib.Core.Path.{_≡_};
-ghost use mathlib.Core.List.{_∷_};
-ghost use Prim.Native.Nat.{_≤_};
-ghost use lib.ListN.{length};
-ghost use Rattle.model.specs.Limits.{maxBytes};
+ghost use mathlib.Core.List.{List, _∷_};
+ghost use Prim.Native.Nat.{ℕ, _≤_};
 ghost use Rattle.model.specs.Types.{Ty};
 ghost use Rattle.format.specs.Records.{writeTy};
 ghost use Rattle.format.specs.Outcome.{accepted, deliver, mapped, both, lone};
-ghost use Rattle.lent.specs.Written.{delivered, Puts};
+ghost use Rattle.lent.specs.Written.{delivered};
 ghost use Rattle.record.specs.Answers.{nothings};
 ghost use Rattle.rules.specs.Types.{intoRow, joinTypes};
 ghost use Rattle.validation.specs.CheckShape.{unsided};
 ghost use Rattle.validation.specs.Validate.{validate};
+ghost use Rattle.machine.specs.SheetLimits.{scratchBytes};
 ghost use Rattle.machine.specs.Run.{Stack, pervadeTypes};
-ghost use Rattle.stack.specs.Stack.{Holds, HasTypes};
-ghost use Rattle.run.specs.Answers.{atStart};
+ghost use Rattle.stack.specs.Stack.{Stacked, HasStack};
+ghost use Rattle.run.specs.Answers.{Ready, Between, OfTop, OfTwo, atStart};
+
+// Where the top stands.
+fn load_top(count: usize, lengths: &[usize]) -> Bounds
+    requires { ⌜ ((d : List ℕ) × (1 ≤ count) × HasStack (now lengths) count d) ⌝ }
+    ensures { λ r. ⌜ (r .start ≤ r .end) × (r .end ≤ scratchBytes) ⌝ }
+    ensures { λ r. ⌜ ((d : List ℕ) (t : Ty) (ts : Stack) → Stacked (now (lengths .entry)) count d (t ∷ ts) → Between (r .start) (r .end) d t) ⌝ }
+{
+    load(lengths, count - 1)
+}
+
+// Where the top stands, from start to end, and the one below it, from `from` to `to`.
+struct TopTwo {
+    start: usize,
+    end: usize,
+    from: usize,
+    to: usize,
+}
+
+fn load_two(count: usize, lengths: &[usize]) -> TopTwo
+    requires { ⌜ ((d : List ℕ) × (2 ≤ count) × HasStack (now lengths) count d) ⌝ }
+    ensures { λ r. ⌜ (r .start ≤ r .end) × (r .end ≤ scratchBytes) × (r .from ≤ r .to) × (r .to ≤ scratchBytes) ⌝ }
+    ensures { λ r. ⌜ ((d : List ℕ) (t u : Ty) (ts : Stack) → Stacked (now (lengths .entry)) count d (t ∷ u ∷ ts)
+        → Between (r .start) (r .end) d t × Between (r .from) (r .to) d u) ⌝ }
+{
+    let top = load(lengths, count - 1);
+    let below = load(lengths, count - 2);
+    TopTwo {
+        start: top.start,
+        end: top.end,
+        from: below.start,
+        to: below.end,
+    }
+}
 
 // The row of the top.
 pub fn row_top(count: usize, lengths: &[usize], scratch: &[u8], out: &mut [u8]) -> Written
-    requires { ⌜ (1 ≤ count) × HasTypes (now lengths) count (now scratch) ⌝ }
-    ensures { λ r. ⌜ ((t : Ty) (ts : Stack) → Holds (now (lengths .entry)) count (now (scratch .entry)) (t ∷ ts) → delivered r (now (out .exit)) ≡ deliver (accepted (writeTy (intoRow t))) (now (out .entry))) ⌝ }
+    requires { ⌜ Ready 1 (now lengths) count (now scratch) (now out) ⌝ }
+    ensures { λ r. ⌜ OfTop (λ t. accepted (intoRow t)) (now (lengths .entry)) count (now (scratch .entry)) r (now (out .exit)) ⌝ }
 {
-    let top = load(lengths, count - 1);
+    let top = load_top(count, lengths);
     let start = top.start;
     let end = top.end;
     row_known(&scratch[start..end], Which::First, &mut *out)
@@ -41,15 +74,14 @@ pub fn row_top(count: usize, lengths: &[usize], scratch: &[u8], out: &mut [u8]) 
 
 // The join of the top with the one below.
 pub fn join_top(count: usize, lengths: &[usize], scratch: &[u8], out: &mut [u8]) -> Written
-    requires { ⌜ (2 ≤ count) × HasTypes (now lengths) count (now scratch) ⌝ }
-    ensures { λ r. ⌜ ((t u : Ty) (ts : Stack) → Holds (now (lengths .entry)) count (now (scratch .entry)) (t ∷ u ∷ ts) → delivered r (now (out .exit)) ≡ deliver (accepted (writeTy (joinTypes t u))) (now (out .entry))) ⌝ }
+    requires { ⌜ Ready 2 (now lengths) count (now scratch) (now out) ⌝ }
+    ensures { λ r. ⌜ OfTwo (λ t u. accepted (joinTypes t u)) (now (lengths .entry)) count (now (scratch .entry)) r (now (out .exit)) ⌝ }
 {
-    let top = load(lengths, count - 1);
-    let start = top.start;
-    let end = top.end;
-    let below = load(lengths, count - 2);
-    let from = below.start;
-    let to = below.end;
+    let two = load_two(count, lengths);
+    let start = two.start;
+    let end = two.end;
+    let from = two.from;
+    let to = two.to;
     join_known(&scratch[start..end], &scratch[from..to], &mut *out)
 }
 
@@ -62,15 +94,14 @@ pub fn pervade_top(
     below_fill: bool,
     out: &mut [u8],
 ) -> Written
-    requires { ⌜ (2 ≤ count) × HasTypes (now lengths) count (now scratch) ⌝ }
-    ensures { λ r. ⌜ ((t u : Ty) (ts : Stack) → Holds (now (lengths .entry)) count (now (scratch .entry)) (t ∷ u ∷ ts) → delivered r (now (out .exit)) ≡ deliver (mapped writeTy (atStart (pervadeTypes «top_fill» «below_fill» t u))) (now (out .entry))) ⌝ }
+    requires { ⌜ Ready 2 (now lengths) count (now scratch) (now out) ⌝ }
+    ensures { λ r. ⌜ OfTwo (λ t u. atStart (pervadeTypes «top_fill» «below_fill» t u)) (now (lengths .entry)) count (now (scratch .entry)) r (now (out .exit)) ⌝ }
 {
-    let top = load(lengths, count - 1);
-    let start = top.start;
-    let end = top.end;
-    let below = load(lengths, count - 2);
-    let from = below.start;
-    let to = below.end;
+    let two = load_two(count, lengths);
+    let start = two.start;
+    let end = two.end;
+    let from = two.from;
+    let to = two.to;
     pervade_types(
         &scratch[start..end],
         &scratch[from..to],
@@ -83,7 +114,8 @@ pub fn pervade_top(
 // The pervading of bytes that are known to be types: that of their shapes with the union of their scalars.
 fn pervade_types(a: &[u8], b: &[u8], a_fill: bool, b_fill: bool, out: &mut [u8]) -> Written
     requires { ⌜ both nothings (lone (now a)) (lone (now b)) ≡ accepted 0 ⌝ }
-    ensures { λ r. ⌜ delivered r (now (out .exit)) ≡ deliver (both (λ t u. mapped writeTy (atStart (pervadeTypes «a_fill» «b_fill» t u))) (lone (now (a .entry))) (lone (now (b .entry)))) (now (out .entry)) ⌝ }
+    ensures { λ r. ⌜ delivered r (now (out .exit)) ≡ deliver
+        (both (λ t u. mapped writeTy (atStart (pervadeTypes «a_fill» «b_fill» t u))) (lone (now (a .entry))) (lone (now (b .entry)))) (now (out .entry)) ⌝ }
 {
     let pervaded = pervade_dyn_shapes(lone_shape(a), lone_shape(b), a_fill, b_fill);
     let answer = pervaded.answer;
@@ -105,10 +137,11 @@ pub fn validate_top(
     spec: &[u8],
     out: &mut [u8],
 ) -> Written
-    requires { ⌜ (1 ≤ count) × (maxBytes ≤ length (now out)) × HasTypes (now lengths) count (now scratch) × ((s : Ty) × (lone (now spec) ≡ accepted s)) ⌝ }
-    ensures { λ r. ⌜ ((s t : Ty) (ts : Stack) → Holds (now (lengths .entry)) count (now (scratch .entry)) (t ∷ ts) → lone (now (spec .entry)) ≡ accepted s → Puts r (now (out .exit)) (mapped writeTy (validate unsided s t))) ⌝ }
+    requires { ⌜ Ready 1 (now lengths) count (now scratch) (now out) × ((s : Ty) × (lone (now spec) ≡ accepted s)) ⌝ }
+    ensures { λ r. ⌜ ((s : Ty) → lone (now (spec .entry)) ≡ accepted s
+        → OfTop (λ t. validate unsided s t) (now (lengths .entry)) count (now (scratch .entry)) r (now (out .exit))) ⌝ }
 {
-    let top = load(lengths, count - 1);
+    let top = load_top(count, lengths);
     let start = top.start;
     let end = top.end;
     validate_known(Side::Unsided, spec, &scratch[start..end], &mut *out)

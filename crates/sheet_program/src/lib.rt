@@ -1,10 +1,10 @@
 // The sheet program whole: a sheet from standard input, what the check says of it to standard output, all else to standard error.
 // It is a library so that several programs can be it, each run with an input of its own.
-use printer::MAX_SHEET;
+use limits::MAX_SHEET;
+use limits::SCRATCH_BYTES;
 use printer::Printed;
 use printer::TEXT;
 use printer::print_input;
-use stack::SCRATCH_BYTES;
 use streams::Asked;
 use streams::complain;
 use streams::read_argument;

@@ -1,1 +1,1 @@
-mod LaidLaws
+mod StackBytesLaws

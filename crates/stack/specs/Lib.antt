@@ -1,3 +1,3 @@
 pub mod Stack
 pub mod StackLaws
-pub mod Laid
+pub mod StackBytes

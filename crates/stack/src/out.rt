@@ -1,8 +1,8 @@
 // What becomes of the scratch in the end: the types left go to the result, and its bytes become zero.
-use crate::SCRATCH_BYTES;
 use crate::load;
 use lent::Written;
 use lent::lay;
+use limits::SCRATCH_BYTES;
 use limits::refusal::TOO_SHORT;
 ghost use mathlib.Core.Path.{_≡_};
 ghost use mathlib.Core.List.{List, _++_, reverse};
@@ -14,13 +14,14 @@ ghost use Rattle.lent.specs.Over.{over};
 ghost use Rattle.lent.specs.Written.{delivered};
 ghost use Rattle.machine.specs.SheetLimits.{scratchBytes};
 ghost use Rattle.machine.specs.Call.{writeTypes, zeroed};
-ghost use Rattle.stack.specs.Stack.{Holds, HasTypes};
-ghost use Rattle.stack.specs.Laid.{laid};
+ghost use Rattle.stack.specs.Stack.{Stacked, HasStack};
+ghost use Rattle.stack.specs.StackBytes.{stackBytes};
 
 // The types, bottom first, to the front of the result.
 pub fn write_types(count: usize, lengths: &[usize], scratch: &[u8], result: &mut [u8]) -> Written
-    requires { ⌜ HasTypes (now lengths) count (now scratch) ⌝ }
-    ensures { λ r. ⌜ ((ts : List Ty) → Holds (now (lengths .entry)) count (now (scratch .entry)) ts → delivered r (now (result .exit)) ≡ deliver (accepted (writeTypes (reverse ts))) (now (result .entry))) ⌝ }
+    requires { ⌜ HasStack (now lengths) count (now scratch) ⌝ }
+    ensures { λ r. ⌜ ((ts : List Ty) → Stacked (now (lengths .entry)) count (now (scratch .entry)) ts
+        → delivered r (now (result .exit)) ≡ deliver (accepted (writeTypes (reverse ts))) (now (result .entry))) ⌝ }
 {
     let size = total(count, lengths);
     if result.len() < size {
@@ -35,8 +36,8 @@ pub fn write_types(count: usize, lengths: &[usize], scratch: &[u8], result: &mut
 
 // The bytes of all types.
 fn total(count: usize, lengths: &[usize]) -> usize
-    requires { ⌜ ((d : List ℕ) × HasTypes (now lengths) count d) ⌝ }
-    ensures { λ r. ⌜ ((d : List ℕ) → HasTypes (now (lengths .entry)) count d → r ≡ length (laid (now (lengths .entry)) d count)) ⌝ }
+    requires { ⌜ ((d : List ℕ) × HasStack (now lengths) count d) ⌝ }
+    ensures { λ r. ⌜ ((d : List ℕ) → HasStack (now (lengths .entry)) count d → r ≡ length (stackBytes (now (lengths .entry)) d count)) ⌝ }
 {
     let mut size = 0;
     let mut k = 0;
@@ -48,8 +49,8 @@ fn total(count: usize, lengths: &[usize]) -> usize
 }
 
 fn lay_types(count: usize, lengths: &[usize], scratch: &[u8], result: &mut [u8])
-    requires { ⌜ HasTypes (now lengths) count (now scratch) × (length (laid (now lengths) (now scratch) count) ≤ length (now result)) ⌝ }
-    ensures { λ _. ⌜ now (result .exit) ≡ over (now (result .entry)) 0 (laid (now (lengths .entry)) (now (scratch .entry)) count) ⌝ }
+    requires { ⌜ HasStack (now lengths) count (now scratch) × (length (stackBytes (now lengths) (now scratch) count) ≤ length (now result)) ⌝ }
+    ensures { λ _. ⌜ now (result .exit) ≡ over (now (result .entry)) 0 (stackBytes (now (lengths .entry)) (now (scratch .entry)) count) ⌝ }
 {
     let mut at = 0;
     let mut k = 0;

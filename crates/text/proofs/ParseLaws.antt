@@ -108,7 +108,9 @@ getD-unhex (h ∷ l ∷ s) (suc i) b =
     rw (y, x) (getD-unhex s i (omega arith))
 
 -- One byte more, after those before it.
-pub decoded-more : (out s now : List ℕ) (at i x y : ℕ) → at + length s / 2 ≤ length out → i < length s / 2 → x ≡ digit (getD s (2 * i) 0) → y ≡ digit (getD s (2 * i + 1) 0) → now ≡ paste out at (unhex s) i → set now (at + i) (16 * x + y) ≡ paste out at (unhex s) (i + 1)
+pub decoded-more : (out s now : List ℕ) (at i x y : ℕ) → at + length s / 2 ≤ length out → i < length s / 2
+    → x ≡ digit (getD s (2 * i) 0) → y ≡ digit (getD s (2 * i + 1) 0) → now ≡ paste out at (unhex s) i
+    → set now (at + i) (16 * x + y) ≡ paste out at (unhex s) (i + 1)
 decoded-more out s now at i x y fits h ex ey e =
     let l : length (unhex s) ≡ length s / 2 = length-unhex s in
     ap (λ d. set d (at + i) (16 * x + y)) e

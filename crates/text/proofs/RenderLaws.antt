@@ -31,7 +31,9 @@ getD-hexOf-low (b ∷ s) (suc i) h =
     rw x (getD-hexOf-low s i (omega arith))
 
 -- Both digits of a byte, after those of the bytes before it.
-pub hex-more : (out s now : List ℕ) (at i x y : ℕ) → at + 2 * length s ≤ length out → i < length s → x ≡ glyph (getD s i 0 / 16) → y ≡ glyph (getD s i 0 % 16) → now ≡ paste out at (hexOf s) (2 * i) → set (set now (at + 2 * i) x) (at + 2 * i + 1) y ≡ paste out at (hexOf s) (2 * (i + 1))
+pub hex-more : (out s now : List ℕ) (at i x y : ℕ) → at + 2 * length s ≤ length out → i < length s
+    → x ≡ glyph (getD s i 0 / 16) → y ≡ glyph (getD s i 0 % 16) → now ≡ paste out at (hexOf s) (2 * i)
+    → set (set now (at + 2 * i) x) (at + 2 * i + 1) y ≡ paste out at (hexOf s) (2 * (i + 1))
 hex-more out s now at i x y fits h ex ey e =
     let l : length (hexOf s) ≡ 2 * length s = length-hexOf s in
     let p : at + 2 * i + 1 ≡ at + suc (2 * i) = omega arith in

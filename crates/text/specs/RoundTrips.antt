@@ -107,7 +107,8 @@ areDigits-decimal (suc k) n =
     (areDigits 10 (decimalWithin (suc k) n) ≡ true)
     n
     (λ h. ap (areDigits 10) (decimal-last k n h) ∙ areDigits-one 0 n h)
-    (λ h. ap (areDigits 10) (decimal-more k n h) ∙ areDigits-append 10 (decimalWithin k (n / 10)) (glyph (n % 10) ∷ []) ∙ ap (λ x. x && areDigits 10 (glyph (n % 10) ∷ [])) (areDigits-decimal k (n / 10)) ∙ areDigits-one 0 (n % 10) (omega arith))
+    (λ h. ap (areDigits 10) (decimal-more k n h) ∙ areDigits-append 10 (decimalWithin k (n / 10)) (glyph (n % 10) ∷ [])
+    ∙ ap (λ x. x && areDigits 10 (glyph (n % 10) ∷ [])) (areDigits-decimal k (n / 10)) ∙ areDigits-one 0 (n % 10) (omega arith))
 
 numberAfter-decimal : (k n : ℕ) → n < 10 ^ k → numberAfter 10 0 (decimalWithin k n) ≡ n
 unfolding numberAfter decimalWithin
@@ -119,7 +120,8 @@ numberAfter-decimal (suc k) n h =
     (numberAfter 10 0 (decimalWithin (suc k) n) ≡ n)
     n
     (λ l. ap (numberAfter 10 0) (decimal-last k n l) ∙ numberAfter-one 0 n l ∙ omega arith)
-    (λ l. ap (numberAfter 10 0) (decimal-more k n l) ∙ numberAfter-append 10 0 (decimalWithin k (n / 10)) (glyph (n % 10) ∷ []) ∙ ap (λ m. numberAfter 10 m (glyph (n % 10) ∷ [])) (numberAfter-decimal k (n / 10) q) ∙ numberAfter-one (n / 10) (n % 10) (omega arith) ∙ omega arith)
+    (λ l. ap (numberAfter 10 0) (decimal-more k n l) ∙ numberAfter-append 10 0 (decimalWithin k (n / 10)) (glyph (n % 10) ∷ [])
+    ∙ ap (λ m. numberAfter 10 m (glyph (n % 10) ∷ [])) (numberAfter-decimal k (n / 10) q) ∙ numberAfter-one (n / 10) (n % 10) (omega arith) ∙ omega arith)
 
 some-digit : (k n : ℕ) → 1 ≤ length (decimalWithin (suc k) n)
 some-digit k n =

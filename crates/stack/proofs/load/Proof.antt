@@ -2,6 +2,9 @@ use Prim.Native.Nat.{_-_, _+_, _*_, _≤_}
 use mathlib.Core.Path.{_≡_}
 use native.Mathlib.Omega.{arith}
 use lib.ListN.{getD}
+use Rattle.model.specs.Limits.{maxBytes}
+use Rattle.machine.specs.SheetLimits.{scratchBytes}
+use Rattle.stack.specs.StackLaws.{slot-ends}
 use borrow.Author.Needs.{needs}
 use Rattle.stack.proofs.load.Statement.{statement}
 use Rattle.stack.proofs.load.Tie as tie
@@ -22,11 +25,22 @@ shared-slice-read-t6 c = search needs
 
 -- src/lib.rt:42:14
 add-t7 : tie.Need-add-t7
-add-t7 c = let short : getD (c .before .args .lengths .now) (c .before .args .k) 0 ≤ 4992 = c .before .pre .3 .held .short (c .before .args .k) (c .before .pre .2) in let few = c .before .pre .3 .held .few in let b : (c .before .args .k) * 4992 + getD (c .before .args .lengths .now) (c .before .args .k) 0 ≤ 39936 = omega (arith, c .before .pre .2) in search needs
+add-t7 c =
+    let entry = c .before in
+    let args = entry .args in
+    let b : args .k * maxBytes + getD (args .lengths .now) (args .k) 0 ≤ scratchBytes = slot-ends (args .lengths .now) (entry .pre .0) (entry .pre .1) (entry .pre .3) (args .k) (entry .pre .2) in
+    search needs
 
 -- src/lib.rt:34:1
 returns : tie.Need-returns
-returns c = let short : getD (c .before .args .lengths .now) (c .before .args .k) 0 ≤ 4992 = c .before .pre .3 .held .short (c .before .args .k) (c .before .pre .2) in let few = c .before .pre .3 .held .few in ((omega arith, omega (arith, c .before .pre .2), omega arith), λ d. let e : (c .before .args .k) * 4992 + getD (c .before .args .lengths .now) (c .before .args .k) 0 - (c .before .args .k) * 4992 ≡ getD (c .before .args .lengths .now) (c .before .args .k) 0 = omega arith in rw e)
+returns c =
+    let entry = c .before in
+    let args = entry .args in
+    let length-here = getD (args .lengths .now) (args .k) 0 in
+    let short = entry .pre .3 .stacked .short (args .k) (entry .pre .2) in
+    let ends = slot-ends (args .lengths .now) (entry .pre .0) (entry .pre .1) (entry .pre .3) (args .k) (entry .pre .2) in
+    let e : args .k * maxBytes + length-here - args .k * maxBytes ≡ length-here = omega arith in
+    ((omega arith, ends, omega (arith, short)), λ d. rw e)
 
 pub load-spec : {M : Type 1} → statement M
 load-spec = tie.close (tie.spec mul-start mul-t4 shared-slice-read-t6 add-t7 returns)

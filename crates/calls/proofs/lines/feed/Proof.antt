@@ -12,7 +12,8 @@ use Rattle.calls.proofs.lines.take.Reads as take-reads
 use Rattle.calls.proofs.words.part.Reads as part-reads
 
 abbrev Inv-loop : tie.InvT-loop
-Inv-loop piece line₀ held input₀ result₀ out₀ n₀ end₀ at₀ line input result out n end at = (at ≤ length piece) × (length line ≡ length line₀) × (length input ≡ length input₀) × (length result ≡ length result₀) × (length out ≡ length out₀)
+Inv-loop piece line₀ held input₀ result₀ out₀ n₀ end₀ at₀ line input result out n end at =
+    (at ≤ length piece) × (length line ≡ length line₀) × (length input ≡ length input₀) × (length result ≡ length result₀) × (length out ≡ length out₀)
 
 abbrev μ-loop : tie.MeasureT-loop
 μ-loop piece line₀ held input₀ result₀ out₀ n₀ end₀ at₀ line input result out n end at = length piece - at

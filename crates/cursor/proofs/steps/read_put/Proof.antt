@@ -4,13 +4,13 @@ use Rattle.cursor.proofs.steps.read_put.Statement.{statement}
 use Rattle.cursor.proofs.steps.read_put.Tie as tie
 use Rattle.cursor.proofs.steps.read_put.Reads as reads
 use Rattle.cursor.proofs.steps.read_put.Lts as lts
-use Rattle.cursor.proofs.type_at.Reads as type-at-reads
+use Rattle.cursor.proofs.types.read_stretch.Reads as read-stretch-reads
 use Rattle.cursor.proofs.types.type_number.Reads as type-number-reads
 use Rattle.cursor.proofs.types.type_place.Reads as type-place-reads
 
 -- src/steps.rt:74:9
-type-at-requires : tie.Need-type-at-requires
-type-at-requires c κs = search needs
+read-stretch-requires : tie.Need-read-stretch-requires
+read-stretch-requires c κs = search needs
 
 -- src/steps.rt:75:25
 enum-known-read : tie.Need-enum-known-read
@@ -32,25 +32,25 @@ type-place-requires c κs = search needs
 returns : tie.Need-returns
 returns c =
     let entry = c .before .before .before .before .before .before in
-    let at-type-at = c .before .before .before .before in
+    let at-read-stretch = c .before .before .before .before in
     let refused = c .before .before .enum-told .given .1 in
     let args = entry .args in
     λ p.
-    put-ends (args .s .now) p (args .start) (at-type-at .type-at .ensures) refused (c .before .type-number .ensures _ _ refused) (c .type-place .ensures _ _ refused)
+    put-ends (args .s .now) p (args .start) (at-read-stretch .read-stretch .ensures) refused (c .before .type-number .ensures _ _ refused) (c .type-place .ensures _ _ refused)
 
 -- src/steps.rt:71:1
 returns-2 : tie.Need-returns-2
 returns-2 c =
     let entry = c .before .before .before .before .before in
-    let at-type-at = c .before .before .before in
+    let at-read-stretch = c .before .before .before in
     let args = entry .args in
-    λ p. put-is (args .s .now) p (args .start) (at-type-at .type-at .ensures) (c .before .read .given .1)
+    λ p. put-is (args .s .now) p (args .start) (at-read-stretch .read-stretch .ensures) (c .before .read .given .1)
 
 pub read-put-spec : {M : Type 1} → statement M
 read-put-spec =
     tie.close
     (tie.spec
-    type-at-requires
+    read-stretch-requires
     enum-known-read
     enum-told
     type-number-requires

@@ -20,7 +20,7 @@ put-head-requires c κs = search needs
 
 put-types-requires : tie.Need-put-types-requires
 put-types-requires c κs =
-    let entry = c .before .before .before .before .before .before .before .before .before in
+    let entry = c .before .before .before .before .before .before .before .before .before .before in
     let at-put-head = c .before .before .before in
     let args = entry .args in
     (entry .pre .0, omega (arith, entry .pre .1, at-put-head .put-head .ensures .ends, length-headed okWord (args .types) (length (args .bytes .now)) refl))
@@ -30,11 +30,11 @@ same-length c = search needs
 
 returns : tie.Need-returns
 returns c =
-    let entry = c .before .before .before .before .before .before .before .before .before .before .before .before in
+    let entry = c .before .before .before .before .before .before .before .before .before .before .before .before .before in
     let at-put-head = c .before .before .before .before .before .before in
     let at-put-types = c .before .before in
     λ ts h.
-    left-laid _ _ _ ts _ _ h (omega (arith, entry .pre .1)) (at-put-head .put-head .ensures) (at-put-types .put-types .ensures ts h)
+    left-laid _ _ _ _ ts _ _ h (omega (arith, entry .pre .1)) (at-put-head .put-head .ensures) (at-put-types .put-types .ensures ts h)
 
 pub put-left-spec : {M : Type 1} → statement M
 put-left-spec =

@@ -1,104 +1,115 @@
 use native.Mathlib.Omega.{arith}
-use Prim.Native.Nat.{_≤_, _-_}
+use Prim.Native.Nat.{_≤_, _+_, _-_}
 use mathlib.Core.List.{List}
 use mathlib.Core.Path.{_≡_, refl, _∙_}
-use lib.ListN.{length}
-use borrow.Author.Needs.{needs}
+use lib.ListN.{length, getD}
+use borrow.Author.Needs.{needs, scaled-fits}
 use Rattle.model.specs.Types.{Ty}
 use Rattle.report.specs.Left.{LeftIs}
-use Rattle.report.proofs.LineLaws.{Walked, walk-starts, due-read, due-refused, walk-ends}
-use borrow.Author.Needs.{needs}
+use Rattle.report.proofs.LineLaws.{Walked, walk-starts, walk-due, walk-ends}
 use Rattle.report.proofs.lines.put_types.Statement.{statement}
 use Rattle.report.proofs.lines.put_types.Tie as tie
 use Rattle.report.proofs.lines.put_types.Reads as reads
 use Rattle.report.proofs.lines.put_types.Lts as lts
-use Rattle.record.proofs.read_type.Reads as read-type-reads
 use Rattle.report.proofs.lines.put_type.Reads as put-type-reads
 
 abbrev Inv-loop : tie.InvT-loop
-Inv-loop types bytes between out₀ at i₀ from₀ end₀ out i from end = (i ≤ types) × (length out ≡ length out₀) × ((ts : List Ty) → LeftIs bytes types ts → Walked types bytes between out₀ at ts out i from end)
+Inv-loop types lengths bytes between out₀ at i₀ from₀ end₀ out i from end =
+    (i ≤ types) × (length out ≡ length out₀)
+    × ((ts : List Ty) → LeftIs bytes lengths types ts → Walked types bytes lengths between out₀ at ts out i from end)
 
 abbrev μ-loop : tie.MeasureT-loop
-μ-loop types bytes between out₀ at i₀ from₀ end₀ out i from end = types - i
+μ-loop types lengths bytes between out₀ at i₀ from₀ end₀ out i from end = types - i
 
+-- src/lines.rt:71:5
 loop-holds : tie.Need-loop-holds Inv-loop μ-loop
-loop-holds c = (omega arith, refl, λ ts h. walk-starts _ _ _ _ _ ts h)
+loop-holds c = (omega arith, refl, λ ts h. walk-starts _ _ _ _ _ _ ts h)
 
-read-type-requires : tie.Need-read-type-requires Inv-loop μ-loop
-read-type-requires c κs = search needs
+-- src/lines.rt:72:27
+mul-next : tie.Need-mul-next Inv-loop μ-loop
+mul-next c =
+    let entry = c .before .before .before .before .before .before in
+    let at-good = c .before .before .before .before .before .before in
+    let args = entry .args in
+    let many = (c .before .loop .inv .2 (entry .pre .0 .types) (entry .pre .0 .there)) .many in
+    scaled-fits (c .before .loop .i) (length (args .lengths .now)) 8 (omega (arith, many, c .loop-test .taken)) (at-good .good .1 .0 .1)
 
-enum-known-read : tie.Need-enum-known-read Inv-loop μ-loop
-enum-known-read c = search needs
+-- src/lines.rt:72:27
+shared-slice-read-next : tie.Need-shared-slice-read-next Inv-loop μ-loop
+shared-slice-read-next c =
+    let entry = c .before .before .before .before .before .before .before in
+    let at-loop = c .before .before in
+    let many = (at-loop .loop .inv .2 (entry .pre .0 .types) (entry .pre .0 .there)) .many in
+    omega (arith, many, c .before .loop-test .taken)
 
-enum-told : tie.Need-enum-told Inv-loop μ-loop
-enum-told c = search needs
+-- src/lines.rt:72:20
+add-next : tie.Need-add-next Inv-loop μ-loop
+add-next c =
+    let entry = c .before .before .before .before .before .before .before in
+    let at-loop = c .before .before in
+    let args = entry .args in
+    let due = walk-due _ _ _ _ _ _ _ (entry .pre .1) (omega (arith, c .before .loop-test .taken)) (at-loop .loop .inv .2 (entry .pre .0 .types) (entry .pre .0 .there)) in
+    let e : at-loop .loop .from + getD (args .lengths .now) (at-loop .loop .i) 0 ≤ length (args .bytes .now) = due .inside in
+    search needs
 
-same-length : tie.Need-same-length Inv-loop μ-loop
-same-length c = search needs
-
-returns : tie.Need-returns Inv-loop μ-loop
-returns c =
-    let entry = c .before .before .before .before .before .before .before .before in
-    let at-loop = c .before .before .before .before in
-    let at-loop-test = c .before .before .before in
-    let at-read-type = c .before .before in
-    λ ts h.
-    due-refused _ _ _ _ _ ts (entry .pre .1) (omega (arith, at-loop-test .loop-test .taken)) (c .enum-told .given .1) (at-read-type .read-type .ensures) (at-loop .loop .inv .2 ts h)
-
+-- src/lines.rt:73:27
 sub-put-type : tie.Need-sub-put-type Inv-loop μ-loop
 sub-put-type c =
-    let entry = c .before .before .before .before .before .before .before .before .before in
-    let at-loop = c .before .before .before .before .before in
-    let at-loop-test = c .before .before .before .before in
-    let at-read-type = c .before .before .before in
-    (due-read _ _ _ _ _ _ (entry .pre .1) (omega (arith, at-loop-test .loop-test .taken)) (c .before .read .given .1) (at-read-type .read-type .ensures) (at-loop .loop .inv .2 (entry .pre .0 .types) (entry .pre .0 .there))) .onward
+    let entry = c .before .before .before .before .before .before .before in
+    let at-loop = c .before .before in
+    let due = walk-due _ _ _ _ _ _ _ (entry .pre .1) (omega (arith, c .before .loop-test .taken)) (at-loop .loop .inv .2 (entry .pre .0 .types) (entry .pre .0 .there)) in
+    due .onward
 
+-- src/lines.rt:73:27
 part-put-type-start : tie.Need-part-put-type-start Inv-loop μ-loop
 part-put-type-start c =
-    let entry = c .before .before .before .before .before .before .before .before .before in
-    let at-loop = c .before .before .before .before .before in
-    let at-loop-test = c .before .before .before .before in
-    let at-read-type = c .before .before .before in
-    (due-read _ _ _ _ _ _ (entry .pre .1) (omega (arith, at-loop-test .loop-test .taken)) (c .before .read .given .1) (at-read-type .read-type .ensures) (at-loop .loop .inv .2 (entry .pre .0 .types) (entry .pre .0 .there))) .onward
+    let entry = c .before .before .before .before .before .before .before in
+    let at-loop = c .before .before in
+    let due = walk-due _ _ _ _ _ _ _ (entry .pre .1) (omega (arith, c .before .loop-test .taken)) (at-loop .loop .inv .2 (entry .pre .0 .types) (entry .pre .0 .there)) in
+    due .onward
 
+-- src/lines.rt:73:27
 part-put-type-end : tie.Need-part-put-type-end Inv-loop μ-loop
 part-put-type-end c =
-    let entry = c .before .before .before .before .before .before .before .before .before in
-    let at-loop = c .before .before .before .before .before in
-    let at-loop-test = c .before .before .before .before in
-    let at-read-type = c .before .before .before in
-    (due-read _ _ _ _ _ _ (entry .pre .1) (omega (arith, at-loop-test .loop-test .taken)) (c .before .read .given .1) (at-read-type .read-type .ensures) (at-loop .loop .inv .2 (entry .pre .0 .types) (entry .pre .0 .there))) .inside
+    let entry = c .before .before .before .before .before .before .before in
+    let at-loop = c .before .before in
+    let due = walk-due _ _ _ _ _ _ _ (entry .pre .1) (omega (arith, c .before .loop-test .taken)) (at-loop .loop .inv .2 (entry .pre .0 .types) (entry .pre .0 .there)) in
+    due .inside
 
+-- src/lines.rt:73:9
 put-type-requires : tie.Need-put-type-requires Inv-loop μ-loop
 put-type-requires c κs =
-    let entry = c .before .before .before .before .before .before .before .before .before .before .before in
-    let at-loop = c .before .before .before .before .before .before .before in
-    let at-loop-test = c .before .before .before .before .before .before in
-    let at-read-type = c .before .before .before .before .before in
-    let at-read = c .before .before .before in
-    omega (arith, (due-read _ _ _ _ _ _ (entry .pre .1) (omega (arith, at-loop-test .loop-test .taken)) (at-read .read .given .1) (at-read-type .read-type .ensures) (at-loop .loop .inv .2 (entry .pre .0 .types) (entry .pre .0 .there))) .room, at-loop .loop .inv .1)
+    let entry = c .before .before .before .before .before .before .before .before .before in
+    let at-loop = c .before .before .before .before in
+    let at-loop-test = c .before .before .before in
+    let due = walk-due _ _ _ _ _ _ _ (entry .pre .1) (omega (arith, at-loop-test .loop-test .taken)) (at-loop .loop .inv .2 (entry .pre .0 .types) (entry .pre .0 .there)) in
+    omega (arith, due .room, at-loop .loop .inv .1)
 
+-- src/lines.rt:75:9
 add-i : tie.Need-add-i Inv-loop μ-loop
 add-i c = search needs
 
+-- src/lines.rt:71:5
 loop-less : tie.Need-loop-less Inv-loop μ-loop
 loop-less c = search needs
 
+-- src/lines.rt:71:5
 loop-again : tie.Need-loop-again Inv-loop μ-loop
 loop-again c =
-    let entry = c .before .before .before .before .before .before .before .before .before .before .before .before .before .before in
-    let at-loop = c .before .before .before .before .before .before .before .before .before .before in
-    let at-loop-test = c .before .before .before .before .before .before .before .before .before in
-    let at-read-type = c .before .before .before .before .before .before .before .before in
-    let at-read = c .before .before .before .before .before .before in
+    let entry = c .before .before .before .before .before .before .before .before .before .before .before .before in
+    let at-loop = c .before .before .before .before .before .before .before in
+    let at-loop-test = c .before .before .before .before .before .before in
     let at-put-type = c .before .before in
-    (search needs, at-put-type .put-type .kept .1 .1 .1 .0 ∙ at-loop .loop .inv .1, λ ts h. due-read _ _ _ _ _ ts (entry .pre .1) (omega (arith, at-loop-test .loop-test .taken)) (at-read .read .given .1) (at-read-type .read-type .ensures) (at-loop .loop .inv .2 ts h) .more _ _ (at-put-type .put-type .ensures))
+    (search needs, at-put-type .put-type .kept .1 .1 .1 .0 ∙ at-loop .loop .inv .1, λ ts h.
+    walk-due _ _ _ _ _ _ ts (entry .pre .1) (omega (arith, at-loop-test .loop-test .taken)) (at-loop .loop .inv .2 ts h) .more _ _ (at-put-type .put-type .ensures))
 
-same-length-2 : tie.Need-same-length-2 Inv-loop μ-loop
-same-length-2 c = search needs
+-- src/lines.rt:55:1
+same-length : tie.Need-same-length Inv-loop μ-loop
+same-length c = search needs
 
-returns-2 : tie.Need-returns-2 Inv-loop μ-loop
-returns-2 c = λ ts h. walk-ends _ _ _ _ _ ts _ _ _ _ (omega (arith, c .loop-test .left)) (c .before .loop .inv .2 ts h)
+-- src/lines.rt:55:1
+returns : tie.Need-returns Inv-loop μ-loop
+returns c = λ ts h. walk-ends _ _ _ _ _ _ ts _ _ _ _ (omega (arith, c .loop-test .left)) (c .before .loop .inv .2 ts h)
 
 pub put-types-spec : {M : Type 1} → statement M
 put-types-spec =
@@ -107,11 +118,9 @@ put-types-spec =
     Inv-loop
     μ-loop
     loop-holds
-    read-type-requires
-    enum-known-read
-    enum-told
-    same-length
-    returns
+    mul-next
+    shared-slice-read-next
+    add-next
     sub-put-type
     part-put-type-start
     part-put-type-end
@@ -119,5 +128,5 @@ put-types-spec =
     add-i
     loop-less
     loop-again
-    same-length-2
-    returns-2)
+    same-length
+    returns)

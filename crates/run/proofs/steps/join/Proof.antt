@@ -1,9 +1,7 @@
-use native.Mathlib.Omega.{arith}
-use mathlib.Core.List.{_∷_}
-use Prim.Native.Nat.{_-_}
-use Rattle.stack.specs.Stack.{Holds}
-use Rattle.stack.specs.StackLaws.{holds-count}
-use Rattle.run.proofs.StepLaws.{two-held, join-worked, join-ruled}
+use Rattle.format.specs.Outcome.{accepted}
+use Rattle.rules.specs.Types.{joinTypes}
+use Rattle.machine.specs.Steps.{join}
+use Rattle.run.proofs.StepLaws.{join-step, join-within, ruled-two, works-two}
 use borrow.Author.Needs.{needs}
 use Rattle.run.proofs.steps.join.Statement.{statement}
 use Rattle.run.proofs.steps.join.Tie as tie
@@ -12,49 +10,43 @@ use Rattle.run.proofs.steps.join.Lts as lts
 use Rattle.run.proofs.steps.lay_down.Reads as lay-down-reads
 use Rattle.run.proofs.tops.join_top.Reads as join-top-reads
 
--- src/steps.rt:161:9
+-- src/steps.rt:163:9
 join-top-requires : tie.Need-join-top-requires
 join-top-requires c κs = search needs
 
--- src/steps.rt:165:9
+-- src/steps.rt:167:9
 sub-lay-down : tie.Need-sub-lay-down
 sub-lay-down c = search needs
 
--- src/steps.rt:162:5
+-- src/steps.rt:164:5
 lay-down-requires : tie.Need-lay-down-requires
 lay-down-requires c κs =
     let entry = c .before .before .before .before .before .before .before .before .before .before .before .before in
     let at-join-top = c .before .before .before .before .before in
     let args = entry .args in
-    two-held (entry .pre .2 .types) (entry .pre .2 .held) (entry .pre .0) λ t u us e.
-    let hh : Holds (args .lengths .now) (args .count) (args .scratch .now) (t ∷ u ∷ us) = rw e at (entry .pre .2 .held) in
-    join-ruled (args .lengths .now) (args .count) (args .scratch .now) (at-join-top .join-top .result) _ (args .work .now) (entry .pre .1) hh (at-join-top .join-top .ensures t u us hh)
+    (entry .pre .2, ruled-two (args .lengths .now) (args .count) (args .scratch .now) (at-join-top .join-top .result) _ (λ t u. accepted (joinTypes t u)) join-within (entry .pre .0) (at-join-top .join-top .ensures) (entry .pre .2))
 
--- src/steps.rt:150:1
+-- src/steps.rt:152:1
 same-length : tie.Need-same-length
 same-length c = search needs
 
--- src/steps.rt:150:1
+-- src/steps.rt:152:1
 same-length-2 : tie.Need-same-length-2
 same-length-2 c = search needs
 
--- src/steps.rt:150:1
+-- src/steps.rt:152:1
 same-length-3 : tie.Need-same-length-3
 same-length-3 c = search needs
 
--- src/steps.rt:150:1
+-- src/steps.rt:152:1
 returns : tie.Need-returns
 returns c =
     let entry = c .before .before .before .before .before .before .before .before .before .before .before .before .before .before .before .before .before in
     let at-join-top = c .before .before .before .before .before .before .before .before .before .before in
     let at-lay-down = c .before .before .before .before in
     let args = entry .args in
-    λ ts h.
-    two-held ts h (entry .pre .0) λ t u us e.
-    let hh : Holds (args .lengths .now) (args .count) (args .scratch .now) (t ∷ u ∷ us) = rw e at h in
-    let n = holds-count (args .lengths .now) (args .count) (args .scratch .now) hh in
-    let made = join-ruled (args .lengths .now) (args .count) (args .scratch .now) (at-join-top .join-top .result) _ (args .work .now) (entry .pre .1) hh (at-join-top .join-top .ensures t u us hh) in
-    rw (e, ← join-worked (args .at) (args .next) (args .count - (args .count - 2)) t u us (omega arith)) (at-lay-down .lay-down .ensures made)
+    works-two (args .lengths .now) (args .count) (args .scratch .now) (at-join-top .join-top .result) _ (λ t u. accepted (joinTypes t u)) join-within (entry .pre .0) (at-join-top .join-top .ensures)
+    join join-step (args .at) (args .next) (at-lay-down .lay-down .result) _ _ (at-lay-down .lay-down .ensures)
 
 pub join-spec : {M : Type 1} → statement M
 join-spec =

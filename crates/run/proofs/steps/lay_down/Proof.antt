@@ -4,6 +4,7 @@ use Prim.Native.Nat.{_-_}
 use lib.ListN.{drop}
 use lib.Seq.{length-take-le}
 use Rattle.format.specs.Suffices.{suffices}
+use Rattle.machine.specs.Run.{afterStep}
 use Rattle.run.proofs.RuleLaws.{rule-wrote, rule-refused}
 use borrow.Author.Needs.{needs}
 use Rattle.run.proofs.steps.lay_down.Statement.{statement}
@@ -13,66 +14,67 @@ use Rattle.run.proofs.steps.lay_down.Lts as lts
 use Rattle.run.proofs.steps.refuse.Reads as refuse-reads
 use Rattle.stack.proofs.store.Reads as store-reads
 
--- src/steps.rt:214:24
+-- src/steps.rt:217:24
 enum-known-w : tie.Need-enum-known-w
 enum-known-w c = search needs
 
--- src/steps.rt:215:52
+-- src/steps.rt:218:52
 slice-aggregate-store : tie.Need-slice-aggregate-store
 slice-aggregate-store c =
     let entry = c .before .before .before .before .before .before .before .before .before in
     let at-w = c .before .before .before .before in
     let args = entry .args in
-    rule-wrote (entry .pre .outcome) (args .w) (args .work .now) (at-w .w .given .1) (entry .pre .given) λ t e bytes fits.
+    rule-wrote (entry .pre .1 .0) (args .w) (args .work .now) (at-w .w .given .1) (entry .pre .1 .1 .given) λ t e bytes fits.
     sym (length-take-le _ _ fits)
 
--- src/steps.rt:215:13
+-- src/steps.rt:218:13
 store-requires : tie.Need-store-requires
 store-requires c κs =
     let entry = c .before .before .before .before .before .before .before .before .before in
     let at-w = c .before .before .before .before in
     let args = entry .args in
-    rule-wrote (entry .pre .outcome) (args .w) (args .work .now) (at-w .w .given .1) (entry .pre .given) λ t e bytes fits.
-    (entry .pre .low, rw bytes (suffices t (entry .pre .keeps t e)), entry .pre .held .slotted, entry .pre .held .room)
+    rule-wrote (entry .pre .1 .0) (args .w) (args .work .now) (at-w .w .given .1) (entry .pre .1 .1 .given) λ t e bytes fits.
+    (entry .pre .1 .1 .low, rw bytes (suffices t (entry .pre .1 .1 .within t e)), entry .pre .0 .stacked .slotted, entry .pre .0 .stacked .room)
 
--- src/steps.rt:218:24
+-- src/steps.rt:221:24
 add-t20 : tie.Need-add-t20
 add-t20 c = search needs
 
--- src/steps.rt:221:28
+-- src/steps.rt:224:28
 enum-known-w-2 : tie.Need-enum-known-w-2
 enum-known-w-2 c = search needs
 
--- src/steps.rt:221:50
+-- src/steps.rt:224:50
 refuse-requires : tie.Need-refuse-requires
 refuse-requires c κs = search needs
 
--- src/steps.rt:200:1
+-- src/steps.rt:203:1
 same-length : tie.Need-same-length
 same-length c = search needs
 
--- src/steps.rt:200:1
+-- src/steps.rt:203:1
 same-length-2 : tie.Need-same-length-2
 same-length-2 c = search needs
 
--- src/steps.rt:200:1
+-- src/steps.rt:203:1
 returns : tie.Need-returns
 returns c =
     let entry = c .before .before .before .before .before .before .before .before .before .before .before .before .before .before in
     let at-w = c .before .before .before .before .before .before .before .before .before in
     let at-store = c .before .before .before .before in
     let args = entry .args in
-    λ x.
-    rule-wrote (x .outcome) (args .w) (args .work .now) (at-w .w .given .1) (x .given) λ t e bytes fits.
-    (t ∷ drop (args .count - args .k) (x .types), rw e, at-store .store .ensures (args .count) (x .types) t (x .there) (x .held) (x .keeps t e) bytes)
+    λ st o h ruled.
+    rule-wrote o (args .w) (args .work .now) (at-w .w .given .1) (ruled .given) λ t e bytes fits.
+    let below = drop (args .count - args .k) (st .stack) in
+    (afterStep st (t ∷ below), rw e, at-store .store .ensures (args .count) (st .stack) t (ruled .there) h (ruled .within t e) bytes)
 
--- src/steps.rt:200:1
+-- src/steps.rt:203:1
 returns-2 : tie.Need-returns-2
 returns-2 c =
     let entry = c .before .before .before .before .before .before .before in
     let at-w2 = c .before .before in
     let args = entry .args in
-    λ x. rw (c .refuse .ensures, rule-refused (x .outcome) (args .w) (args .work .now) (at-w2 .w2 .given .1) (x .given))
+    λ st o h ruled. rw (c .refuse .ensures, rule-refused o (args .w) (args .work .now) (at-w2 .w2 .given .1) (ruled .given))
 
 pub lay-down-spec : {M : Type 1} → statement M
 lay-down-spec =

@@ -1,9 +1,7 @@
-use native.Mathlib.Omega.{arith}
-use mathlib.Core.List.{_∷_}
-use Prim.Native.Nat.{_-_}
-use Rattle.stack.specs.Stack.{Holds}
-use Rattle.stack.specs.StackLaws.{holds-count}
-use Rattle.run.proofs.StepLaws.{two-held, pervade-worked, pervade-ruled}
+use Rattle.machine.specs.Steps.{pervading}
+use Rattle.machine.specs.Run.{pervadeTypes}
+use Rattle.run.specs.Answers.{atStart}
+use Rattle.run.proofs.StepLaws.{pervade-step, pervade-within, ruled-two, works-two}
 use borrow.Author.Needs.{needs}
 use Rattle.run.proofs.steps.pervade.Statement.{statement}
 use Rattle.run.proofs.steps.pervade.Tie as tie
@@ -12,49 +10,47 @@ use Rattle.run.proofs.steps.pervade.Lts as lts
 use Rattle.run.proofs.steps.lay_down.Reads as lay-down-reads
 use Rattle.run.proofs.tops.pervade_top.Reads as pervade-top-reads
 
--- src/steps.rt:130:9
+-- src/steps.rt:132:9
 pervade-top-requires : tie.Need-pervade-top-requires
 pervade-top-requires c κs = search needs
 
--- src/steps.rt:141:9
+-- src/steps.rt:143:9
 sub-lay-down : tie.Need-sub-lay-down
 sub-lay-down c = search needs
 
--- src/steps.rt:138:5
+-- src/steps.rt:140:5
 lay-down-requires : tie.Need-lay-down-requires
 lay-down-requires c κs =
     let entry = c .before .before .before .before .before .before .before .before .before .before .before .before in
     let at-pervade-top = c .before .before .before .before .before in
-    let args = entry .args in
-    two-held (entry .pre .2 .types) (entry .pre .2 .held) (entry .pre .0) λ t u us e.
-    let hh : Holds (args .lengths .now) (args .count) (args .scratch .now) (t ∷ u ∷ us) = rw e at (entry .pre .2 .held) in
-    pervade-ruled (args .lengths .now) (args .count) (args .scratch .now) (at-pervade-top .pervade-top .result) _ (args .work .now) (entry .pre .1) (args .top-fill) (args .below-fill) hh (at-pervade-top .pervade-top .ensures t u us hh)
+    let args = entry .args in (
+      entry .pre .2,
+      ruled-two (args .lengths .now) (args .count) (args .scratch .now) (at-pervade-top .pervade-top .result) _
+          (λ t u. atStart (pervadeTypes (args .top-fill) (args .below-fill) t u)) (pervade-within (args .top-fill) (args .below-fill)) (entry .pre .0) (at-pervade-top .pervade-top .ensures) (entry .pre .2),
+    )
 
--- src/steps.rt:117:1
+-- src/steps.rt:119:1
 same-length : tie.Need-same-length
 same-length c = search needs
 
--- src/steps.rt:117:1
+-- src/steps.rt:119:1
 same-length-2 : tie.Need-same-length-2
 same-length-2 c = search needs
 
--- src/steps.rt:117:1
+-- src/steps.rt:119:1
 same-length-3 : tie.Need-same-length-3
 same-length-3 c = search needs
 
--- src/steps.rt:117:1
+-- src/steps.rt:119:1
 returns : tie.Need-returns
 returns c =
     let entry = c .before .before .before .before .before .before .before .before .before .before .before .before .before .before .before .before .before in
     let at-pervade-top = c .before .before .before .before .before .before .before .before .before .before in
     let at-lay-down = c .before .before .before .before in
     let args = entry .args in
-    λ ts h.
-    two-held ts h (entry .pre .0) λ t u us e.
-    let hh : Holds (args .lengths .now) (args .count) (args .scratch .now) (t ∷ u ∷ us) = rw e at h in
-    let n = holds-count (args .lengths .now) (args .count) (args .scratch .now) hh in
-    let made = pervade-ruled (args .lengths .now) (args .count) (args .scratch .now) (at-pervade-top .pervade-top .result) _ (args .work .now) (entry .pre .1) (args .top-fill) (args .below-fill) hh (at-pervade-top .pervade-top .ensures t u us hh) in
-    rw (e, ← pervade-worked (args .at) (args .next) (args .count - (args .count - 2)) (args .top-fill) (args .below-fill) t u us (omega arith)) (at-lay-down .lay-down .ensures made)
+    works-two (args .lengths .now) (args .count) (args .scratch .now) (at-pervade-top .pervade-top .result) _
+    (λ t u. atStart (pervadeTypes (args .top-fill) (args .below-fill) t u)) (pervade-within (args .top-fill) (args .below-fill)) (entry .pre .0) (at-pervade-top .pervade-top .ensures)
+    (pervading (args .top-fill) (args .below-fill)) (pervade-step (args .top-fill) (args .below-fill)) (args .at) (args .next) (at-lay-down .lay-down .result) _ _ (at-lay-down .lay-down .ensures)
 
 pub pervade-spec : {M : Type 1} → statement M
 pervade-spec =

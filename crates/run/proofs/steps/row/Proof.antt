@@ -1,9 +1,7 @@
-use native.Mathlib.Omega.{arith}
-use mathlib.Core.List.{_∷_}
-use Prim.Native.Nat.{_-_}
-use Rattle.stack.specs.Stack.{Holds}
-use Rattle.stack.specs.StackLaws.{holds-count}
-use Rattle.run.proofs.StepLaws.{one-held, row-worked, row-ruled}
+use Rattle.format.specs.Outcome.{accepted}
+use Rattle.rules.specs.Types.{intoRow}
+use Rattle.machine.specs.Steps.{row}
+use Rattle.run.proofs.StepLaws.{row-step, row-within, ruled-one, works-one}
 use borrow.Author.Needs.{needs}
 use Rattle.run.proofs.steps.row.Statement.{statement}
 use Rattle.run.proofs.steps.row.Tie as tie
@@ -12,49 +10,43 @@ use Rattle.run.proofs.steps.row.Lts as lts
 use Rattle.run.proofs.steps.lay_down.Reads as lay-down-reads
 use Rattle.run.proofs.tops.row_top.Reads as row-top-reads
 
--- src/steps.rt:104:9
+-- src/steps.rt:106:9
 row-top-requires : tie.Need-row-top-requires
 row-top-requires c κs = search needs
 
--- src/steps.rt:108:9
+-- src/steps.rt:110:9
 sub-lay-down : tie.Need-sub-lay-down
 sub-lay-down c = search needs
 
--- src/steps.rt:105:5
+-- src/steps.rt:107:5
 lay-down-requires : tie.Need-lay-down-requires
 lay-down-requires c κs =
     let entry = c .before .before .before .before .before .before .before .before .before .before .before .before in
     let at-row-top = c .before .before .before .before .before in
     let args = entry .args in
-    one-held (entry .pre .2 .types) (entry .pre .2 .held) (entry .pre .0) λ t us e.
-    let hh : Holds (args .lengths .now) (args .count) (args .scratch .now) (t ∷ us) = rw e at (entry .pre .2 .held) in
-    row-ruled (args .lengths .now) (args .count) (args .scratch .now) (at-row-top .row-top .result) _ (args .work .now) (entry .pre .1) hh (at-row-top .row-top .ensures t us hh)
+    (entry .pre .2, ruled-one (args .lengths .now) (args .count) (args .scratch .now) (at-row-top .row-top .result) _ (λ t. accepted (intoRow t)) row-within (entry .pre .0) (at-row-top .row-top .ensures) (entry .pre .2))
 
--- src/steps.rt:93:1
+-- src/steps.rt:95:1
 same-length : tie.Need-same-length
 same-length c = search needs
 
--- src/steps.rt:93:1
+-- src/steps.rt:95:1
 same-length-2 : tie.Need-same-length-2
 same-length-2 c = search needs
 
--- src/steps.rt:93:1
+-- src/steps.rt:95:1
 same-length-3 : tie.Need-same-length-3
 same-length-3 c = search needs
 
--- src/steps.rt:93:1
+-- src/steps.rt:95:1
 returns : tie.Need-returns
 returns c =
     let entry = c .before .before .before .before .before .before .before .before .before .before .before .before .before .before .before .before .before in
     let at-row-top = c .before .before .before .before .before .before .before .before .before .before in
     let at-lay-down = c .before .before .before .before in
     let args = entry .args in
-    λ ts h.
-    one-held ts h (entry .pre .0) λ t us e.
-    let hh : Holds (args .lengths .now) (args .count) (args .scratch .now) (t ∷ us) = rw e at h in
-    let n = holds-count (args .lengths .now) (args .count) (args .scratch .now) hh in
-    let made = row-ruled (args .lengths .now) (args .count) (args .scratch .now) (at-row-top .row-top .result) _ (args .work .now) (entry .pre .1) hh (at-row-top .row-top .ensures t us hh) in
-    rw (e, ← row-worked (args .at) (args .next) (args .count - (args .count - 1)) t us (omega arith)) (at-lay-down .lay-down .ensures made)
+    works-one (args .lengths .now) (args .count) (args .scratch .now) (at-row-top .row-top .result) _ (λ t. accepted (intoRow t)) row-within (entry .pre .0) (at-row-top .row-top .ensures)
+    row row-step (args .at) (args .next) (at-lay-down .lay-down .result) _ _ (at-lay-down .lay-down .ensures)
 
 pub row-spec : {M : Type 1} → statement M
 row-spec =

@@ -1,10 +1,9 @@
 use native.Mathlib.Omega.{arith}
-use mathlib.Core.List.{_∷_}
-use Prim.Native.Nat.{_-_}
-use Rattle.stack.specs.Stack.{Holds}
-use Rattle.stack.specs.StackLaws.{holds-count}
 use Rattle.format.specs.ReadWrite.{lone-write}
-use Rattle.run.proofs.StepLaws.{one-held, validate-worked, validate-ruled}
+use Rattle.validation.specs.CheckShape.{unsided}
+use Rattle.validation.specs.Validate.{validate}
+use Rattle.machine.specs.Steps.{validating}
+use Rattle.run.proofs.StepLaws.{validate-step, validated-within, ruled-one, works-one}
 use borrow.Author.Needs.{needs}
 use Rattle.run.proofs.steps.validate.Statement.{statement}
 use Rattle.run.proofs.steps.validate.Tie as tie
@@ -13,40 +12,39 @@ use Rattle.run.proofs.steps.validate.Lts as lts
 use Rattle.run.proofs.steps.lay_down.Reads as lay-down-reads
 use Rattle.run.proofs.tops.validate_top.Reads as validate-top-reads
 
--- src/steps.rt:186:9
+-- src/steps.rt:189:9
 validate-top-requires : tie.Need-validate-top-requires
 validate-top-requires c κs = search needs
 
--- src/steps.rt:190:9
+-- src/steps.rt:193:9
 sub-lay-down : tie.Need-sub-lay-down
 sub-lay-down c = search needs
 
--- src/steps.rt:187:5
+-- src/steps.rt:190:5
 lay-down-requires : tie.Need-lay-down-requires
 lay-down-requires c κs =
     let entry = c .before .before .before .before .before .before .before .before .before .before .before .before .before in
     let at-shared-slice-known = c .before .before .before .before .before .before .before .before .before .before .before .before in
     let at-validate-top = c .before .before .before .before .before in
     let args = entry .args in
-    let (spec, read) = entry .pre .3 in
+    let (spec, read) = entry .pre .1 in
     let within = lone-write (args .spec .now) (λ i. omega (arith, at-shared-slice-known .shared-slice-known .given i)) spec read .1 in
-    one-held (entry .pre .2 .types) (entry .pre .2 .held) (entry .pre .0) λ t us e.
-    let hh : Holds (args .lengths .now) (args .count) (args .scratch .now) (t ∷ us) = rw e at (entry .pre .2 .held) in
-    validate-ruled (args .lengths .now) (args .count) (args .scratch .now) (at-validate-top .validate-top .result) _ spec within hh (at-validate-top .validate-top .ensures spec t us hh read)
+    (entry .pre .0 .2, ruled-one (args .lengths .now) (args .count) (args .scratch .now) (at-validate-top .validate-top .result) _ (λ t. validate unsided spec t)
+    (validated-within spec within) (entry .pre .0 .0) (at-validate-top .validate-top .ensures spec read) (entry .pre .0 .2))
 
--- src/steps.rt:174:1
+-- src/steps.rt:176:1
 same-length : tie.Need-same-length
 same-length c = search needs
 
--- src/steps.rt:174:1
+-- src/steps.rt:176:1
 same-length-2 : tie.Need-same-length-2
 same-length-2 c = search needs
 
--- src/steps.rt:174:1
+-- src/steps.rt:176:1
 same-length-3 : tie.Need-same-length-3
 same-length-3 c = search needs
 
--- src/steps.rt:174:1
+-- src/steps.rt:176:1
 returns : tie.Need-returns
 returns c =
     let entry = c .before .before .before .before .before .before .before .before .before .before .before .before .before .before .before .before .before .before in
@@ -54,13 +52,10 @@ returns c =
     let at-validate-top = c .before .before .before .before .before .before .before .before .before .before in
     let at-lay-down = c .before .before .before .before in
     let args = entry .args in
-    λ spec ts read h.
+    λ spec read.
     let within = lone-write (args .spec .now) (λ i. omega (arith, at-shared-slice-known .shared-slice-known .given i)) spec read .1 in
-    one-held ts h (entry .pre .0) λ t us e.
-    let hh : Holds (args .lengths .now) (args .count) (args .scratch .now) (t ∷ us) = rw e at h in
-    let n = holds-count (args .lengths .now) (args .count) (args .scratch .now) hh in
-    let made = validate-ruled (args .lengths .now) (args .count) (args .scratch .now) (at-validate-top .validate-top .result) _ spec within hh (at-validate-top .validate-top .ensures spec t us hh read) in
-    rw (e, ← validate-worked (args .at) (args .next) (args .count - (args .count - 1)) spec t us (omega arith)) (at-lay-down .lay-down .ensures made)
+    works-one (args .lengths .now) (args .count) (args .scratch .now) (at-validate-top .validate-top .result) _ (λ t. validate unsided spec t) (validated-within spec within) (entry .pre .0 .0) (at-validate-top .validate-top .ensures spec read)
+    (validating spec) (validate-step spec) (args .at) (args .next) (at-lay-down .lay-down .result) _ _ (at-lay-down .lay-down .ensures)
 
 pub validate-spec : {M : Type 1} → statement M
 validate-spec =

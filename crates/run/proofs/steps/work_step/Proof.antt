@@ -1,5 +1,5 @@
 use native.Mathlib.Omega.{arith}
-use Rattle.machine.specs.Steps as steps
+use Rattle.machine.specs.Steps.{put, row, pervading, join, validating}
 use Rattle.machine.specs.StepsTook.{took-step}
 use Rattle.run.proofs.StepLaws.{put-read, row-read, pervading-read, join-read, validating-read, step-unread, worked, unworked}
 use borrow.Author.Needs.{needs}
@@ -7,7 +7,7 @@ use Rattle.run.proofs.steps.work_step.Statement.{statement}
 use Rattle.run.proofs.steps.work_step.Tie as tie
 use Rattle.run.proofs.steps.work_step.Reads as reads
 use Rattle.run.proofs.steps.work_step.Lts as lts
-use Rattle.cursor.proofs.read_step.Reads as read-step-reads
+use Rattle.cursor.proofs.step_at.Reads as step-at-reads
 use Rattle.run.proofs.steps.join.Reads as join-reads
 use Rattle.run.proofs.steps.pervade.Reads as pervade-reads
 use Rattle.run.proofs.steps.put.Reads as put-reads
@@ -15,137 +15,143 @@ use Rattle.run.proofs.steps.refuse.Reads as refuse-reads
 use Rattle.run.proofs.steps.row.Reads as row-reads
 use Rattle.run.proofs.steps.validate.Reads as validate-reads
 
--- src/steps.rt:38:9
-read-step-requires : tie.Need-read-step-requires
-read-step-requires c κs = search needs
+-- src/steps.rt:39:9
+step-at-requires : tie.Need-step-at-requires
+step-at-requires c κs = search needs
 
--- src/steps.rt:40:25
+-- src/steps.rt:41:25
 enum-known-read : tie.Need-enum-known-read
 enum-known-read c = search needs
 
--- src/steps.rt:41:17
+-- src/steps.rt:42:17
 sub-put : tie.Need-sub-put
 sub-put c =
     let entry = c .before .before .before .before .before .before .before .before in
-    let at-read-step = c .before .before .before in
-    put-read (entry .args .s .now) (at-read-step .read-step .ensures) (c .before .read .given .1) λ t e x. x .forth
+    let at-step-at = c .before .before .before in
+    let args = entry .args in
+    put-read (args .s .now) (at-step-at .step-at .ensures) (c .before .read .given .1) λ t e x. x .forth
 
--- src/steps.rt:41:17
+-- src/steps.rt:42:17
 part-put-start : tie.Need-part-put-start
 part-put-start c =
     let entry = c .before .before .before .before .before .before .before .before in
-    let at-read-step = c .before .before .before in
-    put-read (entry .args .s .now) (at-read-step .read-step .ensures) (c .before .read .given .1) λ t e x. x .forth
+    let at-step-at = c .before .before .before in
+    let args = entry .args in
+    put-read (args .s .now) (at-step-at .step-at .ensures) (c .before .read .given .1) λ t e x. x .forth
 
--- src/steps.rt:41:17
+-- src/steps.rt:42:17
 part-put-end : tie.Need-part-put-end
 part-put-end c =
     let entry = c .before .before .before .before .before .before .before .before in
-    let at-read-step = c .before .before .before in
-    put-read (entry .args .s .now) (at-read-step .read-step .ensures) (c .before .read .given .1) λ t e x. x .inside
+    let at-step-at = c .before .before .before in
+    let args = entry .args in
+    put-read (args .s .now) (at-step-at .step-at .ensures) (c .before .read .given .1) λ t e x. x .there
 
--- src/steps.rt:41:13
+-- src/steps.rt:42:13
 put-requires : tie.Need-put-requires
 put-requires c κs =
     let entry = c .before .before .before .before .before .before .before .before .before .before .before in
     let at-shared-slice-known = c .before .before .before .before .before .before .before .before .before .before in
-    let at-read-step = c .before .before .before .before .before .before in
+    let at-step-at = c .before .before .before .before .before .before in
     let at-read = c .before .before .before .before in
     let args = entry .args in
-    put-read (args .s .now) (at-read-step .read-step .ensures) (at-read .read .given .1) λ t e x.
-    let took = took-step (args .s .now) (λ i. omega (arith, at-shared-slice-known .shared-slice-known .given i)) (args .count) (args .at) (args .at) (steps.put t) _ e in
-    (omega (arith, took .room), entry .pre .1, (t, x .alone))
+    put-read (args .s .now) (at-step-at .step-at .ensures) (at-read .read .given .1) λ t e x.
+    let took = took-step (args .s .now) (λ i. omega (arith, at-shared-slice-known .shared-slice-known .given i)) (args .count) (args .at) (args .at) (put t) _ e in
+    (omega (arith, took .room), entry .pre .1, (t, x .reads))
 
--- src/steps.rt:43:25
+-- src/steps.rt:44:25
 enum-known-read-2 : tie.Need-enum-known-read-2
 enum-known-read-2 c = search needs
 
--- src/steps.rt:43:35
+-- src/steps.rt:44:35
 row-requires : tie.Need-row-requires
 row-requires c κs =
     let entry = c .before .before .before .before .before .before .before .before .before .before .before in
     let at-shared-slice-known = c .before .before .before .before .before .before .before .before .before .before in
-    let at-read-step = c .before .before .before .before .before .before in
+    let at-step-at = c .before .before .before .before .before .before in
     let at-read2 = c .before .before .before .before in
     let args = entry .args in
-    let read = row-read (args .s .now) (at-read-step .read-step .ensures) (at-read2 .read2 .given .1) in
-    let took = took-step (args .s .now) (λ i. omega (arith, at-shared-slice-known .shared-slice-known .given i)) (args .count) (args .at) (args .at) steps.row _ read in
+    let read = row-read (args .s .now) (at-step-at .step-at .ensures) (at-read2 .read2 .given .1) in
+    let took = took-step (args .s .now) (λ i. omega (arith, at-shared-slice-known .shared-slice-known .given i)) (args .count) (args .at) (args .at) row _ read in
     (took .enough, entry .pre .0, entry .pre .1)
 
--- src/steps.rt:45:13
+-- src/steps.rt:46:13
 enum-known-read-3 : tie.Need-enum-known-read-3
 enum-known-read-3 c = search needs
 
--- src/steps.rt:48:14
+-- src/steps.rt:49:14
 pervade-requires : tie.Need-pervade-requires
 pervade-requires c κs =
     let entry = c .before .before .before .before .before .before .before .before .before .before .before in
     let at-shared-slice-known = c .before .before .before .before .before .before .before .before .before .before in
-    let at-read-step = c .before .before .before .before .before .before in
+    let at-step-at = c .before .before .before .before .before .before in
     let at-read3 = c .before .before .before .before in
     let args = entry .args in
-    let read = pervading-read (args .s .now) (at-read-step .read-step .ensures) (at-read3 .read3 .given .1) in
-    let took = took-step (args .s .now) (λ i. omega (arith, at-shared-slice-known .shared-slice-known .given i)) (args .count) (args .at) (args .at) (steps.pervading _ _) _ read in
+    let read = pervading-read (args .s .now) (at-step-at .step-at .ensures) (at-read3 .read3 .given .1) in
+    let took = took-step (args .s .now) (λ i. omega (arith, at-shared-slice-known .shared-slice-known .given i)) (args .count) (args .at) (args .at) (pervading _ _) _ read in
     (took .enough, entry .pre .0, entry .pre .1)
 
--- src/steps.rt:58:26
+-- src/steps.rt:59:26
 enum-known-read-4 : tie.Need-enum-known-read-4
 enum-known-read-4 c = search needs
 
--- src/steps.rt:58:36
+-- src/steps.rt:59:36
 join-requires : tie.Need-join-requires
 join-requires c κs =
     let entry = c .before .before .before .before .before .before .before .before .before .before .before in
     let at-shared-slice-known = c .before .before .before .before .before .before .before .before .before .before in
-    let at-read-step = c .before .before .before .before .before .before in
+    let at-step-at = c .before .before .before .before .before .before in
     let at-read4 = c .before .before .before .before in
     let args = entry .args in
-    let read = join-read (args .s .now) (at-read-step .read-step .ensures) (at-read4 .read4 .given .1) in
-    let took = took-step (args .s .now) (λ i. omega (arith, at-shared-slice-known .shared-slice-known .given i)) (args .count) (args .at) (args .at) steps.join _ read in
+    let read = join-read (args .s .now) (at-step-at .step-at .ensures) (at-read4 .read4 .given .1) in
+    let took = took-step (args .s .now) (λ i. omega (arith, at-shared-slice-known .shared-slice-known .given i)) (args .count) (args .at) (args .at) join _ read in
     (took .enough, entry .pre .0, entry .pre .1)
 
--- src/steps.rt:59:32
+-- src/steps.rt:60:32
 enum-known-read-5 : tie.Need-enum-known-read-5
 enum-known-read-5 c = search needs
 
--- src/steps.rt:60:13
+-- src/steps.rt:61:13
 sub-validate : tie.Need-sub-validate
 sub-validate c =
     let entry = c .before .before .before .before .before .before .before .before in
-    let at-read-step = c .before .before .before in
-    validating-read (entry .args .s .now) (at-read-step .read-step .ensures) (c .before .read5 .given .1) λ t e x. x .forth
+    let at-step-at = c .before .before .before in
+    let args = entry .args in
+    validating-read (args .s .now) (at-step-at .step-at .ensures) (c .before .read5 .given .1) λ t e x. x .forth
 
--- src/steps.rt:60:13
+-- src/steps.rt:61:13
 part-validate-start : tie.Need-part-validate-start
 part-validate-start c =
     let entry = c .before .before .before .before .before .before .before .before in
-    let at-read-step = c .before .before .before in
-    validating-read (entry .args .s .now) (at-read-step .read-step .ensures) (c .before .read5 .given .1) λ t e x. x .forth
+    let at-step-at = c .before .before .before in
+    let args = entry .args in
+    validating-read (args .s .now) (at-step-at .step-at .ensures) (c .before .read5 .given .1) λ t e x. x .forth
 
--- src/steps.rt:60:13
+-- src/steps.rt:61:13
 part-validate-end : tie.Need-part-validate-end
 part-validate-end c =
     let entry = c .before .before .before .before .before .before .before .before in
-    let at-read-step = c .before .before .before in
-    validating-read (entry .args .s .now) (at-read-step .read-step .ensures) (c .before .read5 .given .1) λ t e x. x .inside
+    let at-step-at = c .before .before .before in
+    let args = entry .args in
+    validating-read (args .s .now) (at-step-at .step-at .ensures) (c .before .read5 .given .1) λ t e x. x .there
 
--- src/steps.rt:59:49
+-- src/steps.rt:60:49
 validate-requires : tie.Need-validate-requires
 validate-requires c κs =
     let entry = c .before .before .before .before .before .before .before .before .before .before .before .before in
     let at-shared-slice-known = c .before .before .before .before .before .before .before .before .before .before .before in
-    let at-read-step = c .before .before .before .before .before .before .before in
+    let at-step-at = c .before .before .before .before .before .before .before in
     let at-read5 = c .before .before .before .before .before in
     let args = entry .args in
-    validating-read (args .s .now) (at-read-step .read-step .ensures) (at-read5 .read5 .given .1) λ t e x.
-    let took = took-step (args .s .now) (λ i. omega (arith, at-shared-slice-known .shared-slice-known .given i)) (args .count) (args .at) (args .at) (steps.validating t) _ e in
-    (took .enough, entry .pre .0, entry .pre .1, (t, x .alone))
+    validating-read (args .s .now) (at-step-at .step-at .ensures) (at-read5 .read5 .given .1) λ t e x.
+    let took = took-step (args .s .now) (λ i. omega (arith, at-shared-slice-known .shared-slice-known .given i)) (args .count) (args .at) (args .at) (validating t) _ e in
+    ((took .enough, entry .pre .0, entry .pre .1), (t, x .reads))
 
--- src/steps.rt:68:29
+-- src/steps.rt:69:29
 enum-known-read-6 : tie.Need-enum-known-read-6
 enum-known-read-6 c = search needs
 
--- src/steps.rt:68:48
+-- src/steps.rt:69:48
 refuse-requires : tie.Need-refuse-requires
 refuse-requires c κs = search needs
 
@@ -161,13 +167,13 @@ same-length-2 c = search needs
 returns : tie.Need-returns
 returns c =
     let entry = c .before .before .before .before .before .before .before .before .before .before .before .before .before .before .before .before in
-    let at-read-step = c .before .before .before .before .before .before .before .before .before .before .before in
+    let at-step-at = c .before .before .before .before .before .before .before .before .before .before .before in
     let at-read = c .before .before .before .before .before .before .before .before .before in
     let at-put = c .before .before .before .before in
     let args = entry .args in
-    λ ts h.
-    put-read (args .s .now) (at-read-step .read-step .ensures) (at-read .read .given .1) λ t e x.
-    worked (args .s .now) (args .at) h (at-put .put .result .answer) _ (at-put .put .result .count) _ (steps.put t) e (at-put .put .ensures t ts (args .at) (x .alone) h)
+    λ st h.
+    put-read (args .s .now) (at-step-at .step-at .ensures) (at-read .read .given .1) λ t e x.
+    worked (args .s .now) (args .at) st h (at-put .put .result) _ _ (put t) e (at-put .put .ensures t (args .at) (x .reads))
 
 -- src/steps.rt:27:1
 same-length-3 : tie.Need-same-length-3
@@ -185,13 +191,13 @@ same-length-5 c = search needs
 returns-2 : tie.Need-returns-2
 returns-2 c =
     let entry = c .before .before .before .before .before .before .before .before .before .before .before .before .before .before .before .before .before .before in
-    let at-read-step = c .before .before .before .before .before .before .before .before .before .before .before .before .before in
+    let at-step-at = c .before .before .before .before .before .before .before .before .before .before .before .before .before in
     let at-read2 = c .before .before .before .before .before .before .before .before .before .before .before in
     let at-row = c .before .before .before .before .before .before in
     let args = entry .args in
-    λ ts h.
-    let read = row-read (args .s .now) (at-read-step .read-step .ensures) (at-read2 .read2 .given .1) in
-    worked (args .s .now) (args .at) h (at-row .row .result .answer) _ (at-row .row .result .count) _ steps.row read (at-row .row .ensures ts h)
+    λ st h.
+    let read = row-read (args .s .now) (at-step-at .step-at .ensures) (at-read2 .read2 .given .1) in
+    worked (args .s .now) (args .at) st h (at-row .row .result) _ _ row read (at-row .row .ensures)
 
 -- src/steps.rt:27:1
 same-length-6 : tie.Need-same-length-6
@@ -209,13 +215,13 @@ same-length-8 c = search needs
 returns-3 : tie.Need-returns-3
 returns-3 c =
     let entry = c .before .before .before .before .before .before .before .before .before .before .before .before .before .before .before .before .before .before in
-    let at-read-step = c .before .before .before .before .before .before .before .before .before .before .before .before .before in
+    let at-step-at = c .before .before .before .before .before .before .before .before .before .before .before .before .before in
     let at-read3 = c .before .before .before .before .before .before .before .before .before .before .before in
     let at-pervade = c .before .before .before .before .before .before in
     let args = entry .args in
-    λ ts h.
-    let read = pervading-read (args .s .now) (at-read-step .read-step .ensures) (at-read3 .read3 .given .1) in
-    worked (args .s .now) (args .at) h (at-pervade .pervade .result .answer) _ (at-pervade .pervade .result .count) _ (steps.pervading _ _) read (at-pervade .pervade .ensures ts h)
+    λ st h.
+    let read = pervading-read (args .s .now) (at-step-at .step-at .ensures) (at-read3 .read3 .given .1) in
+    worked (args .s .now) (args .at) st h (at-pervade .pervade .result) _ _ (pervading _ _) read (at-pervade .pervade .ensures)
 
 -- src/steps.rt:27:1
 same-length-9 : tie.Need-same-length-9
@@ -233,13 +239,13 @@ same-length-11 c = search needs
 returns-4 : tie.Need-returns-4
 returns-4 c =
     let entry = c .before .before .before .before .before .before .before .before .before .before .before .before .before .before .before .before .before .before in
-    let at-read-step = c .before .before .before .before .before .before .before .before .before .before .before .before .before in
+    let at-step-at = c .before .before .before .before .before .before .before .before .before .before .before .before .before in
     let at-read4 = c .before .before .before .before .before .before .before .before .before .before .before in
     let at-join = c .before .before .before .before .before .before in
     let args = entry .args in
-    λ ts h.
-    let read = join-read (args .s .now) (at-read-step .read-step .ensures) (at-read4 .read4 .given .1) in
-    worked (args .s .now) (args .at) h (at-join .join .result .answer) _ (at-join .join .result .count) _ steps.join read (at-join .join .ensures ts h)
+    λ st h.
+    let read = join-read (args .s .now) (at-step-at .step-at .ensures) (at-read4 .read4 .given .1) in
+    worked (args .s .now) (args .at) st h (at-join .join .result) _ _ join read (at-join .join .ensures)
 
 -- src/steps.rt:27:1
 same-length-12 : tie.Need-same-length-12
@@ -257,29 +263,28 @@ same-length-14 c = search needs
 returns-5 : tie.Need-returns-5
 returns-5 c =
     let entry = c .before .before .before .before .before .before .before .before .before .before .before .before .before .before .before .before .before .before .before in
-    let at-read-step = c .before .before .before .before .before .before .before .before .before .before .before .before .before .before in
+    let at-step-at = c .before .before .before .before .before .before .before .before .before .before .before .before .before .before in
     let at-read5 = c .before .before .before .before .before .before .before .before .before .before .before .before in
     let at-validate = c .before .before .before .before .before .before in
     let args = entry .args in
-    λ ts h.
-    validating-read (args .s .now) (at-read-step .read-step .ensures) (at-read5 .read5 .given .1) λ t e x.
-    worked (args .s .now) (args .at) h (at-validate .validate .result .answer) _ (at-validate .validate .result .count) _ (steps.validating t) e (at-validate .validate .ensures t ts (x .alone) h)
+    λ st h.
+    validating-read (args .s .now) (at-step-at .step-at .ensures) (at-read5 .read5 .given .1) λ t e x.
+    worked (args .s .now) (args .at) st h (at-validate .validate .result) _ _ (validating t) e (at-validate .validate .ensures t (x .reads))
 
 -- src/steps.rt:27:1
 returns-6 : tie.Need-returns-6
 returns-6 c =
     let entry = c .before .before .before .before .before .before .before .before .before in
-    let at-read-step = c .before .before .before .before in
+    let at-step-at = c .before .before .before .before in
     let at-read6 = c .before .before in
     let args = entry .args in
-    λ ts h.
-    rw (c .refuse .ensures) (unworked (args .s .now) (args .at) h (step-unread (args .s .now) (at-read-step .read-step .ensures) (at-read6 .read6 .given .1)))
+    λ st h. rw (c .refuse .ensures) (unworked (args .s .now) (args .at) st h (step-unread (args .s .now) (at-step-at .step-at .ensures) (at-read6 .read6 .given .1)))
 
 pub work-step-spec : {M : Type 1} → statement M
 work-step-spec =
     tie.close
     (tie.spec
-    read-step-requires
+    step-at-requires
     enum-known-read
     sub-put
     part-put-start

@@ -1,98 +1,72 @@
 use mathlib.Core.Path.{_∙_}
-use native.Mathlib.Omega.{arith}
-use Rattle.stack.specs.StackLaws.{holds-top, holds-below}
-use Rattle.run.proofs.RuleLaws.{held-lone}
-use mathlib.Core.List.{_∷_}
-use Rattle.stack.specs.Stack.{Holds}
-use Rattle.run.proofs.StepLaws.{two-held}
+use Rattle.format.specs.Outcome.{accepted}
+use Rattle.rules.specs.Types.{joinTypes}
+use Rattle.run.proofs.RuleLaws.{delivered-puts}
+use Rattle.run.proofs.StepLaws.{good-two, join-within}
 use borrow.Author.Needs.{needs}
 use Rattle.run.proofs.tops.join_top.Statement.{statement}
 use Rattle.run.proofs.tops.join_top.Tie as tie
 use Rattle.run.proofs.tops.join_top.Reads as reads
 use Rattle.run.proofs.tops.join_top.Lts as lts
 use Rattle.join.proofs.join_known.Reads as join-known-reads
-use Rattle.stack.proofs.load.Reads as load-reads
+use Rattle.run.proofs.tops.load_two.Reads as load-two-reads
 
--- src/tops.rt:47:29
-sub-load : tie.Need-sub-load
-sub-load c = search needs
+-- src/tops.rt:80:9
+load-two-requires : tie.Need-load-two-requires
+load-two-requires c κs = search needs
 
--- src/tops.rt:47:9
-load-requires : tie.Need-load-requires
-load-requires c κs =
-    let entry = c .before .before .before in
-    let args = entry .args in
-    (args .count, args .scratch .now, omega (arith, entry .pre .0), entry .pre .1)
-
--- src/tops.rt:50:31
-sub-load-2 : tie.Need-sub-load-2
-sub-load-2 c = search needs
-
--- src/tops.rt:50:9
-load-requires-2 : tie.Need-load-requires-2
-load-requires-2 c κs =
-    let entry = c .before .before .before .before in
-    let args = entry .args in
-    (args .count, args .scratch .now, omega (arith, entry .pre .0), entry .pre .1)
-
--- src/tops.rt:53:16
+-- src/tops.rt:85:16
 sub-join-known : tie.Need-sub-join-known
 sub-join-known c = search needs
 
--- src/tops.rt:53:16
+-- src/tops.rt:85:16
 part-join-known-start : tie.Need-part-join-known-start
 part-join-known-start c = search needs
 
--- src/tops.rt:53:16
+-- src/tops.rt:85:16
 part-join-known-end : tie.Need-part-join-known-end
 part-join-known-end c = search needs
 
--- src/tops.rt:53:38
+-- src/tops.rt:85:38
 sub-join-known-2 : tie.Need-sub-join-known-2
 sub-join-known-2 c = search needs
 
--- src/tops.rt:53:38
+-- src/tops.rt:85:38
 part-join-known-start-2 : tie.Need-part-join-known-start-2
 part-join-known-start-2 c = search needs
 
--- src/tops.rt:53:38
+-- src/tops.rt:85:38
 part-join-known-end-2 : tie.Need-part-join-known-end-2
 part-join-known-end-2 c = search needs
 
--- src/tops.rt:53:5
+-- src/tops.rt:85:5
 join-known-requires : tie.Need-join-known-requires
 join-known-requires c κs =
-    let entry = c .before .before .before .before .before .before .before .before in
-    let at-load = c .before .before .before .before in
-    let at-load2 = c .before .before .before in
+    let entry = c .before .before .before .before .before .before .before in
+    let at-load-two = c .before .before .before in
     let args = entry .args in
-    two-held (entry .pre .1 .types) (entry .pre .1 .held) (entry .pre .0) λ t u us e.
-    let hh : Holds (args .lengths .now) (args .count) (args .scratch .now) (t ∷ u ∷ us) = rw e at (entry .pre .1 .held) in
-    rw (held-lone (at-load .load .ensures .1 (args .scratch .now) ∙ holds-top (args .lengths .now) (args .count) (args .scratch .now) hh) (hh .within .0), held-lone (at-load2 .load2 .ensures .1 (args .scratch .now) ∙ holds-below (args .lengths .now) (args .count) (args .scratch .now) hh) (hh .within .1 .0))
+    good-two (entry .pre .2) _ _ (entry .pre .0) (at-load-two .load-two .ensures .1 (args .scratch .now))
 
--- src/tops.rt:43:1
+-- src/tops.rt:76:1
 same-length : tie.Need-same-length
 same-length c = search needs
 
--- src/tops.rt:43:1
+-- src/tops.rt:76:1
 returns : tie.Need-returns
 returns c =
-    let entry = c .before .before .before .before .before .before .before .before .before .before .before in
-    let at-load = c .before .before .before .before .before .before .before in
-    let at-load2 = c .before .before .before .before .before .before in
+    let entry = c .before .before .before .before .before .before .before .before .before .before in
+    let at-load-two = c .before .before .before .before .before .before in
     let at-join-known = c .before .before in
     let args = entry .args in
     λ t u ts h.
-    at-join-known .join-known .ensures ∙ rw (held-lone (at-load .load .ensures .1 (args .scratch .now) ∙ holds-top (args .lengths .now) (args .count) (args .scratch .now) h) (h .within .0), held-lone (at-load2 .load2 .ensures .1 (args .scratch .now) ∙ holds-below (args .lengths .now) (args .count) (args .scratch .now) h) (h .within .1 .0))
+    let (top, below) = at-load-two .load-two .ensures .1 (args .scratch .now) t u ts h in
+    delivered-puts (accepted (joinTypes t u)) (at-join-known .join-known .result) _ (args .out .now) (at-join-known .join-known .ensures ∙ rw (top, below)) (join-within t u (h .within .0) (h .within .1 .0)) (entry .pre .1)
 
 pub join-top-spec : {M : Type 1} → statement M
 join-top-spec =
     tie.close
     (tie.spec
-    sub-load
-    load-requires
-    sub-load-2
-    load-requires-2
+    load-two-requires
     sub-join-known
     part-join-known-start
     part-join-known-end

@@ -1,98 +1,73 @@
 use mathlib.Core.Path.{_∙_}
-use native.Mathlib.Omega.{arith}
-use Rattle.stack.specs.StackLaws.{holds-top, holds-below}
-use Rattle.run.proofs.RuleLaws.{held-lone}
-use mathlib.Core.List.{_∷_}
-use Rattle.stack.specs.Stack.{Holds}
-use Rattle.run.proofs.StepLaws.{two-held}
+use Rattle.machine.specs.Run.{pervadeTypes}
+use Rattle.run.specs.Answers.{atStart}
+use Rattle.run.proofs.RuleLaws.{delivered-puts}
+use Rattle.run.proofs.StepLaws.{good-two, pervade-within}
 use borrow.Author.Needs.{needs}
 use Rattle.run.proofs.tops.pervade_top.Statement.{statement}
 use Rattle.run.proofs.tops.pervade_top.Tie as tie
 use Rattle.run.proofs.tops.pervade_top.Reads as reads
 use Rattle.run.proofs.tops.pervade_top.Lts as lts
+use Rattle.run.proofs.tops.load_two.Reads as load-two-reads
 use Rattle.run.proofs.tops.pervade_types.Reads as pervade-types-reads
-use Rattle.stack.proofs.load.Reads as load-reads
 
--- src/tops.rt:68:29
-sub-load : tie.Need-sub-load
-sub-load c = search needs
+-- src/tops.rt:100:9
+load-two-requires : tie.Need-load-two-requires
+load-two-requires c κs = search needs
 
--- src/tops.rt:68:9
-load-requires : tie.Need-load-requires
-load-requires c κs =
-    let entry = c .before .before .before in
-    let args = entry .args in
-    (args .count, args .scratch .now, omega (arith, entry .pre .0), entry .pre .1)
-
--- src/tops.rt:71:31
-sub-load-2 : tie.Need-sub-load-2
-sub-load-2 c = search needs
-
--- src/tops.rt:71:9
-load-requires-2 : tie.Need-load-requires-2
-load-requires-2 c κs =
-    let entry = c .before .before .before .before in
-    let args = entry .args in
-    (args .count, args .scratch .now, omega (arith, entry .pre .0), entry .pre .1)
-
--- src/tops.rt:75:9
+-- src/tops.rt:106:9
 sub-pervade-types : tie.Need-sub-pervade-types
 sub-pervade-types c = search needs
 
--- src/tops.rt:75:9
+-- src/tops.rt:106:9
 part-pervade-types-start : tie.Need-part-pervade-types-start
 part-pervade-types-start c = search needs
 
--- src/tops.rt:75:9
+-- src/tops.rt:106:9
 part-pervade-types-end : tie.Need-part-pervade-types-end
 part-pervade-types-end c = search needs
 
--- src/tops.rt:76:9
+-- src/tops.rt:107:9
 sub-pervade-types-2 : tie.Need-sub-pervade-types-2
 sub-pervade-types-2 c = search needs
 
--- src/tops.rt:76:9
+-- src/tops.rt:107:9
 part-pervade-types-start-2 : tie.Need-part-pervade-types-start-2
 part-pervade-types-start-2 c = search needs
 
--- src/tops.rt:76:9
+-- src/tops.rt:107:9
 part-pervade-types-end-2 : tie.Need-part-pervade-types-end-2
 part-pervade-types-end-2 c = search needs
 
--- src/tops.rt:74:5
+-- src/tops.rt:105:5
 pervade-types-requires : tie.Need-pervade-types-requires
 pervade-types-requires c κs =
-    let entry = c .before .before .before .before .before .before .before .before in
-    let at-load = c .before .before .before .before in
-    let at-load2 = c .before .before .before in
+    let entry = c .before .before .before .before .before .before .before in
+    let at-load-two = c .before .before .before in
     let args = entry .args in
-    two-held (entry .pre .1 .types) (entry .pre .1 .held) (entry .pre .0) λ t u us e.
-    let hh : Holds (args .lengths .now) (args .count) (args .scratch .now) (t ∷ u ∷ us) = rw e at (entry .pre .1 .held) in
-    rw (held-lone (at-load .load .ensures .1 (args .scratch .now) ∙ holds-top (args .lengths .now) (args .count) (args .scratch .now) hh) (hh .within .0), held-lone (at-load2 .load2 .ensures .1 (args .scratch .now) ∙ holds-below (args .lengths .now) (args .count) (args .scratch .now) hh) (hh .within .1 .0))
+    good-two (entry .pre .2) _ _ (entry .pre .0) (at-load-two .load-two .ensures .1 (args .scratch .now))
 
--- src/tops.rt:57:1
+-- src/tops.rt:89:1
 same-length : tie.Need-same-length
 same-length c = search needs
 
--- src/tops.rt:57:1
+-- src/tops.rt:89:1
 returns : tie.Need-returns
 returns c =
-    let entry = c .before .before .before .before .before .before .before .before .before .before .before in
-    let at-load = c .before .before .before .before .before .before .before in
-    let at-load2 = c .before .before .before .before .before .before in
+    let entry = c .before .before .before .before .before .before .before .before .before .before in
+    let at-load-two = c .before .before .before .before .before .before in
     let at-pervade-types = c .before .before in
     let args = entry .args in
     λ t u ts h.
-    at-pervade-types .pervade-types .ensures ∙ rw (held-lone (at-load .load .ensures .1 (args .scratch .now) ∙ holds-top (args .lengths .now) (args .count) (args .scratch .now) h) (h .within .0), held-lone (at-load2 .load2 .ensures .1 (args .scratch .now) ∙ holds-below (args .lengths .now) (args .count) (args .scratch .now) h) (h .within .1 .0))
+    let (top, below) = at-load-two .load-two .ensures .1 (args .scratch .now) t u ts h in
+    let within = pervade-within (args .top-fill) (args .below-fill) t u (h .within .0) (h .within .1 .0) in
+    delivered-puts (atStart (pervadeTypes (args .top-fill) (args .below-fill) t u)) (at-pervade-types .pervade-types .result) _ (args .out .now) (at-pervade-types .pervade-types .ensures ∙ rw (top, below)) within (entry .pre .1)
 
 pub pervade-top-spec : {M : Type 1} → statement M
 pervade-top-spec =
     tie.close
     (tie.spec
-    sub-load
-    load-requires
-    sub-load-2
-    load-requires-2
+    load-two-requires
     sub-pervade-types
     part-pervade-types-start
     part-pervade-types-end

@@ -1,70 +1,58 @@
-use mathlib.Core.Path.{_∙_, subst}
-use native.Mathlib.Omega.{arith}
-use mathlib.Core.List.{_∷_}
+use mathlib.Core.Path.{subst}
 use Rattle.lent.specs.Written.{Puts}
-use Rattle.stack.specs.Stack.{Holds}
-use Rattle.stack.specs.StackLaws.{holds-top}
-use Rattle.run.proofs.RuleLaws.{held-lone}
-use Rattle.run.proofs.StepLaws.{one-held}
+use Rattle.run.proofs.StepLaws.{good-by}
 use borrow.Author.Needs.{needs}
 use Rattle.run.proofs.tops.validate_top.Statement.{statement}
 use Rattle.run.proofs.tops.validate_top.Tie as tie
 use Rattle.run.proofs.tops.validate_top.Reads as reads
 use Rattle.run.proofs.tops.validate_top.Lts as lts
-use Rattle.stack.proofs.load.Reads as load-reads
+use Rattle.run.proofs.tops.load_top.Reads as load-top-reads
 use Rattle.validate.proofs.validate_known.Reads as validate-known-reads
 
--- src/tops.rt:111:29
-sub-load : tie.Need-sub-load
-sub-load c = search needs
+-- src/tops.rt:144:9
+load-top-requires : tie.Need-load-top-requires
+load-top-requires c κs = search needs
 
--- src/tops.rt:111:9
-load-requires : tie.Need-load-requires
-load-requires c κs =
-    let entry = c .before .before .before .before in
-    let args = entry .args in
-    (args .count, args .scratch .now, omega (arith, entry .pre .0), entry .pre .2)
-
--- src/tops.rt:114:41
+-- src/tops.rt:147:41
 sub-validate-known : tie.Need-sub-validate-known
 sub-validate-known c = search needs
 
--- src/tops.rt:114:41
+-- src/tops.rt:147:41
 part-validate-known-start : tie.Need-part-validate-known-start
 part-validate-known-start c = search needs
 
--- src/tops.rt:114:41
+-- src/tops.rt:147:41
 part-validate-known-end : tie.Need-part-validate-known-end
 part-validate-known-end c = search needs
 
--- src/tops.rt:114:5
+-- src/tops.rt:147:5
 validate-known-requires : tie.Need-validate-known-requires
 validate-known-requires c κs =
     let entry = c .before .before .before .before .before .before .before in
-    let at-load = c .before .before in
+    let at-load-top = c .before .before in
     let args = entry .args in
-    (one-held (entry .pre .2 .types) (entry .pre .2 .held) (entry .pre .0) λ t us e. let hh : Holds (args .lengths .now) (args .count) (args .scratch .now) (t ∷ us) = rw e at (entry .pre .2 .held) in rw (entry .pre .3 .1, held-lone (at-load .load .ensures .1 (args .scratch .now) ∙ holds-top (args .lengths .now) (args .count) (args .scratch .now) hh) (hh .within .0)), entry .pre .1)
+    (good-by (entry .pre .0 .2) _ _ (entry .pre .1 .0) (entry .pre .1 .1) (entry .pre .0 .0) (at-load-top .load-top .ensures .1 (args .scratch .now)), entry .pre .0 .1)
 
--- src/tops.rt:101:1
+-- src/tops.rt:133:1
 same-length : tie.Need-same-length
 same-length c = search needs
 
--- src/tops.rt:101:1
+-- src/tops.rt:133:1
 returns : tie.Need-returns
 returns c =
     let entry = c .before .before .before .before .before .before .before .before .before .before in
-    let at-load = c .before .before .before .before .before in
+    let at-load-top = c .before .before .before .before .before in
     let at-validate-known = c .before .before in
     let args = entry .args in
-    λ s t ts h e.
-    subst (λ o. Puts (at-validate-known .validate-known .result) (at-validate-known .validate-known .last .1 .1 .1 .0) o) (rw (e, held-lone (at-load .load .ensures .1 (args .scratch .now) ∙ holds-top (args .lengths .now) (args .count) (args .scratch .now) h) (h .within .0))) (at-validate-known .validate-known .ensures)
+    λ s e t ts h.
+    let here = at-load-top .load-top .ensures .1 (args .scratch .now) t ts h in
+    subst (λ o. Puts (at-validate-known .validate-known .result) (at-validate-known .validate-known .last .1 .1 .1 .0) o) (rw (e, here)) (at-validate-known .validate-known .ensures)
 
 pub validate-top-spec : {M : Type 1} → statement M
 validate-top-spec =
     tie.close
     (tie.spec
-    sub-load
-    load-requires
+    load-top-requires
     sub-validate-known
     part-validate-known-start
     part-validate-known-end

@@ -3,8 +3,8 @@ use native.Mathlib.Omega.{arith}
 use mathlib.Core.Path.{_≡_, sym, _∙_, ap}
 use lib.ListN.{length}
 use Rattle.lent.specs.Over.{over}
-use Rattle.stack.specs.Laid.{laid}
-use Rattle.stack.proofs.LaidLaws.{laid-none, laid-within, laid-start, laid-next, lay-fits, lay-adds}
+use Rattle.stack.specs.StackBytes.{stackBytes}
+use Rattle.stack.proofs.StackBytesLaws.{stack-none, stack-start, stack-next, lay-fits, lay-adds, lay-stays}
 use borrow.Author.Needs.{needs}
 use Rattle.stack.proofs.out.lay_types.Statement.{statement}
 use Rattle.stack.proofs.out.lay_types.Tie as tie
@@ -14,7 +14,8 @@ use Rattle.lent.proofs.lay.Reads as lay-reads
 use Rattle.stack.proofs.load.Reads as load-reads
 
 abbrev Inv-loop : tie.InvT-loop
-Inv-loop count lengths scratch result₀ at₀ k₀ result at k = (k ≤ count) × (length result ≡ length result₀) × (at ≡ length (laid lengths scratch k)) × (result ≡ over result₀ 0 (laid lengths scratch k))
+Inv-loop count lengths scratch result₀ at₀ k₀ result at k =
+    (k ≤ count) × (length result ≡ length result₀) × (at ≡ length (stackBytes lengths scratch k)) × (result ≡ over result₀ 0 (stackBytes lengths scratch k))
 
 abbrev μ-loop : tie.MeasureT-loop
 μ-loop count lengths scratch result₀ at₀ k₀ result at k = count - k
@@ -24,7 +25,7 @@ loop-holds : tie.Need-loop-holds Inv-loop μ-loop
 loop-holds c =
     let entry = c .before .before .before in
     let args = entry .args in
-    (search needs, search needs, sym (laid-none (args .lengths .now) (args .scratch .now)), laid-start (args .lengths .now) (args .scratch .now) (args .result .now))
+    (search needs, search needs, sym (stack-none (args .lengths .now) (args .scratch .now)), stack-start (args .lengths .now) (args .scratch .now) (args .result .now))
 
 -- src/out.rt:57:13
 load-requires : tie.Need-load-requires Inv-loop μ-loop
@@ -45,7 +46,7 @@ part-lay-start c = c .load .ensures .0 .0
 part-lay-end : tie.Need-part-lay-end Inv-loop μ-loop
 part-lay-end c =
     let entry = c .before .before .before .before .before .before in
-    let e : c .load .result .end ≤ length (entry .args .scratch .now) = omega (arith, c .load .ensures .0 .1, entry .pre .0 .held .room) in
+    let e : c .load .result .end ≤ length (entry .args .scratch .now) = omega (arith, c .load .ensures .0 .1, entry .pre .0 .stacked .room) in
     e
 
 -- src/out.rt:60:9
@@ -56,7 +57,8 @@ lay-requires c κs =
     let at-loop-test = c .before .before .before in
     let at-load = c .before .before in
     let args = entry .args in
-    rw (at-load .load .ensures .1 (args .scratch .now)) (omega (arith, lay-fits (args .lengths .now) (args .count) (args .scratch .now) (entry .pre .0) (at-loop .loop .k) (at-loop-test .loop-test .taken) (at-loop .loop .inv .2) (entry .pre .1), at-loop .loop .inv .1))
+    let fits = lay-fits (args .lengths .now) (args .count) (args .scratch .now) (entry .pre .0) (at-loop .loop .k) (at-loop-test .loop-test .taken) (at-loop .loop .inv .2) (entry .pre .1) in
+    rw (at-load .load .ensures .1 (args .scratch .now)) (omega (arith, fits, at-loop .loop .inv .1))
 
 -- src/out.rt:61:15
 sub-at : tie.Need-sub-at Inv-loop μ-loop
@@ -72,7 +74,11 @@ add-at c =
     let at-loop-test = c .before .before .before .before .before .before in
     let at-load = c .before .before .before .before .before in
     let args = entry .args in
-    let e : (at-loop .loop .at) + ((at-load .load .result .end) - (at-load .load .result .start)) ≤ length (args .result .now) = omega (arith, lay-adds (args .lengths .now) (args .count) (args .scratch .now) (entry .pre .0) (at-loop .loop .k) (at-loop-test .loop-test .taken) (at-load .load .result .start) (at-load .load .result .end) (at-loop .loop .inv .2) (at-load .load .ensures .1 (args .scratch .now)) (at-load .load .ensures .0 .0) (omega (arith, at-load .load .ensures .0 .1, entry .pre .0 .held .room)), laid-within (args .lengths .now) (args .count) (args .scratch .now) (entry .pre .0) (at-loop .loop .k + 1) (omega arith), entry .pre .1) in
+    let from = at-load .load .result in
+    let found = at-load .load .ensures in
+    let e : at-loop .loop .at + (from .end - from .start) ≤ length (args .result .now) =
+    lay-stays (args .lengths .now) (args .count) (args .scratch .now) (entry .pre .0) (at-loop .loop .k) (at-loop-test .loop-test .taken)
+    (from .start) (from .end) (at-loop .loop .inv .2) (found .0 .0) (found .0 .1) (found .1 (args .scratch .now)) (entry .pre .1) in
     search needs
 
 -- src/out.rt:62:9
@@ -92,7 +98,15 @@ loop-again c =
     let at-load = c .before .before .before .before .before in
     let at-lay = c .before .before in
     let args = entry .args in
-    (omega arith, at-lay .lay .kept .1 .0 ∙ at-loop .loop .inv .1, lay-adds (args .lengths .now) (args .count) (args .scratch .now) (entry .pre .0) (at-loop .loop .k) (at-loop-test .loop-test .taken) (at-load .load .result .start) (at-load .load .result .end) (at-loop .loop .inv .2) (at-load .load .ensures .1 (args .scratch .now)) (at-load .load .ensures .0 .0) (omega (arith, at-load .load .ensures .0 .1, entry .pre .0 .held .room)), at-lay .lay .ensures ∙ rw (at-load .load .ensures .1 (args .scratch .now)) (laid-next (args .lengths .now) (args .scratch .now) (args .result .now) (at-loop .loop .result) (at-loop .loop .at) (at-loop .loop .k) (at-loop .loop .inv .3) (at-loop .loop .inv .2) (omega (arith, lay-fits (args .lengths .now) (args .count) (args .scratch .now) (entry .pre .0) (at-loop .loop .k) (at-loop-test .loop-test .taken) (at-loop .loop .inv .2) (entry .pre .1)))))
+    let (before, all, reached, front) = at-loop .loop .inv in
+    let less = at-loop-test .loop-test .taken in
+    let from = at-load .load .result in
+    let found = at-load .load .ensures in
+    let here = found .1 (args .scratch .now) in
+    let adds = lay-adds (args .lengths .now) (args .count) (args .scratch .now) (entry .pre .0) (at-loop .loop .k) less (from .start) (from .end) reached (found .0 .0) (found .0 .1) here in
+    let fits = lay-fits (args .lengths .now) (args .count) (args .scratch .now) (entry .pre .0) (at-loop .loop .k) less reached (entry .pre .1) in
+    let next = stack-next (args .lengths .now) (args .scratch .now) (args .result .now) (at-loop .loop .result) (at-loop .loop .at) (at-loop .loop .k) front reached (omega (arith, fits)) in
+    (omega arith, at-lay .lay .kept .1 .0 ∙ all, adds, at-lay .lay .ensures ∙ rw here next)
 
 -- src/out.rt:50:1
 same-length : tie.Need-same-length Inv-loop μ-loop
@@ -104,7 +118,7 @@ returns c =
     let entry = c .before .before .before .before .before in
     let args = entry .args in
     let e : c .before .loop .k ≡ args .count = omega arith in
-    c .before .loop .inv .3 ∙ ap (λ k. over (args .result .now) 0 (laid (args .lengths .now) (args .scratch .now) k)) e
+    c .before .loop .inv .3 ∙ ap (λ k. over (args .result .now) 0 (stackBytes (args .lengths .now) (args .scratch .now) k)) e
 
 pub lay-types-spec : {M : Type 1} → statement M
 lay-types-spec =

@@ -3,9 +3,10 @@ use native.Mathlib.Omega.{arith}
 use mathlib.Core.List.{List}
 use mathlib.Core.Path.{_≡_, sym, _∙_, ap}
 use lib.ListN.{length, getD}
-use Rattle.stack.specs.Stack.{HasTypes}
-use Rattle.stack.specs.Laid.{laid}
-use Rattle.stack.proofs.LaidLaws.{laid-none, laid-more}
+use Rattle.model.specs.Limits.{maxBytes}
+use Rattle.stack.specs.Stack.{HasStack}
+use Rattle.stack.specs.StackBytes.{stackBytes}
+use Rattle.stack.proofs.StackBytesLaws.{stack-none, total-more}
 use borrow.Author.Needs.{needs}
 use Rattle.stack.proofs.out.total.Statement.{statement}
 use Rattle.stack.proofs.out.total.Tie as tie
@@ -13,21 +14,21 @@ use Rattle.stack.proofs.out.total.Reads as reads
 use Rattle.stack.proofs.out.total.Lts as lts
 
 abbrev Inv-loop : tie.InvT-loop
-Inv-loop count lengths size₀ k₀ size k = (k ≤ count) × (size ≤ 4992 * k) × ((d : List ℕ) → HasTypes lengths count d → size ≡ length (laid lengths d k))
+Inv-loop count lengths size₀ k₀ size k = (k ≤ count) × (size ≤ k * maxBytes) × ((d : List ℕ) → HasStack lengths count d → size ≡ length (stackBytes lengths d k))
 
 abbrev μ-loop : tie.MeasureT-loop
 μ-loop count lengths size₀ k₀ size k = count - k
 
 -- src/out.rt:43:5
 loop-holds : tie.Need-loop-holds Inv-loop μ-loop
-loop-holds c = (search needs, search needs, λ d h. sym (laid-none (c .args .lengths .now) d))
+loop-holds c = (search needs, search needs, λ d h. sym (stack-none (c .args .lengths .now) d))
 
 -- src/out.rt:44:17
 mul-size : tie.Need-mul-size Inv-loop μ-loop
 mul-size c =
     let entry = c .before .before in
-    let short : getD (entry .args .lengths .now) (c .before .loop .k) 0 ≤ 4992 = entry .pre .1 .held .short (c .before .loop .k) (c .loop-test .taken) in
-    let few = entry .pre .1 .held .few in
+    let short : getD (entry .args .lengths .now) (c .before .loop .k) 0 ≤ maxBytes = entry .pre .1 .stacked .short (c .before .loop .k) (c .loop-test .taken) in
+    let few = entry .pre .1 .stacked .few in
     search needs
 
 -- src/out.rt:44:17
@@ -35,8 +36,8 @@ shared-slice-read-size : tie.Need-shared-slice-read-size Inv-loop μ-loop
 shared-slice-read-size c =
     let entry = c .before .before .before in
     let at-loop = c .before .before in
-    let short : getD (entry .args .lengths .now) (at-loop .loop .k) 0 ≤ 4992 = entry .pre .1 .held .short (at-loop .loop .k) (c .before .loop-test .taken) in
-    let few = entry .pre .1 .held .few in
+    let short : getD (entry .args .lengths .now) (at-loop .loop .k) 0 ≤ maxBytes = entry .pre .1 .stacked .short (at-loop .loop .k) (c .before .loop-test .taken) in
+    let few = entry .pre .1 .stacked .few in
     search needs
 
 -- src/out.rt:44:9
@@ -44,8 +45,8 @@ add-size : tie.Need-add-size Inv-loop μ-loop
 add-size c =
     let entry = c .before .before .before in
     let at-loop = c .before .before in
-    let short : getD (entry .args .lengths .now) (at-loop .loop .k) 0 ≤ 4992 = entry .pre .1 .held .short (at-loop .loop .k) (c .before .loop-test .taken) in
-    let few = entry .pre .1 .held .few in
+    let short : getD (entry .args .lengths .now) (at-loop .loop .k) 0 ≤ maxBytes = entry .pre .1 .stacked .short (at-loop .loop .k) (c .before .loop-test .taken) in
+    let few = entry .pre .1 .stacked .few in
     search needs
 
 -- src/out.rt:45:9
@@ -53,8 +54,8 @@ add-k : tie.Need-add-k Inv-loop μ-loop
 add-k c =
     let entry = c .before .before .before in
     let at-loop = c .before .before in
-    let short : getD (entry .args .lengths .now) (at-loop .loop .k) 0 ≤ 4992 = entry .pre .1 .held .short (at-loop .loop .k) (c .before .loop-test .taken) in
-    let few = entry .pre .1 .held .few in
+    let short : getD (entry .args .lengths .now) (at-loop .loop .k) 0 ≤ maxBytes = entry .pre .1 .stacked .short (at-loop .loop .k) (c .before .loop-test .taken) in
+    let few = entry .pre .1 .stacked .few in
     search needs
 
 -- src/out.rt:43:5
@@ -67,9 +68,9 @@ loop-again c =
     let entry = c .before .before .before in
     let at-loop = c .before .before in
     let args = entry .args in
-    let short : getD (args .lengths .now) (at-loop .loop .k) 0 ≤ 4992 = entry .pre .1 .held .short (at-loop .loop .k) (c .before .loop-test .taken) in
-    let few = entry .pre .1 .held .few in
-    (omega arith, omega arith, λ d h. ap (λ n. n + getD (args .lengths .now) (at-loop .loop .k) 0) (at-loop .loop .inv .2 d h) ∙ sym (laid-more (args .lengths .now) (args .count) d h (at-loop .loop .k) (c .before .loop-test .taken)))
+    let short : getD (args .lengths .now) (at-loop .loop .k) 0 ≤ maxBytes = entry .pre .1 .stacked .short (at-loop .loop .k) (c .before .loop-test .taken) in
+    let few = entry .pre .1 .stacked .few in
+    (omega arith, omega arith, λ d h. total-more (args .lengths .now) (args .count) d h (at-loop .loop .k) (c .before .loop-test .taken) (at-loop .loop .inv .2 d h))
 
 -- src/out.rt:37:1
 returns : tie.Need-returns Inv-loop μ-loop
@@ -78,7 +79,7 @@ returns c =
     let args = entry .args in
     λ d h.
     let e : c .before .loop .k ≡ args .count = omega arith in
-    c .before .loop .inv .2 d h ∙ ap (λ k. length (laid (args .lengths .now) d k)) e
+    c .before .loop .inv .2 d h ∙ ap (λ k. length (stackBytes (args .lengths .now) d k)) e
 
 pub total-spec : {M : Type 1} → statement M
 total-spec =

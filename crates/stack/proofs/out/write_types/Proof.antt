@@ -2,7 +2,7 @@ use native.Mathlib.Omega.{arith}
 use mathlib.Core.Path.{sym, ap}
 use Rattle.format.specs.Outcome.{accepted}
 use Rattle.lent.specs.Delivers.{deliver-short, deliver-wrote}
-use Rattle.stack.proofs.LaidLaws.{laid-left}
+use Rattle.stack.proofs.StackBytesLaws.{stack-left}
 use borrow.Author.Needs.{needs}
 use Rattle.stack.proofs.out.write_types.Statement.{statement}
 use Rattle.stack.proofs.out.write_types.Tie as tie
@@ -23,7 +23,7 @@ returns c =
     let entry = c .before .before .before .before .before in
     let args = entry .args in
     λ ts h.
-    let e = laid-left (args .lengths .now) (args .count) (args .scratch .now) h in
+    let e = stack-left (args .lengths .now) (args .count) (args .scratch .now) h in
     sym (deliver-short (args .result .now) (ap accepted (sym e)) (omega (arith, c .before .total .ensures (args .scratch .now) (entry .pre), c .if1 .taken)))
 
 -- src/out.rt:33:5
@@ -46,7 +46,7 @@ returns-2 c =
     let at-lay-types = c .before .before in
     let args = entry .args in
     λ ts h.
-    let e = laid-left (args .lengths .now) (args .count) (args .scratch .now) h in
+    let e = stack-left (args .lengths .now) (args .count) (args .scratch .now) h in
     deliver-wrote (args .result .now) (ap accepted (sym e)) (omega (arith, at-total .total .ensures (args .scratch .now) (entry .pre), at-if1 .if1 .left)) (at-total .total .ensures (args .scratch .now) (entry .pre)) (at-lay-types .lay-types .ensures)
 
 pub write-types-spec : {M : Type 1} → statement M

@@ -82,7 +82,9 @@ loop-again c =
     let args = entry .args in
     let d : at-hex-digit-value .hex-digit-value .result ≡ digit (getD (args .text .now) (at-loop .loop .i) 0) = at-hex-digit-value .hex-digit-value .ensures .0 in
     let l : (at-loop .loop .n) * (args .base) + (at-hex-digit-value .hex-digit-value .result) < 2 ^ 64 = room-left _ _ _ (entry .pre) (at-hex-digit-value .hex-digit-value .ensures .1) (c .if2 .left) in
-    (omega arith, l, at-loop .loop .inv .2 ∙ digits-more _ _ _ (at-loop-test .loop-test .taken) (omega arith), at-loop .loop .inv .3 ∙ number-more _ _ _ (at-loop-test .loop-test .taken) _ ∙ ap (λ v. numberAfter (args .base) ((at-loop .loop .n) * (args .base) + v) (drop ((at-loop .loop .i) + 1) (args .text .now))) (sym d))
+    let more = at-loop-test .loop-test .taken in
+    let next = ap (λ v. numberAfter (args .base) (at-loop .loop .n * args .base + v) (drop (at-loop .loop .i + 1) (args .text .now))) (sym d) in
+    (omega arith, l, at-loop .loop .inv .2 ∙ digits-more _ _ _ more (omega arith), at-loop .loop .inv .3 ∙ number-more _ _ _ more _ ∙ next)
 
 returns-3 : tie.Need-returns-3 Inv-loop μ-loop
 returns-3 c = sym (numeral-right _ _ _ (c .before .loop .inv .2 ∙ digits-end _ _ _ (c .loop-test .left)) (c .before .loop .inv .3 ∙ number-end _ _ _ (c .loop-test .left) _) (c .before .loop .inv .1))

@@ -38,7 +38,8 @@ returns-2 c =
     let at-if1 = c .before .before .before .before .before in
     let at-pervade = c .before .before .before in
     let s = entry .args in
-    c .of-written .ensures _ ∙ ap written (at-pervade .pervade .ensures ∙ sym (ap (λ t. deliver (cond t (pervadeCall (fillsTop (s .flag)) (fillsBelow (s .flag)) (s .a .now) (s .b .now)) unsaid) (s .result .now)) (le-leb (s .flag) maxFlag (at-if1 .if1 .left))))
+    let said = le-leb (s .flag) maxFlag (at-if1 .if1 .left) in
+    c .of-written .ensures _ ∙ ap written (at-pervade .pervade .ensures ∙ sym (ap (λ t. deliver (cond t (pervadeCall (fillsTop (s .flag)) (fillsBelow (s .flag)) (s .a .now) (s .b .now)) unsaid) (s .result .now)) said))
 
 pub vg-pervade-spec : {M : Type 1} → statement M
 vg-pervade-spec =

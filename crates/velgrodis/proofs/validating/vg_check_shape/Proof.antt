@@ -25,7 +25,8 @@ returns c =
     let entry = c .before .before .before .before .before .before .before in
     let at-choose-side = c .before .before .before in
     let s = entry .args in
-    unsaid-written (c .refuse .ensures) (s .result .now) (ap (λ o. bound (λ side. both (λ t u. mapped writeTy (checkShapeOnly side t u)) (lone (s .spec .now)) (lone (s .ty .now))) o) (side-unsaid (s .side) (at-choose-side .choose-side .ensures) (c .before .enum-told .given .1)))
+    let none = side-unsaid (s .side) (at-choose-side .choose-side .ensures) (c .before .enum-told .given .1) in
+    unsaid-written (c .refuse .ensures) (s .result .now) (ap (λ o. bound (λ side. both (λ t u. mapped writeTy (checkShapeOnly side t u)) (lone (s .spec .now)) (lone (s .ty .now))) o) none)
 
 check-shape-requires : tie.Need-check-shape-requires
 check-shape-requires c κs = search needs
@@ -43,7 +44,8 @@ returns-2 c =
     let at-s = c .before .before .before .before .before .before in
     let at-check-shape = c .before .before .before in
     let s = entry .args in
-    c .of-written .ensures _ ∙ ap written (at-check-shape .check-shape .ensures ∙ ap (λ o. deliver (bound (λ side. both (λ t u. mapped writeTy (checkShapeOnly side t u)) (lone (s .spec .now)) (lone (s .ty .now))) o) (s .result .now)) (side-said (s .side) (at-choose-side .choose-side .ensures) (at-s .s .given .1)))
+    let chosen = side-said (s .side) (at-choose-side .choose-side .ensures) (at-s .s .given .1) in
+    c .of-written .ensures _ ∙ ap written (at-check-shape .check-shape .ensures ∙ ap (λ o. deliver (bound (λ side. both (λ t u. mapped writeTy (checkShapeOnly side t u)) (lone (s .spec .now)) (lone (s .ty .now))) o) (s .result .now)) chosen)
 
 pub vg-check-shape-spec : {M : Type 1} → statement M
 vg-check-shape-spec =

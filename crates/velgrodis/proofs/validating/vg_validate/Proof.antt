@@ -25,7 +25,8 @@ returns c =
     let entry = c .before .before .before .before .before .before .before in
     let at-choose-side = c .before .before .before in
     let s = entry .args in
-    unsaid-written (c .refuse .ensures) (s .result .now) (ap (λ o. bound (λ side. both (λ t u. mapped writeTy (validate side t u)) (lone (s .spec .now)) (lone (s .ty .now))) o) (side-unsaid (s .side) (at-choose-side .choose-side .ensures) (c .before .enum-told .given .1)))
+    let none = side-unsaid (s .side) (at-choose-side .choose-side .ensures) (c .before .enum-told .given .1) in
+    unsaid-written (c .refuse .ensures) (s .result .now) (ap (λ o. bound (λ side. both (λ t u. mapped writeTy (validate side t u)) (lone (s .spec .now)) (lone (s .ty .now))) o) none)
 
 validate-requires : tie.Need-validate-requires
 validate-requires c κs = search needs
@@ -43,7 +44,8 @@ returns-2 c =
     let at-s = c .before .before .before .before .before .before in
     let at-validate = c .before .before .before in
     let s = entry .args in
-    c .of-written .ensures _ ∙ ap written (at-validate .validate .ensures ∙ ap (λ o. deliver (bound (λ side. both (λ t u. mapped writeTy (validate side t u)) (lone (s .spec .now)) (lone (s .ty .now))) o) (s .result .now)) (side-said (s .side) (at-choose-side .choose-side .ensures) (at-s .s .given .1)))
+    let chosen = side-said (s .side) (at-choose-side .choose-side .ensures) (at-s .s .given .1) in
+    c .of-written .ensures _ ∙ ap written (at-validate .validate .ensures ∙ ap (λ o. deliver (bound (λ side. both (λ t u. mapped writeTy (validate side t u)) (lone (s .spec .now)) (lone (s .ty .now))) o) (s .result .now)) chosen)
 
 pub vg-validate-spec : {M : Type 1} → statement M
 vg-validate-spec =

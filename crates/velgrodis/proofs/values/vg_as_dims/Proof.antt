@@ -44,7 +44,8 @@ returns-2 c =
     let at-as-dims = c .before .before .before .before in
     let at-of-dims = c .before .before in
     let s = entry .args in
-    at-of-dims .of-dims .ensures ∙ ap (λ o. listed (deliverSizes o (s .sizes .now))) (at-as-dims .as-dims .ensures ∙ ap (λ o. bound valueAsDims o) (value-said (s .kind) (s .x) (at-choose-value .choose-value .ensures) (s .list .now) (s .ty .now) (at-v .v .given .1)))
+    let chosen = value-said (s .kind) (s .x) (at-choose-value .choose-value .ensures) (s .list .now) (s .ty .now) (at-v .v .given .1) in
+    at-of-dims .of-dims .ensures ∙ ap (λ o. listed (deliverSizes o (s .sizes .now))) (at-as-dims .as-dims .ensures ∙ ap (λ o. bound valueAsDims o) chosen)
 
 pub vg-as-dims-spec : {M : Type 1} → statement M
 vg-as-dims-spec =

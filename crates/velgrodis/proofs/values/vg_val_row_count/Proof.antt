@@ -38,7 +38,8 @@ returns-2 c =
     let at-choose-value = c .before .before .before .before .before in
     let at-v = c .before .before .before in
     let s = entry .args in
-    c .of-size .ensures ∙ ap sized (c .before .row-count .ensures ∙ ap (λ o. bound valueRowCount o) (value-said (s .kind) (s .x) (at-choose-value .choose-value .ensures) (s .list .now) (s .ty .now) (at-v .v .given .1)))
+    let chosen = value-said (s .kind) (s .x) (at-choose-value .choose-value .ensures) (s .list .now) (s .ty .now) (at-v .v .given .1) in
+    c .of-size .ensures ∙ ap sized (c .before .row-count .ensures ∙ ap (λ o. bound valueRowCount o) chosen)
 
 pub vg-val-row-count-spec : {M : Type 1} → statement M
 vg-val-row-count-spec =

@@ -43,7 +43,8 @@ returns-2 c =
     let at-v = c .before .before .before .before .before .before in
     let at-spec = c .before .before .before in
     let s = entry .args in
-    c .of-written .ensures _ ∙ ap written (at-spec .spec .ensures ∙ ap (λ o. deliver (mapped writeTy (bound valueSpec o)) (s .result .now)) (value-said (s .kind) (s .x) (at-choose-value .choose-value .ensures) (s .list .now) (s .ty .now) (at-v .v .given .1)))
+    let chosen = value-said (s .kind) (s .x) (at-choose-value .choose-value .ensures) (s .list .now) (s .ty .now) (at-v .v .given .1) in
+    c .of-written .ensures _ ∙ ap written (at-spec .spec .ensures ∙ ap (λ o. deliver (mapped writeTy (bound valueSpec o)) (s .result .now)) chosen)
 
 pub vg-val-spec-spec : {M : Type 1} → statement M
 vg-val-spec-spec =

@@ -28,7 +28,7 @@ use Rattle.machine.specs.Steps.{maxFlag, fillsTop, fillsBelow}
 use Rattle.record.specs.Answers.{nothing}
 use Rattle.walk.specs.Whole.{ofTypes, ofScalars, ofScalar}
 use Rattle.shape_calls.specs.Calls.{isSize, sizeAt, onSizes, cmpCall, cmpDefinedCall, maxCall, joinSizesCall, compatibleCall, rowCompatibleCall, onShape}
-use Rattle.shape_calls.specs.Calls.{onShapes, mergeCall, joinCall, rowCall, pervaded, pervadeCall, compatibleShapesCall, isAnyCall, isScalarCall, rowCountCall, rankCall}
+use Rattle.shape_calls.specs.Calls.{onShapes, mergeCall, joinShapesCall, rowCall, pervaded, pervadeCall, compatibleShapesCall, isAnyCall, isScalarCall, rowCountCall, rankCall}
 use Rattle.join.specs.Calls.{joinCall as joinTypesCall}
 use Rattle.val.specs.Values.{valueTy, valueSpec, valueScalar, numsScalar, valueRowCount, valueRank, valueAsDim, valueAsDims, valueRow, valueFirstRow, valueLastRow}
 use Rattle.velgrodis.specs.declared.Answer.{Answer}
@@ -193,7 +193,7 @@ call-told (vg-dim-join a b) = sized-told ofSizes (joinSizesCall a b) (sizes-with
 call-told (vg-dim-compatible a b) = tested-told ofSizes (compatibleCall a b) (sizes-with compatible a b)
 call-told (vg-dim-row-compatible a b) = tested-told ofSizes (rowCompatibleCall a b) (sizes-with rowCompatible a b)
 call-told (vg-merge a b result) = written-told ofWritten refl (mergeCall a b) result (of-shapes lone-written (λ s t. writeShape (mergeFrom s t)) a b)
-call-told (vg-join-shapes a b result) = written-told ofWritten refl (joinCall a b) result (of-shapes lone-written (λ s t. writeShape (joinShapes s t)) a b)
+call-told (vg-join-shapes a b result) = written-told ofWritten refl (joinShapesCall a b) result (of-shapes lone-written (λ s t. writeShape (joinShapes s t)) a b)
 call-told (vg-compatible-shapes a b) = tested-told ofLone (compatibleShapesCall a b) (of-shapes lone-lone compatibleShapes a b)
 call-told (vg-row-shape t result) = written-told ofWritten refl (rowCall t) result (of-shape lone-written (λ s. writeShape (rowShape s)) t)
 call-told (vg-shape-is-any t) = tested-told ofLone (isAnyCall t) (of-shape lone-lone isAny t)

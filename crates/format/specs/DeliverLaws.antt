@@ -28,7 +28,11 @@ module _ (w buffer : List ℕ) where
 
 module _ (o : Outcome (List ℕ)) (buffer : List ℕ) where
   -- By continuation: refused, with the buffer as lent, or the bytes at its front, which have room there.
-  delivered : {C : Type 0} → ((k p : ℕ) → deliver o buffer ≡ delivery (refused k p) buffer → C) → ((w : List ℕ) → length w ≤ length buffer → deliver o buffer ≡ delivery (accepted (length w)) (w ++ drop (length w) buffer) → C) → C
+  delivered :
+      {C : Type 0} →
+      ((k p : ℕ) → deliver o buffer ≡ delivery (refused k p) buffer → C) →
+      ((w : List ℕ) → length w ≤ length buffer → deliver o buffer ≡ delivery (accepted (length w)) (w ++ drop (length w) buffer) → C) →
+      C
   unfolding deliver
   delivered {C} kept laid = go o refl
     where

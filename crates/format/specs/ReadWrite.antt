@@ -17,7 +17,8 @@ use Rattle.model.specs.Within.{All, Each, DimWithin, ShapeWithin, Printing, Sca
 use Rattle.format.specs.Reader.{Bytes, Read, got, stopped, Reader, andThen, give, stop, need, here, byte, judged, number, bytesOf, Took}
 use Rattle.format.specs.WriteRead.{reads-shape}
 use Rattle.format.specs.ReaderLaws.{reads-here, took-none, took-join, split, gave, needed, took-byte, took-judged, took-number}
-use Rattle.format.specs.Records.{Mark, mark, shapeMark, scalarMark, boxMark, markBytes, absent, code, boxCode, kindOf, dimNumber, writeDims, countOf, listOf, writeShape, boxStart, writeScalar, writeFields, writeTy, dimOf, isCount, isOptional, listCount, optional, isPrinting, form, orStop, readMark, readDim, readDims, shapeFrom, readShape, readName, readFields, defFrom, allFrom, boxFrom, plainFrom, scalarFrom, readTy, readType}
+use Rattle.format.specs.Records.{Mark, mark, shapeMark, scalarMark, boxMark, markBytes, absent, code, boxCode, kindOf, dimNumber, writeDims, countOf, listOf, writeShape, boxStart, writeScalar, writeFields, writeTy, dimOf, isCount}
+use Rattle.format.specs.Records.{isOptional, listCount, optional, isPrinting, form, orStop, readMark, readDim, readDims, shapeFrom, readShape, readName, readFields, defFrom, allFrom, boxFrom, plainFrom, scalarFrom, readTy, readType}
 use Rattle.format.specs.Outcome.{accepted, refused, alone, lone}
 
 -- ---- codes and counts
@@ -218,7 +219,15 @@ module _ (s : List ℕ) (small : Bytes s) where
         })
     took-form (suc (suc (suc c))) n p at₀ at k m b e = let z : _≡_ {A = ℕ} 0 1 = cc in absurd (omega arith)
 
-    took-plain : (c n p at₀ at : ℕ) (o : Option Kind) (k : Scalar) (m : ℕ) → kindOf c ≡ o → Took s at₀ (markBytes scalarMark ++ (c ∷ [])) at → andThen (orStop o outOfRange p at) (λ x. give (plain x)) ≡ got k m → Took-scalar s d n at₀ k m
+    took-plain :
+        (c n p at₀ at : ℕ)
+        (o : Option Kind)
+        (k : Scalar)
+        (m : ℕ) →
+        kindOf c ≡ o →
+        Took s at₀ (markBytes scalarMark ++ (c ∷ [])) at →
+        andThen (orStop o outOfRange p at) (λ x. give (plain x)) ≡ got k m →
+        Took-scalar s d n at₀ k m
     unfolding writeScalar inside below
     took-plain c n p at₀ at none k m h b e = let z : _≡_ {A = ℕ} 0 1 = cc in absurd (omega arith)
     took-plain c n p at₀ at (some x) k m h b e = gave e λ w y. rw (← w, ← y) (record { bytes = rw (code-kind c x h) b; records = tt; few = omega arith; shallow = omega arith })

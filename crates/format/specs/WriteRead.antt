@@ -12,11 +12,13 @@ use lib.Dec.{eqb, leb, lit<, lit≤}
 use borrow.Author.Tests.{le-leb, eq-eqb, ne-eqb, le-ltb}
 use Rattle.model.specs.Limits.{ones, maxSize, maxSizes, maxName, maxFields, firstPrinting, lastPrinting, maxTypes, maxDepth}
 use Rattle.model.specs.Refusals.{outOfRange}
-use Rattle.model.specs.Types.{Dim, static, unknown, Shape, shape, Kind, bool, nat, int, num, complex, ascii, char, stream, any, Scalar, plain, boxAny, boxAll, boxDef, Fields, noFields, field, Ty, ty, fieldCount, inside, among, types, below, deepest}
+use Rattle.model.specs.Types.{Dim, static, unknown, Shape, shape, Kind, bool, nat, int, num, complex, ascii, char, stream, any, Scalar}
+use Rattle.model.specs.Types.{plain, boxAny, boxAll, boxDef, Fields, noFields, field, Ty, ty, fieldCount, inside, among, types, below, deepest}
 use Rattle.model.specs.Within.{All, Each, DimWithin, DimsWithin, ShapeWithin, Printing, NameWithin, ScalarWithin, FieldsWithin, Within}
 use Rattle.format.specs.Reader.{Read, got, Reader, give, stop, byte, bytesOf, Reads}
 use Rattle.format.specs.ReaderLaws.{reads-give, reads-bind, reads-byte, reads-judged, reads-here, reads-last, reads-number}
-use Rattle.format.specs.Records.{Mark, mark, shapeMark, scalarMark, boxMark, markBytes, absent, code, boxCode, kindOf, dimNumber, writeDims, countOf, listOf, writeShape, boxStart, writeScalar, writeFields, writeTy, isCount, isOptional, listCount, optional, isPrinting, form, readMark, readDim, readDims, shapeFrom, readName, readFields, defFrom, allFrom, boxFrom, scalarFrom, readTy, readType}
+use Rattle.format.specs.Records.{Mark, mark, shapeMark, scalarMark, boxMark, markBytes, absent, code, boxCode, kindOf, dimNumber, writeDims, countOf, listOf, writeShape, boxStart, writeScalar, writeFields, writeTy}
+use Rattle.format.specs.Records.{isCount, isOptional, listCount, optional, isPrinting, form, readMark, readDim, readDims, shapeFrom, readName, readFields, defFrom, allFrom, boxFrom, scalarFrom, readTy, readType}
 use Rattle.format.specs.Outcome.{accepted, alone, lone}
 
 -- ---- codes and counts
@@ -122,7 +124,15 @@ module _ (s : List ℕ) where
   abbrev pub Read-back : Scalar → ℕ → ℕ → Type 0
   Read-back k d n = (p : ℕ) → Reads s (scalarFrom s (readTy s d) n p) (writeScalar k) k
 
-  pub reads-ty : (t : Shape) (k : Scalar) (d n : ℕ) → ShapeWithin t → below k < d → inside k < n → ((d′ n′ : ℕ) → below k ≤ d′ → inside k ≤ n′ → Read-back k d′ n′) → Reads s (readTy s d n) (writeShape t ++ writeScalar k) (ty t k)
+  pub reads-ty :
+      (t : Shape)
+      (k : Scalar)
+      (d n : ℕ) →
+      ShapeWithin t →
+      below k < d →
+      inside k < n →
+      ((d′ n′ : ℕ) → below k ≤ d′ → inside k ≤ n′ → Read-back k d′ n′) →
+      Reads s (readTy s d n) (writeShape t ++ writeScalar k) (ty t k)
   unfolding readTy
   reads-ty t k zero n o h c g = absurd (omega arith)
   reads-ty t k (suc d) zero o h c g = absurd (omega arith)

@@ -14,8 +14,8 @@ use Rattle.validation.specs.Validate.{validate, checkScalarOnly, checkShapeOnly
 use Rattle.machine.specs.Call.{sheetCall}
 use Rattle.demand.specs.Numbers.{ofLone, ofSheetCall}
 use Rattle.record.specs.Answers.{nothing}
-use Rattle.walk.specs.Whole.{ofTypes, ofScalars, ofScalar}
-use Rattle.shape_calls.specs.Calls.{cmpCall, cmpDefinedCall, maxCall, joinSizesCall, compatibleCall, rowCompatibleCall, mergeCall, joinCall, rowCall, compatibleShapesCall, isAnyCall, isScalarCall, rowCountCall, rankCall}
+use Rattle.known.specs.Whole.{ofTypes, ofScalars, ofScalar}
+use Rattle.shape_calls.specs.Calls.{cmpCall, cmpDefinedCall, maxCall, joinSizesCall, compatibleCall, rowCompatibleCall, mergeCall, joinShapesCall, rowCall, compatibleShapesCall, isAnyCall, isScalarCall, rowCountCall, rankCall}
 use Rattle.ty.specs.Calls.{deliverBoxes}
 use Rattle.join.specs.Calls.{joinCall as joinTypesCall}
 use Rattle.val.specs.Values.{valueTy, valueSpec, valueScalar, numsScalar, valueRowCount, valueRank, valueAsDim, valueAsDims, valueRow, valueFirstRow, valueLastRow, deliverRow}
@@ -77,7 +77,7 @@ replyTo (vg-dim-join a b) = sized (joinSizesCall a b)
 replyTo (vg-dim-compatible a b) = tested (compatibleCall a b)
 replyTo (vg-dim-row-compatible a b) = tested (rowCompatibleCall a b)
 replyTo (vg-merge a b result) = beside (written (deliver (mergeCall a b) result))
-replyTo (vg-join-shapes a b result) = beside (written (deliver (joinCall a b) result))
+replyTo (vg-join-shapes a b result) = beside (written (deliver (joinShapesCall a b) result))
 replyTo (vg-compatible-shapes a b) = tested (compatibleShapesCall a b)
 replyTo (vg-row-shape t result) = beside (written (deliver (rowCall t) result))
 replyTo (vg-shape-is-any t) = tested (isAnyCall t)

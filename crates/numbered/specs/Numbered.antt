@@ -26,9 +26,9 @@ use Rattle.validation.specs.RefusalsLaws.{validate-listed, checkScalarOnly-list
 use Rattle.machine.specs.Call.{sheetCall}
 use Rattle.machine.specs.Steps.{maxFlag, fillsTop, fillsBelow}
 use Rattle.record.specs.Answers.{nothing}
-use Rattle.walk.specs.Whole.{ofTypes, ofScalars, ofScalar}
+use Rattle.known.specs.Whole.{ofTypes, ofScalars, ofScalar}
 use Rattle.shape_calls.specs.Calls.{isSize, sizeAt, onSizes, cmpCall, cmpDefinedCall, maxCall, joinSizesCall, compatibleCall, rowCompatibleCall, onShape}
-use Rattle.shape_calls.specs.Calls.{onShapes, mergeCall, joinCall, rowCall, pervaded, pervadeCall, compatibleShapesCall, isAnyCall, isScalarCall, rowCountCall, rankCall}
+use Rattle.shape_calls.specs.Calls.{onShapes, mergeCall, joinShapesCall, rowCall, pervaded, pervadeCall, compatibleShapesCall, isAnyCall, isScalarCall, rowCountCall, rankCall}
 use Rattle.join.specs.Calls.{joinCall as joinTypesCall}
 use Rattle.val.specs.Values.{valueTy, valueSpec, valueScalar, numsScalar, valueRowCount, valueRank, valueAsDim, valueAsDims, valueRow, valueFirstRow, valueLastRow}
 use Rattle.velgrodis.specs.declared.Answer.{Answer}
@@ -193,7 +193,7 @@ call-keeps (vg-dim-join a b) = sized-keeps ofSizes (joinSizesCall a b) (sizes-wi
 call-keeps (vg-dim-compatible a b) = tested-keeps ofSizes (compatibleCall a b) (sizes-with compatible a b)
 call-keeps (vg-dim-row-compatible a b) = tested-keeps ofSizes (rowCompatibleCall a b) (sizes-with rowCompatible a b)
 call-keeps (vg-merge a b result) = written-keeps ofWritten refl (mergeCall a b) result (of-shapes lone-written (λ s t. writeShape (mergeFrom s t)) a b)
-call-keeps (vg-join-shapes a b result) = written-keeps ofWritten refl (joinCall a b) result (of-shapes lone-written (λ s t. writeShape (joinShapes s t)) a b)
+call-keeps (vg-join-shapes a b result) = written-keeps ofWritten refl (joinShapesCall a b) result (of-shapes lone-written (λ s t. writeShape (joinShapes s t)) a b)
 call-keeps (vg-compatible-shapes a b) = tested-keeps ofLone (compatibleShapesCall a b) (of-shapes lone-lone compatibleShapes a b)
 call-keeps (vg-row-shape t result) = written-keeps ofWritten refl (rowCall t) result (of-shape lone-written (λ s. writeShape (rowShape s)) t)
 call-keeps (vg-shape-is-any t) = tested-keeps ofLone (isAnyCall t) (of-shape lone-lone isAny t)

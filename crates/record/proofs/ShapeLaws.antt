@@ -44,16 +44,27 @@ module _ (s : List ℕ) (p : ℕ) where
   then-give f (got c n) = refl
   then-give f (stopped j q) = refl
 
-  sizes-both : (k m at : ℕ) (f : List Dim → List Dim → Shape) → mapRead nothing (andThen (readDims s m p at) (λ o n. andThen (readDims s k p n) (λ c. give (f o c)))) ≡ mapRead nothing (readDims s (m + k) p at)
+  -- as many sizes after those that were read, and f of both
+  abbrev andSizes : ℕ → (List Dim → List Dim → Shape) → Read (List Dim) → Read Shape
+  andSizes k f r = andThen r (λ o n. andThen (readDims s k p n) (λ c. give (f o c)))
+
+  -- one size, and as many after it
+  abbrev andMore : ℕ → Read Dim → Read (List Dim)
+  andMore m r = andThen r (λ d n. andThen (readDims s m p n) (λ ds. give (d ∷ ds)))
+
+  sizes-both : (k m at : ℕ) (f : List Dim → List Dim → Shape) → mapRead nothing (andSizes k f (readDims s m p at)) ≡ mapRead nothing (readDims s (m + k) p at)
   unfolding readDims
   sizes-both k zero at f = rw zero-add (then-give (f []) (readDims s k p at))
   sizes-both k (suc m) at f = rw suc-add (go (readDim s p at) (λ n g. sizes-both k m n g))
     where
-      regroup : (d : Dim) (r : Read (List Dim)) → andThen (andThen r (λ ds. give (d ∷ ds))) (λ o n. andThen (readDims s k p n) (λ c. give (f o c))) ≡ andThen r (λ o n. andThen (readDims s k p n) (λ c. give (f (d ∷ o) c)))
+      regroup : (d : Dim) (r : Read (List Dim)) → andSizes k f (andThen r (λ ds. give (d ∷ ds))) ≡ andSizes k (λ o c. f (d ∷ o) c) r
       regroup d (got ds n) = refl
       regroup d (stopped j q) = refl
 
-      go : (r : Read Dim) → ((n : ℕ) (g : List Dim → List Dim → Shape) → mapRead nothing (andThen (readDims s m p n) (λ o n′. andThen (readDims s k p n′) (λ c. give (g o c)))) ≡ mapRead nothing (readDims s (m + k) p n)) → mapRead nothing (andThen (andThen r (λ d n. andThen (readDims s m p n) (λ ds. give (d ∷ ds)))) (λ o n. andThen (readDims s k p n) (λ c. give (f o c)))) ≡ mapRead nothing (andThen r (λ d n. andThen (readDims s (m + k) p n) (λ ds. give (d ∷ ds))))
+      go :
+          (r : Read Dim) →
+          ((n : ℕ) (g : List Dim → List Dim → Shape) → mapRead nothing (andSizes k g (readDims s m p n)) ≡ mapRead nothing (readDims s (m + k) p n)) →
+          mapRead nothing (andSizes k f (andMore m r)) ≡ mapRead nothing (andMore (m + k) r)
       go (got d n) below = ap (mapRead nothing) (regroup d (readDims s m p n)) ∙ below n (λ o c. f (d ∷ o) c) ∙ sym (rest-of-sizes d (readDims s (m + k) p n))
       go (stopped j q) below = refl
 

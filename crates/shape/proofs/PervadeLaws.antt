@@ -143,7 +143,16 @@ module _ {c d : Option (List Dim)} {l m : List Dim} (e : c ≡ some l) (f : d �
 
 -- ---- shapes
 
-pub pervade-beside : (f g : Bool) (o p : List Dim) (c d : Option (List Dim)) (v : Verdict) {l : List Dim} {s : Shape} → sizesBeside v l ≡ pervadeDims f g o p → s ≡ shape l (pervadeClosing c d) → shapeBeside v s ≡ pervade f g (shape o c) (shape p d)
+pub pervade-beside :
+    (f g : Bool)
+    (o p : List Dim)
+    (c d : Option (List Dim))
+    (v : Verdict)
+    {l : List Dim}
+    {s : Shape} →
+    sizesBeside v l ≡ pervadeDims f g o p →
+    s ≡ shape l (pervadeClosing c d) →
+    shapeBeside v s ≡ pervade f g (shape o c) (shape p d)
 unfolding pervade
 pervade-beside f g o p c d Pervades e h = rw (h, ← e)
 pervade-beside f g o p c d (Clash i) e h = rw (← e)

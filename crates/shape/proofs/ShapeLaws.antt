@@ -106,7 +106,15 @@ module _ (o p : List Dim) where
   unfolding joinShapes joinClosing
   join-closed d w e = rw (e, w)
 
-  pub join-open : {c : Option (List Dim)} {l r s : List Dim} (closed : Bool) (m : List Dim) → r ≡ joinDims o p → c ≡ some l → s ≡ joinEnds l m → shape r (cond closed none (some s)) ≡ joinShapes (shape o c) (shape p (cond closed none (some m)))
+  pub join-open :
+      {c : Option (List Dim)}
+      {l r s : List Dim}
+      (closed : Bool)
+      (m : List Dim) →
+      r ≡ joinDims o p →
+      c ≡ some l →
+      s ≡ joinEnds l m →
+      shape r (cond closed none (some s)) ≡ joinShapes (shape o c) (shape p (cond closed none (some m)))
   unfolding joinShapes joinClosing
   join-open true m w e v = rw (e, w)
   join-open false m w e v = rw (e, w, v)

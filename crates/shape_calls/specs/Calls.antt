@@ -58,8 +58,8 @@ recorded s = accepted (writeShape s)
 abbrev pub mergeCall : List ℕ → List ℕ → Outcome (List ℕ)
 mergeCall a b = onShapes (λ s t. recorded (mergeFrom s t)) a b
 
-abbrev pub joinCall : List ℕ → List ℕ → Outcome (List ℕ)
-joinCall a b = onShapes (λ s t. recorded (joinShapes s t)) a b
+abbrev pub joinShapesCall : List ℕ → List ℕ → Outcome (List ℕ)
+joinShapesCall a b = onShapes (λ s t. recorded (joinShapes s t)) a b
 
 abbrev pub rowCall : List ℕ → Outcome (List ℕ)
 rowCall a = onShape (λ s. recorded (rowShape s)) a

@@ -24,7 +24,7 @@ ghost use mathlib.Core.Path.{_≡_};
 ghost use Rattle.format.specs.Outcome.{deliver};
 ghost use Rattle.lent.specs.Answers.{testedOf, countedDim, countedNumber};
 ghost use Rattle.lent.specs.Written.{delivered};
-ghost use Rattle.shape_calls.specs.Calls.{mergeCall, joinCall, rowCall, compatibleShapesCall, isAnyCall, isScalarCall, rowCountCall, rankCall};
+ghost use Rattle.shape_calls.specs.Calls.{mergeCall, joinShapesCall, rowCall, compatibleShapesCall, isAnyCall, isScalarCall, rowCountCall, rankCall};
 
 // The first merges from the second.
 pub fn merge(a: &[u8], b: &[u8], result: &mut [u8]) -> Written
@@ -38,7 +38,7 @@ pub fn merge(a: &[u8], b: &[u8], result: &mut [u8]) -> Written
 }
 
 pub fn join_shapes(a: &[u8], b: &[u8], result: &mut [u8]) -> Written
-    ensures { λ r. ⌜ delivered r (now (result .exit)) ≡ deliver (joinCall (now (a .entry)) (now (b .entry))) (now (result .entry)) ⌝ }
+    ensures { λ r. ⌜ delivered r (now (result .exit)) ≡ deliver (joinShapesCall (now (a .entry)) (now (b .entry))) (now (result .entry)) ⌝ }
 {
     let read = whichever(read_two(a, b));
     let Lone::Accepted = read else {

@@ -1,12 +1,10 @@
 -- What the writing functions lay down, and what they deliver.
 use Prim.Native.Nat.{ℕ, _+_, _≤_}
 use native.Mathlib.Omega.{arith}
-use native.Mathlib.Numerals.{unary-clauses}
 use mathlib.Core.List.{List, [], map}
 use mathlib.Core.Option.{none}
 use mathlib.Core.Path.{_≡_, refl, sym, _∙_, ap}
-use lib.ListN.{length, set, take, length-append}
-use lib.Seq.{sets, sets-eq}
+use lib.ListN.{length, take, length-append}
 use Rattle.model.specs.Types.{Dim, shape, Kind, num, plain, ty}
 use Rattle.format.specs.Reader.{Bytes}
 use Rattle.format.specs.Records.{code, dimOf, writeShape, writeScalar, writeTy}
@@ -19,16 +17,19 @@ use Rattle.record.proofs.LoneLaws.{passed-accepted}
 use Rattle.val.specs.Answers.{kindRecord, closedRecord}
 use Rattle.val.specs.Values.{numTy}
 
-pub three-stores : (out : List ℕ) (at kind : ℕ) → at + 3 ≤ length out → set (set (set out at 0x53) (at + 1) 0x43) (at + 2) kind ≡ over out at (kindRecord kind)
-three-stores out at kind fits =
-    let stores : set (set (set out at 0x53) (at + 1) 0x43) (at + 2) kind ≡ sets out at (kindRecord kind) = simp unary-clauses in
-    stores ∙ sets-eq (kindRecord kind) out at fits
-
 module _ (ds : List Dim) (kind : ℕ) where
   pub length-closed : length (closedRecord ds kind) ≡ length (writeShape (shape ds none)) + 3
   length-closed = length-append (writeShape (shape ds none)) (kindRecord kind)
 
-  pub lay-closed : (out : List ℕ) {n : ℕ} {one two : List ℕ} → n ≡ length (writeShape (shape ds none)) → n + 3 ≤ length out → one ≡ over out 0 (writeShape (shape ds none)) → two ≡ over one n (kindRecord kind) → two ≡ over out 0 (closedRecord ds kind)
+  pub lay-closed :
+      (out : List ℕ)
+      {n : ℕ}
+      {one two : List ℕ} →
+      n ≡ length (writeShape (shape ds none)) →
+      n + 3 ≤ length out →
+      one ≡ over out 0 (writeShape (shape ds none)) →
+      two ≡ over one n (kindRecord kind) →
+      two ≡ over out 0 (closedRecord ds kind)
   lay-closed out {n} {one} {two} place fits laid then =
       let w : List ℕ = writeShape (shape ds none) in
       let k : n ≡ 0 + length w = omega arith in

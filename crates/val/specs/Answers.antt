@@ -4,10 +4,11 @@ use Prim.Native.Nat.{ℕ}
 use mathlib.Core.List.{List, _∷_, [], _++_}
 use mathlib.Core.Option.{Option, none, some}
 use lib.Ieee.{Float}
-use Rattle.model.specs.Types.{Dim, shape}
+use Rattle.model.specs.Types.{Dim, shape, Ty}
 use Rattle.format.specs.Records.{scalarMark, markBytes, dimOf, writeShape}
 use Rattle.format.specs.Outcome.{Outcome, accepted, refused, mapped, lone, delivery}
 use Rattle.record.specs.Answers.{dimsOf}
+use Rattle.rules.specs.Types.{intoRow, intoFirstRow, intoLastRow}
 use Rattle.val.specs.declared.Value as declared
 use Rattle.val.specs.declared.Value.the-variants.{Num, List as Listed, Of}
 use Rattle.val.specs.declared.MaybeDim.{MaybeDim}
@@ -17,7 +18,9 @@ use Rattle.val.specs.declared.MaybeDims.the-variants.{Sizes, Nothing as 
 use Rattle.val.specs.declared.DimsAnswer.{DimsAnswer}
 use Rattle.val.specs.declared.Row as declaredRow
 use Rattle.val.specs.declared.Row.the-variants.{Number, Wrote, Refused as RefusedRow}
-use Rattle.val.specs.Values.{Value, number, numbers, typed, RowDelivery, handed, written}
+use Rattle.val.specs.declared.Place.{Place}
+use Rattle.val.specs.declared.Place.the-variants.{Every, First, Last}
+use Rattle.val.specs.Values.{Value, number, numbers, typed, Row, listRow, listFirst, listLast, valueRowBy, RowDelivery, handed, written}
 
 -- A value by its case, with the list and the bytes that are lent beside it. A type's bytes are read first, and bytes that are no type
 -- get their refusal.
@@ -39,6 +42,20 @@ maybeDims (RefusedDims k p) ds = refused k p
 
 abbrev pub dimsAnswered : DimsAnswer → Outcome (Option (List Dim))
 dimsAnswered r = maybeDims (r .answer) (dimsOf (r .dims))
+
+-- the row of a list, of a type and of a value, by which of the three rows it is
+abbrev pub listRowFor : Place → List Float → Row
+listRowFor Every = listRow
+listRowFor First = listFirst
+listRowFor Last = listLast
+
+abbrev pub typeRowFor : Place → Ty → Ty
+typeRowFor Every = intoRow
+typeRowFor First = intoFirstRow
+typeRowFor Last = intoLastRow
+
+abbrev pub valueRowFor : Place → Value → Row
+valueRowFor which = valueRowBy (listRowFor which) (typeRowFor which)
 
 -- what a row's answer and the result buffer say together
 abbrev pub rowDelivered : declaredRow.Row → List ℕ → RowDelivery

@@ -125,20 +125,20 @@ listLast [] = listRow []
 listLast (x ∷ []) = rowNumber x
 listLast (x ∷ y ∷ xs) = listLast (y ∷ xs)
 
+-- A row of a value, by the rows of lists and of types: a number is its own.
+abbrev pub valueRowBy : (List Float → Row) → (Ty → Ty) → Value → Row
+valueRowBy ofList ofType (number x) = rowNumber x
+valueRowBy ofList ofType (numbers xs) = ofList xs
+valueRowBy ofList ofType (typed t) = rowTyped (ofType t)
+
 unfoldable pub valueRow : Value → Row
-valueRow (number x) = rowNumber x
-valueRow (numbers xs) = listRow xs
-valueRow (typed t) = rowTyped (intoRow t)
+valueRow v = valueRowBy listRow intoRow v
 
 unfoldable pub valueFirstRow : Value → Row
-valueFirstRow (number x) = rowNumber x
-valueFirstRow (numbers xs) = listFirst xs
-valueFirstRow (typed t) = rowTyped (intoFirstRow t)
+valueFirstRow v = valueRowBy listFirst intoFirstRow v
 
 unfoldable pub valueLastRow : Value → Row
-valueLastRow (number x) = rowNumber x
-valueLastRow (numbers xs) = listLast xs
-valueLastRow (typed t) = rowTyped (intoLastRow t)
+valueLastRow v = valueRowBy listLast intoLastRow v
 
 -- A row that is a number is handed back beside the result buffer, which stays as lent; a type is delivered to the buffer.
 pub data RowDelivery : Type 0 where

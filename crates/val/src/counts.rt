@@ -1,10 +1,10 @@
 // How many rows a value has, and its rank.
 use crate::Value;
+use known::shape_at;
 use lent::Counted;
 use limits::MAX_SIZE;
 use limits::refusal::OVERSIZED;
 use record::Lone;
-use record::lone_shape;
 use record::read_lone;
 use writer::as_counted;
 ghost use mathlib.Core.Path.{_≡_};
@@ -45,7 +45,7 @@ fn row_count_of_type(ty: &[u8]) -> Counted
     let Lone::Accepted = read else {
         return as_counted(read);
     };
-    Counted::Count(shape::row_count(lone_shape(ty)))
+    Counted::Count(shape::row_count(shape_at(ty, 0)))
 }
 
 pub fn rank(v: Value, list: &[f64], bytes: &[u8]) -> Counted
@@ -65,5 +65,5 @@ fn rank_of_type(ty: &[u8]) -> Counted
     let Lone::Accepted = read else {
         return as_counted(read);
     };
-    Counted::Count(shape::rank(lone_shape(ty)) as u64)
+    Counted::Count(shape::rank(shape_at(ty, 0)) as u64)
 }

@@ -52,3 +52,10 @@ pub enum Row {
     Wrote(usize),
     Refused { number: u8, place: usize },
 }
+
+// Which row: the one that stands for every row, the first or the last.
+enum Place {
+    Every,
+    First,
+    Last,
+}

@@ -1,5 +1,6 @@
 // The rows of a value, which are values again. A number is handed back as it came in; the contracts say so of its value, and by
 // these all NaNs are one.
+use crate::Place;
 use crate::Row;
 use crate::Value;
 use crate::write::write_closed;
@@ -9,38 +10,58 @@ use record::no_dims;
 ghost use mathlib.Core.List.{List};
 ghost use mathlib.Core.Path.{_≡_};
 ghost use Prim.Native.Nat.{ℕ};
-ghost use Rattle.format.specs.Outcome.{accepted, mapped};
+ghost use Rattle.format.specs.Records.{writeTy};
+ghost use Rattle.format.specs.Outcome.{accepted, mapped, lone, deliver};
 ghost use Rattle.lent.specs.Written.{delivered};
-ghost use Rattle.val.specs.Answers.{valueOf, rowDelivered};
+ghost use Rattle.val.specs.Answers.{valueOf, listRowFor, typeRowFor, valueRowFor, rowDelivered};
 ghost use Rattle.val.specs.Values.{listRow, listFirst, listLast, valueRow, valueFirstRow, valueLastRow, written, deliverRow};
 
 pub fn into_row(v: Value, list: &[f64], bytes: &[u8], result: &mut [u8]) -> Row
     ensures { λ r. ⌜ rowDelivered r (now (result .exit)) ≡ deliverRow (mapped valueRow (valueOf v (now (list .entry)) (now (bytes .entry)))) (now (result .entry)) ⌝ }
 {
-    match v {
-        Value::Num(x) => Row::Number(x),
-        Value::List => row_of_list(list, &mut *result),
-        Value::Of => as_row(ty::into_row(bytes, &mut *result)),
-    }
+    row_by(v, Place::Every, list, bytes, &mut *result)
 }
 
 pub fn into_first_row(v: Value, list: &[f64], bytes: &[u8], result: &mut [u8]) -> Row
     ensures { λ r. ⌜ rowDelivered r (now (result .exit)) ≡ deliverRow (mapped valueFirstRow (valueOf v (now (list .entry)) (now (bytes .entry)))) (now (result .entry)) ⌝ }
 {
-    match v {
-        Value::Num(x) => Row::Number(x),
-        Value::List => first_of_list(list, &mut *result),
-        Value::Of => as_row(ty::into_first_row(bytes, &mut *result)),
-    }
+    row_by(v, Place::First, list, bytes, &mut *result)
 }
 
 pub fn into_last_row(v: Value, list: &[f64], bytes: &[u8], result: &mut [u8]) -> Row
     ensures { λ r. ⌜ rowDelivered r (now (result .exit)) ≡ deliverRow (mapped valueLastRow (valueOf v (now (list .entry)) (now (bytes .entry)))) (now (result .entry)) ⌝ }
 {
+    row_by(v, Place::Last, list, bytes, &mut *result)
+}
+
+// All three rows: a number's is itself.
+fn row_by(v: Value, which: Place, list: &[f64], bytes: &[u8], result: &mut [u8]) -> Row
+    ensures { λ r. ⌜ rowDelivered r (now (result .exit)) ≡ deliverRow (mapped (valueRowFor which) (valueOf v (now (list .entry)) (now (bytes .entry)))) (now (result .entry)) ⌝ }
+{
     match v {
         Value::Num(x) => Row::Number(x),
-        Value::List => last_of_list(list, &mut *result),
-        Value::Of => as_row(ty::into_last_row(bytes, &mut *result)),
+        Value::List => list_row(which, list, &mut *result),
+        Value::Of => as_row(type_row(which, bytes, &mut *result)),
+    }
+}
+
+fn type_row(which: Place, bytes: &[u8], result: &mut [u8]) -> Written
+    ensures { λ r. ⌜ delivered r (now (result .exit)) ≡ deliver (mapped (λ t. writeTy (typeRowFor which t)) (lone (now (bytes .entry)))) (now (result .entry)) ⌝ }
+{
+    match which {
+        Place::Every => ty::into_row(bytes, &mut *result),
+        Place::First => ty::into_first_row(bytes, &mut *result),
+        Place::Last => ty::into_last_row(bytes, &mut *result),
+    }
+}
+
+fn list_row(which: Place, list: &[f64], result: &mut [u8]) -> Row
+    ensures { λ r. ⌜ rowDelivered r (now (result .exit)) ≡ deliverRow (accepted (listRowFor which (now (list .entry)))) (now (result .entry)) ⌝ }
+{
+    match which {
+        Place::Every => row_of_list(list, &mut *result),
+        Place::First => first_of_list(list, &mut *result),
+        Place::Last => last_of_list(list, &mut *result),
     }
 }
 

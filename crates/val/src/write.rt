@@ -2,23 +2,21 @@
 use lent::Written;
 use lent::hand_over;
 use limits::MAX_SIZES;
-use limits::marks::SCALAR;
 use limits::refusal::TOO_SHORT;
 use record::Dims;
 use record::DynShape;
 use record::Lone;
 use record::no_dims;
 use record::read_lone;
+use writer::PLAIN_BYTES;
 use writer::as_written;
+use writer::put_plain;
 use writer::put_shape;
 use writer::shape_length;
 ghost use mathlib.Core.Path.{_≡_};
 ghost use mathlib.Core.List.{[], _∷_};
-ghost use Prim.Native.Nat.{_+_, _≤_};
-ghost use lib.ListN.{length};
 ghost use Rattle.format.specs.Records.{dimOf, writeTy};
 ghost use Rattle.format.specs.Outcome.{accepted, deliver, mapped, lone};
-ghost use Rattle.lent.specs.Over.{over};
 ghost use Rattle.lent.specs.Written.{delivered};
 ghost use Rattle.record.specs.Answers.{dimsOf};
 ghost use Rattle.val.specs.Answers.{kindRecord, closedRecord};
@@ -33,38 +31,27 @@ pub fn write_closed(dims: Dims, kind: u8, result: &mut [u8]) -> Written
         closed: true,
     };
     let n = shape_length(shape);
-    if result.len() < n + 3 {
+    if result.len() < n + PLAIN_BYTES {
         return Written::Refused {
             number: TOO_SHORT,
             place: 0,
         };
     }
     put_shape(&mut *result, 0, shape);
-    put_kind(&mut *result, n, kind);
-    Written::Wrote(n + 3)
+    Written::Wrote(put_plain(&mut *result, n, kind))
 }
 
 // A plain scalar, of the kind's code.
 pub fn write_kind(kind: u8, result: &mut [u8]) -> Written
     ensures { λ r. ⌜ delivered r (now (result .exit)) ≡ deliver (accepted (kindRecord kind)) (now (result .entry)) ⌝ }
 {
-    if result.len() < 3 {
+    if result.len() < PLAIN_BYTES {
         return Written::Refused {
             number: TOO_SHORT,
             place: 0,
         };
     }
-    put_kind(&mut *result, 0, kind);
-    Written::Wrote(3)
-}
-
-fn put_kind(out: &mut [u8], at: usize, kind: u8)
-    requires { ⌜ at + 3 ≤ length (now out) ⌝ }
-    ensures { λ _. ⌜ now (out .exit) ≡ over (now (out .entry)) at (kindRecord kind) ⌝ }
-{
-    out[at] = SCALAR.first;
-    out[at + 1] = SCALAR.second;
-    out[at + 2] = kind;
+    Written::Wrote(put_plain(&mut *result, 0, kind))
 }
 
 // A type as it was handed in.

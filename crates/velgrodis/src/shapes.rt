@@ -9,7 +9,7 @@ use limits::MAX_FLAG;
 use limits::refusal::OUT_OF_RANGE;
 ghost use mathlib.Core.Path.{_≡_};
 ghost use Rattle.format.specs.Outcome.{deliver};
-ghost use Rattle.shape_calls.specs.Calls.{mergeCall, joinCall, rowCall, compatibleShapesCall, isAnyCall, isScalarCall, rowCountCall, rankCall};
+ghost use Rattle.shape_calls.specs.Calls.{mergeCall, joinShapesCall, rowCall, compatibleShapesCall, isAnyCall, isScalarCall, rowCountCall, rankCall};
 ghost use Rattle.velgrodis.specs.Answers.{handed, written, counted, sized, tested};
 ghost use Rattle.velgrodis.specs.Codes.{pervadeFlagged};
 
@@ -23,7 +23,7 @@ pub extern "C" fn vg_merge(a: &[u8], b: &[u8], result: &mut [u8]) -> Answer
 
 #[no_mangle]
 pub extern "C" fn vg_join_shapes(a: &[u8], b: &[u8], result: &mut [u8]) -> Answer
-    ensures { λ r. ⌜ handed r (now (result .exit)) ≡ written (deliver (joinCall (now (a .entry)) (now (b .entry))) (now (result .entry))) ⌝ }
+    ensures { λ r. ⌜ handed r (now (result .exit)) ≡ written (deliver (joinShapesCall (now (a .entry)) (now (b .entry))) (now (result .entry))) ⌝ }
 {
     of_written(shape_calls::join_shapes(a, b, &mut *result))
 }

@@ -13,10 +13,15 @@ use Rattle.format.specs.Records.{dimNumber, dimOf, writeDims}
 use Rattle.format.specs.ReadWrite.{dim-number}
 use Rattle.lent.specs.Over.{over, over-over}
 
-pub eight-stores : (out : List ℕ) (at a b c d e f g h : ℕ) → at + 8 ≤ length out → set (set (set (set (set (set (set (set out at a) (at + 1) b) (at + 2) c) (at + 3) d) (at + 4) e) (at + 5) f) (at + 6) g) (at + 7) h ≡ over out at (a ∷ b ∷ c ∷ d ∷ e ∷ f ∷ g ∷ h ∷ [])
-eight-stores out at a b c d e f g h fits =
-    let stores : set (set (set (set (set (set (set (set out at a) (at + 1) b) (at + 2) c) (at + 3) d) (at + 4) e) (at + 5) f) (at + 6) g) (at + 7) h ≡ sets out at (a ∷ b ∷ c ∷ d ∷ e ∷ f ∷ g ∷ h ∷ []) = simp unary-clauses in
-    stores ∙ sets-eq (a ∷ b ∷ c ∷ d ∷ e ∷ f ∷ g ∷ h ∷ []) out at fits
+-- eight bytes, each stored
+module _ (out : List ℕ) (at a b c d e f g h : ℕ) where
+  abbrev stored : List ℕ
+  stored = set (set (set (set (set (set (set (set out at a) (at + 1) b) (at + 2) c) (at + 3) d) (at + 4) e) (at + 5) f) (at + 6) g) (at + 7) h
+
+  pub eight-stores : at + 8 ≤ length out → stored ≡ over out at (a ∷ b ∷ c ∷ d ∷ e ∷ f ∷ g ∷ h ∷ [])
+  eight-stores fits =
+      let stores : stored ≡ sets out at (a ∷ b ∷ c ∷ d ∷ e ∷ f ∷ g ∷ h ∷ []) = simp unary-clauses in
+      stores ∙ sets-eq (a ∷ b ∷ c ∷ d ∷ e ∷ f ∷ g ∷ h ∷ []) out at fits
 
 pub length-dims : (sizes : List ℕ) (count : ℕ) → length (map dimOf (take count sizes)) ≡ min count (length sizes)
 length-dims sizes count = length-map (take count sizes) dimOf ∙ length-take count sizes

@@ -8,7 +8,7 @@ use mathlib.Core.Path.{_≡_, sym, _∙_, ap}
 use lib.ListN.{length, set, length-append}
 use lib.Seq.{sets, sets-eq}
 use Rattle.model.specs.Types.{Dim, Shape, shape, Ty, ty, shapeOf}
-use Rattle.format.specs.Records.{shapeMark, markBytes, boxCode, boxStart, countOf, listOf, writeDims, writeShape}
+use Rattle.format.specs.Records.{shapeMark, scalarMark, markBytes, boxCode, boxStart, countOf, listOf, writeDims, writeShape}
 use Rattle.format.specs.Suffices.{length-writeDims}
 use Rattle.format.specs.Outcome.{Outcome, accepted, refused, mapped, shapeRecord}
 use Rattle.lent.specs.Over.{over, over-over}
@@ -21,7 +21,12 @@ four-stores out at m n fits =
     let stores : set (set (set (set out at 0x53) (at + 1) 0x48) (at + 2) m) (at + 3) n ≡ sets out at (head m n) = simp unary-clauses in
     stores ∙ sets-eq (head m n) out at fits
 
--- the six bytes of a box, each stored
+-- the three bytes of a plain scalar, and the six of a box, each stored
+pub three-stores : (out : List ℕ) (at kind : ℕ) → at + 3 ≤ length out → set (set (set out at 0x53) (at + 1) 0x43) (at + 2) kind ≡ over out at (markBytes scalarMark ++ (kind ∷ []))
+three-stores out at kind fits =
+    let stores : set (set (set out at 0x53) (at + 1) 0x43) (at + 2) kind ≡ sets out at (markBytes scalarMark ++ (kind ∷ [])) = simp unary-clauses in
+    stores ∙ sets-eq (markBytes scalarMark ++ (kind ∷ [])) out at fits
+
 pub six-stores : (out : List ℕ) (at form : ℕ) → at + 6 ≤ length out → set (set (set (set (set (set out at 0x53) (at + 1) 0x43) (at + 2) boxCode) (at + 3) 0x42) (at + 4) 0x58) (at + 5) form ≡ over out at (boxStart form)
 six-stores out at form fits =
     let stores : set (set (set (set (set (set out at 0x53) (at + 1) 0x43) (at + 2) boxCode) (at + 3) 0x42) (at + 4) 0x58) (at + 5) form ≡ sets out at (boxStart form) = simp unary-clauses in
@@ -45,7 +50,19 @@ module _ (out : List ℕ) (at : ℕ) (o : List Dim) (c : Option (List Dim)) (fit
   unfolding writeShape
   lay-closed e f closed laid then = lay-opening e f laid then ∙ ap (over out at) (rw (closed, append-nil))
 
-  pub lay-open : {m n : ℕ} {one two three : List ℕ} {next : ℕ} {d : List Dim} → m ≡ length o → n ≡ countOf c → c ≡ some d → next ≡ at + 4 + 8 * length o → one ≡ over out at (head m n) → two ≡ over one (at + 4) (writeDims o) → three ≡ over two next (writeDims d) → three ≡ over out at (writeShape (shape o c))
+  pub lay-open :
+      {m n : ℕ}
+      {one two three : List ℕ}
+      {next : ℕ}
+      {d : List Dim} →
+      m ≡ length o →
+      n ≡ countOf c →
+      c ≡ some d →
+      next ≡ at + 4 + 8 * length o →
+      one ≡ over out at (head m n) →
+      two ≡ over one (at + 4) (writeDims o) →
+      three ≡ over two next (writeDims d) →
+      three ≡ over out at (writeShape (shape o c))
   unfolding writeShape
   lay-open {m} {n} {one} {two} {three} {next} {d} e f opened place laid then last =
       let w : List ℕ = head (length o) (countOf c) ++ writeDims o in

@@ -1,4 +1,4 @@
-// Writing records: a shape by value, the start of a box, and the shape and the scalar of a whole type. And a reading as the answer
+// Writing records: a shape by value, a plain scalar, the start of a box, and the shape and the scalar of a whole type. And a reading as the answer
 // of a call.
 mod readings;
 
@@ -25,7 +25,7 @@ ghost use lib.ListN.{length};
 ghost use Rattle.format.specs.Suffices.{shapeBytes};
 ghost use Rattle.model.specs.Limits.{maxSizes};
 ghost use Rattle.format.specs.Reader.{bytesOf};
-ghost use Rattle.format.specs.Records.{shapeMark, markBytes, boxStart, countOf, writeDims, writeShape};
+ghost use Rattle.format.specs.Records.{shapeMark, scalarMark, markBytes, boxStart, countOf, writeDims, writeShape};
 ghost use Rattle.format.specs.Outcome.{accepted, deliver, mapped, lone, shapeRecord, scalarRecord};
 ghost use Rattle.lent.specs.Over.{over};
 ghost use Rattle.lent.specs.Written.{delivered};
@@ -124,6 +124,20 @@ pub fn put_shape(out: &mut [u8], at: usize, shape: DynShape) -> usize
     }
     let suffix = shape.suffix;
     put_dims(&mut *out, next, suffix)
+}
+
+// Bytes of a plain scalar's record.
+pub const PLAIN_BYTES: usize = 3;
+
+// A plain scalar's record, by the code of its kind, from `at` on. Answers the place after it.
+pub fn put_plain(out: &mut [u8], at: usize, kind: u8) -> usize
+    requires { ⌜ at + 3 ≤ length (now out) ⌝ }
+    ensures { λ r. ⌜ (r ≡ at + 3) × (now (out .exit) ≡ over (now (out .entry)) at (markBytes scalarMark ++ (kind ∷ []))) ⌝ }
+{
+    out[at] = marks::SCALAR.first;
+    out[at + 1] = marks::SCALAR.second;
+    out[at + 2] = kind;
+    at + PLAIN_BYTES
 }
 
 // A box's record up to its form, from `at` on. Answers the place after it.

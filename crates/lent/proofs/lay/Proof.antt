@@ -40,8 +40,12 @@ loop-again : tie.Need-loop-again Inv-loop μ-loop
 loop-again c =
     let entry = c .before .before .before in
     let at-loop = c .before .before in
-    let args = entry .args in
-    (omega arith, search needs, ap (λ (d : List ℕ). set d (args .at + at-loop .loop .i) (getD (args .src .now) (at-loop .loop .i) 0)) (at-loop .loop .inv .2) ∙ rw add-one (paste-suc (args .dst .now) (args .at) (args .src .now) (at-loop .loop .i) 0 (omega arith) (omega arith)))
+    let args = entry .args in (
+      omega arith,
+      search needs,
+      ap (λ (d : List ℕ). set d (args .at + at-loop .loop .i) (getD (args .src .now) (at-loop .loop .i) 0)) (at-loop .loop .inv .2)
+          ∙ rw add-one (paste-suc (args .dst .now) (args .at) (args .src .now) (at-loop .loop .i) 0 (omega arith) (omega arith)),
+    )
 
 same-length : tie.Need-same-length Inv-loop μ-loop
 same-length c = c .before .loop .inv .1

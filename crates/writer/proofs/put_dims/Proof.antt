@@ -53,8 +53,14 @@ loop-again c =
     let at-put-number = c .before .before in
     let args = entry .args in
     let n : at-size-count .size-count .result ≡ length (dimsOf (args .t3)) = at-size-count .size-count .ensures .0 in
-    let h : at-loop .loop .i < length (dimsOf (args .t3)) = omega arith in
-    (omega arith, omega arith, at-put-number .put-number .kept .0 ∙ at-loop .loop .inv .2, at-put-number .put-number .ensures ∙ lay-more (args .out .now) (args .start) (args .t3 .sizes) (args .t3 .count) (at-loop .loop .out) (at-loop .loop .i) (at-loop .loop .at) h (entry .pre) (at-loop .loop .inv .1) (at-loop .loop .inv .3))
+    let h : at-loop .loop .i < length (dimsOf (args .t3)) = omega arith in (
+      omega arith,
+      omega arith,
+      at-put-number .put-number .kept .0 ∙ at-loop .loop .inv .2,
+      at-put-number .put-number .ensures
+          ∙ lay-more (args .out .now) (args .start) (args .t3 .sizes) (args .t3 .count) (at-loop .loop .out) (at-loop .loop .i) (at-loop .loop .at) h (entry .pre) (at-loop .loop .inv .1)
+          (at-loop .loop .inv .3),
+    )
 
 same-length : tie.Need-same-length Inv-loop μ-loop
 same-length c = c .before .loop .inv .2

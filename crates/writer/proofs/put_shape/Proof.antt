@@ -50,8 +50,18 @@ returns c =
     let at-size-count = c .before .before .before .before .before .before .before .before in
     let at-put-head = c .before .before .before .before .before .before .before in
     let at-put-dims = c .before .before .before in
-    let args = entry .args in
-    (omega (arith, length-record (dimsOf (args .shape .dims)) (closingFor (args .shape)), ap (λ x. length (listOf x)) (closed-is (args .shape) (c .if1 .taken)), at-put-dims .put-dims .ensures .0), lay-closed (args .out .now) (args .at) (dimsOf (args .shape .dims)) (closingFor (args .shape)) (entry .pre) (at-size-count .size-count .ensures .0) (at-closing-count .closing-count .ensures) (closed-is (args .shape) (c .if1 .taken)) (at-put-head .put-head .ensures) (at-put-dims .put-dims .ensures .1))
+    let args = entry .args in (
+      omega (
+        arith,
+        length-record (dimsOf (args .shape .dims)) (closingFor (args .shape)),
+        ap (λ x. length (listOf x))
+            (closed-is (args .shape) (c .if1 .taken)),
+        at-put-dims .put-dims .ensures .0,
+      ),
+      lay-closed (args .out .now) (args .at) (dimsOf (args .shape .dims)) (closingFor (args .shape))
+          (entry .pre) (at-size-count .size-count .ensures .0) (at-closing-count .closing-count .ensures) (closed-is (args .shape) (c .if1 .taken)) (at-put-head .put-head .ensures)
+          (at-put-dims .put-dims .ensures .1),
+    )
 
 put-dims-requires-2 : tie.Need-put-dims-requires-2
 put-dims-requires-2 c κs =
@@ -60,7 +70,16 @@ put-dims-requires-2 c κs =
     let at-put-dims = c .before .before .before .before .before in
     let at-if1 = c .before .before in
     let args = entry .args in
-    omega (arith, length-record (dimsOf (args .shape .dims)) (closingFor (args .shape)), ap (λ x. length (listOf x)) (open-is (args .shape) (at-if1 .if1 .left)), entry .pre, at-put-head .put-head .kept .0, at-put-dims .put-dims .kept .0, at-put-dims .put-dims .ensures .0)
+    omega (
+      arith,
+      length-record (dimsOf (args .shape .dims)) (closingFor (args .shape)),
+      ap (λ x. length (listOf x))
+          (open-is (args .shape) (at-if1 .if1 .left)),
+      entry .pre,
+      at-put-head .put-head .kept .0,
+      at-put-dims .put-dims .kept .0,
+      at-put-dims .put-dims .ensures .0,
+    )
 
 same-length-2 : tie.Need-same-length-2
 same-length-2 c = search needs
@@ -74,8 +93,19 @@ returns-2 c =
     let at-put-dims = c .before .before .before .before .before .before .before .before in
     let at-if1 = c .before .before .before .before .before in
     let at-put-dims2 = c .before .before in
-    let args = entry .args in
-    (omega (arith, length-record (dimsOf (args .shape .dims)) (closingFor (args .shape)), ap (λ x. length (listOf x)) (open-is (args .shape) (at-if1 .if1 .left)), at-put-dims .put-dims .ensures .0, at-put-dims2 .put-dims2 .ensures .0), lay-open (args .out .now) (args .at) (dimsOf (args .shape .dims)) (closingFor (args .shape)) (entry .pre) (at-size-count .size-count .ensures .0) (at-closing-count .closing-count .ensures) (open-is (args .shape) (at-if1 .if1 .left)) (at-put-dims .put-dims .ensures .0) (at-put-head .put-head .ensures) (at-put-dims .put-dims .ensures .1) (at-put-dims2 .put-dims2 .ensures .1))
+    let args = entry .args in (
+      omega (
+        arith,
+        length-record (dimsOf (args .shape .dims)) (closingFor (args .shape)),
+        ap (λ x. length (listOf x))
+            (open-is (args .shape) (at-if1 .if1 .left)),
+        at-put-dims .put-dims .ensures .0,
+        at-put-dims2 .put-dims2 .ensures .0,
+      ),
+      lay-open (args .out .now) (args .at) (dimsOf (args .shape .dims))
+          (closingFor (args .shape)) (entry .pre) (at-size-count .size-count .ensures .0) (at-closing-count .closing-count .ensures) (open-is (args .shape) (at-if1 .if1 .left))
+          (at-put-dims .put-dims .ensures .0) (at-put-head .put-head .ensures) (at-put-dims .put-dims .ensures .1) (at-put-dims2 .put-dims2 .ensures .1),
+    )
 
 pub put-shape-spec : {M : Type 1} → statement M
 put-shape-spec =

@@ -68,7 +68,11 @@ returns-2 c =
     let at-scalar-at = c .before .before .before .before .before in
     let at-hand-over = c .before .before in
     let args = entry .args in
-    at-hand-over .hand-over .ensures ∙ (ap (λ w. deliver (accepted w) (args .result .now)) (rest-is (args .ty .now) (at-scalar-at .scalar-at .result)) ∙ ap (λ o. deliver o (args .result .now)) (sym (whole-scalar _ (λ i. omega (arith, at-shared-slice-known .shared-slice-known .given i)) (sym (at-read-lone .read-lone .ensures) ∙ ap loneOf (at-enum-told .enum-told .given .1)) (at-scalar-at .scalar-at .ensures))))
+    at-hand-over .hand-over .ensures
+    ∙ (ap (λ w. deliver (accepted w) (args .result .now)) (rest-is (args .ty .now) (at-scalar-at .scalar-at .result))
+    ∙ ap (λ o. deliver o (args .result .now))
+    (sym (whole-scalar _ (λ i. omega (arith, at-shared-slice-known .shared-slice-known .given i)) (sym (at-read-lone .read-lone .ensures) ∙ ap loneOf (at-enum-told .enum-told .given .1))
+    (at-scalar-at .scalar-at .ensures))))
 
 pub scalar-record-spec : {M : Type 1} → statement M
 scalar-record-spec =

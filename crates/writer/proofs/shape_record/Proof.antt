@@ -53,7 +53,11 @@ returns-2 c =
     let at-shape-at = c .before .before .before .before in
     let at-write-shape = c .before .before in
     let args = entry .args in
-    at-write-shape .write-shape .ensures ∙ ap (λ o. deliver o (args .result .now)) (sym (shape-record-is (lone (args .ty .now)) (whole-shape _ (λ i. omega (arith, at-shared-slice-known .shared-slice-known .given i)) (sym (at-read-lone .read-lone .ensures) ∙ ap loneOf (at-enum-told .enum-told .given .1)) (at-shape-at .shape-at .result) (at-shape-at .shape-at .ensures))))
+    at-write-shape .write-shape .ensures
+    ∙ ap (λ o. deliver o (args .result .now))
+    (sym (shape-record-is (lone (args .ty .now))
+    (whole-shape _ (λ i. omega (arith, at-shared-slice-known .shared-slice-known .given i)) (sym (at-read-lone .read-lone .ensures) ∙ ap loneOf (at-enum-told .enum-told .given .1))
+    (at-shape-at .shape-at .result) (at-shape-at .shape-at .ensures))))
 
 pub shape-record-spec : {M : Type 1} → statement M
 shape-record-spec =

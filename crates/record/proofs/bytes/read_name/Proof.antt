@@ -36,7 +36,9 @@ returns c =
     let at-loop = c .before .before .before .before in
     let at-loop-test = c .before .before .before in
     let at-read-printing = c .before .before in
-    at-read-printing .read-printing .ensures ∙ ((told (at-read-printing .read-printing .ensures) (c .enum-told .given .1)) ∙ sym (at-loop .loop .inv ∙ name-stops _ _ _ _ (at-loop-test .loop-test .taken) (told (at-read-printing .read-printing .ensures) (c .enum-told .given .1))))
+    at-read-printing .read-printing .ensures
+    ∙ ((told (at-read-printing .read-printing .ensures) (c .enum-told .given .1))
+    ∙ sym (at-loop .loop .inv ∙ name-stops _ _ _ _ (at-loop-test .loop-test .taken) (told (at-read-printing .read-printing .ensures) (c .enum-told .given .1))))
 
 sub-left : tie.Need-sub-left Inv-loop μ-loop
 sub-left c = search needs

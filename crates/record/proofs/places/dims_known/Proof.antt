@@ -48,8 +48,13 @@ loop-less c = search needs
 -- src/places.rt:34:5
 loop-again : tie.Need-loop-again Inv-loop μ-loop
 loop-again c =
-    let at-loop = c .before .before in
-    (omega arith, simp length-set (at-loop .loop .inv .1), omega (arith, at-loop .loop .inv .2), gathered-more _ _ _ _ _ _ _ (c .before .loop-test .taken) (omega (arith, at-loop .loop .inv .1)) (c .number-at .ensures) (at-loop .loop .inv .3))
+    let at-loop = c .before .before in (
+      omega arith,
+      simp length-set (at-loop .loop .inv .1),
+      omega (arith, at-loop .loop .inv .2),
+      gathered-more _ _ _ _ _ _ _ (c .before .loop-test .taken)
+          (omega (arith, at-loop .loop .inv .1)) (c .number-at .ensures) (at-loop .loop .inv .3),
+    )
 
 -- src/places.rt:27:1
 returns : tie.Need-returns Inv-loop μ-loop

@@ -72,7 +72,9 @@ returns-3 c =
     let at-read-count = c .before .before .before .before .before .before in
     let at-opening = c .before .before .before .before in
     let at-read-optional = c .before .before in
-    ap answerOf (c .enum-told3 .given .1) ∙ sym (shape-unclosed _ _ (known (at-read-mark .read-mark .ensures) (at-mark .mark .given .1)) (known (at-read-count .read-count .ensures) (at-opening .opening .given .1)) (told (at-read-optional .read-optional .ensures) (c .enum-told3 .given .1)))
+    ap answerOf (c .enum-told3 .given .1)
+    ∙ sym (shape-unclosed _ _ (known (at-read-mark .read-mark .ensures) (at-mark .mark .given .1)) (known (at-read-count .read-count .ensures) (at-opening .opening .given .1))
+    (told (at-read-optional .read-optional .ensures) (c .enum-told3 .given .1)))
 
 -- src/shapes.rt:47:30
 list-count-requires : tie.Need-list-count-requires
@@ -85,7 +87,13 @@ add-read-sizes c =
     let at-opening = c .before .before .before .before .before .before in
     let at-read-optional = c .before .before .before .before in
     let at-closing = c .before .before in
-    omega (arith, c .list-count .ensures, opening-few _ _ _ (known (at-read-count .read-count .ensures) (at-opening .opening .given .1)), closing-few _ _ _ (known (at-read-optional .read-optional .ensures) (at-closing .closing .given .1)))
+    omega (
+      arith,
+      c .list-count .ensures,
+      opening-few _ _ _ (known (at-read-count .read-count .ensures) (at-opening .opening .given .1)),
+      closing-few _ _ _
+          (known (at-read-optional .read-optional .ensures) (at-closing .closing .given .1)),
+    )
 
 -- src/shapes.rt:47:5
 read-sizes-requires : tie.Need-read-sizes-requires
@@ -100,7 +108,9 @@ returns-4 c =
     let at-opening = c .before .before .before .before .before .before .before in
     let at-read-optional = c .before .before .before .before .before in
     let at-closing = c .before .before .before in
-    c .read-sizes .ensures ∙ sym (shape-sized _ _ (known (at-read-mark .read-mark .ensures) (at-mark .mark .given .1)) (known (at-read-count .read-count .ensures) (at-opening .opening .given .1)) (known (at-read-optional .read-optional .ensures) (at-closing .closing .given .1)) (c .before .list-count .ensures))
+    c .read-sizes .ensures
+    ∙ sym (shape-sized _ _ (known (at-read-mark .read-mark .ensures) (at-mark .mark .given .1)) (known (at-read-count .read-count .ensures) (at-opening .opening .given .1))
+    (known (at-read-optional .read-optional .ensures) (at-closing .closing .given .1)) (c .before .list-count .ensures))
 
 pub read-shape-spec : {M : Type 1} → statement M
 read-shape-spec =

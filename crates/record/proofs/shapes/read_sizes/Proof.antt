@@ -40,7 +40,9 @@ returns c =
     let at-loop = c .before .before .before .before in
     let at-loop-test = c .before .before .before in
     let at-read-size = c .before .before in
-    at-read-size .read-size .ensures ∙ (told (at-read-size .read-size .ensures) (c .enum-told .given .1) ∙ sym (at-loop .loop .inv ∙ sizes-stop _ _ _ _ (at-loop-test .loop-test .taken) (told (at-read-size .read-size .ensures) (c .enum-told .given .1))))
+    at-read-size .read-size .ensures
+    ∙ (told (at-read-size .read-size .ensures) (c .enum-told .given .1)
+    ∙ sym (at-loop .loop .inv ∙ sizes-stop _ _ _ _ (at-loop-test .loop-test .taken) (told (at-read-size .read-size .ensures) (c .enum-told .given .1))))
 
 -- src/shapes.rt:26:9
 sub-left : tie.Need-sub-left Inv-loop μ-loop

@@ -5,7 +5,8 @@ use Rattle.model.specs.Types.{among}
 use Rattle.format.specs.Reader.{mapRead}
 use Rattle.format.specs.Records.{readFields, readTy}
 use Rattle.record.proofs.Known.{known, told}
-use Rattle.record.proofs.TypeLaws.{type-deep, type-many, type-unshaped, type-shaped, scalar-unmarked, scalar-ended, scalar-boxed, scalar-kind, scalar-unknown, box-unmarked, box-ended, box-any, box-all, box-def, box-unformed, def-unnamed, def-misnamed, def-uncounted, def-counted, fields-end, fields-stop, fields-more}
+use Rattle.record.proofs.TypeLaws.{type-deep, type-many, type-unshaped, type-shaped, scalar-unmarked, scalar-ended, scalar-boxed, scalar-kind, scalar-unknown, box-unmarked, box-ended}
+use Rattle.record.proofs.TypeLaws.{box-any, box-all, box-def, box-unformed, def-unnamed, def-misnamed, def-uncounted, def-counted, fields-end, fields-stop, fields-more}
 use Rattle.record.specs.Answers.{answerOf}
 use Prim.Native.Nat.{ℕ, _<_, _+_, _-_, _*_}
 use borrow.Fn.Kinds.{In}
@@ -191,7 +192,9 @@ read-box-returns-2 t c =
     let at-read-mark = c .before .before .before .before .before .before in
     let at-mark = c .before .before .before .before in
     let at-read-byte = c .before .before in
-    at-read-byte .read-byte .ensures ∙ ((told (at-read-byte .read-byte .ensures) (c .enum-told2 .given .1)) ∙ sym (box-ended _ _ _ _ (known (at-read-mark .read-mark .ensures) (at-mark .mark .given .1)) (told (at-read-byte .read-byte .ensures) (c .enum-told2 .given .1))))
+    at-read-byte .read-byte .ensures
+    ∙ ((told (at-read-byte .read-byte .ensures) (c .enum-told2 .given .1))
+    ∙ sym (box-ended _ _ _ _ (known (at-read-mark .read-mark .ensures) (at-mark .mark .given .1)) (told (at-read-byte .read-byte .ensures) (c .enum-told2 .given .1))))
 
 read-box-returns-3 : (t : ℕ) → read-box-lts.Need-returns-3 (
   read-mark-reads.Asked,
@@ -417,7 +420,10 @@ read-def-returns-2 t c =
     let at-length = c .before .before .before .before .before in
     let at-list-count = c .before .before .before in
     let at-read-name = c .before .before in
-    at-read-name .read-name .ensures ∙ ((told (at-read-name .read-name .ensures) (c .enum-told2 .given .1)) ∙ sym (def-misnamed _ _ _ _ _ (known (at-read-optional .read-optional .ensures) (at-length .length .given .1)) (at-list-count .list-count .ensures) (told (at-read-name .read-name .ensures) (c .enum-told2 .given .1))))
+    at-read-name .read-name .ensures
+    ∙ ((told (at-read-name .read-name .ensures) (c .enum-told2 .given .1))
+    ∙ sym (def-misnamed _ _ _ _ _ (known (at-read-optional .read-optional .ensures) (at-length .length .given .1)) (at-list-count .list-count .ensures)
+    (told (at-read-name .read-name .ensures) (c .enum-told2 .given .1))))
 
 read-def-read-count-requires : (t : ℕ) → read-def-lts.Need-read-count-requires (
   read-optional-reads.Asked,
@@ -480,7 +486,10 @@ read-def-returns-3 t c =
     let at-read-name = c .before .before .before .before .before .before in
     let at-name = c .before .before .before .before in
     let at-read-count = c .before .before in
-    at-read-count .read-count .ensures ∙ ((told (at-read-count .read-count .ensures) (c .enum-told3 .given .1)) ∙ sym (def-uncounted _ _ _ _ _ (known (at-read-optional .read-optional .ensures) (at-length .length .given .1)) (at-list-count .list-count .ensures) (known (at-read-name .read-name .ensures) (at-name .name .given .1)) (told (at-read-count .read-count .ensures) (c .enum-told3 .given .1))))
+    at-read-count .read-count .ensures
+    ∙ ((told (at-read-count .read-count .ensures) (c .enum-told3 .given .1))
+    ∙ sym (def-uncounted _ _ _ _ _ (known (at-read-optional .read-optional .ensures) (at-length .length .given .1)) (at-list-count .list-count .ensures)
+    (known (at-read-name .read-name .ensures) (at-name .name .given .1)) (told (at-read-count .read-count .ensures) (c .enum-told3 .given .1))))
 
 read-def-read-fields-requires : (t : ℕ) → read-def-lts.Need-read-fields-requires (
   read-optional-reads.Asked,
@@ -516,10 +525,13 @@ read-def-returns-4 t c =
     let at-name = c .before .before .before .before .before .before in
     let at-read-count = c .before .before .before .before in
     let at-fields = c .before .before in
-    c .read-fields .ensures ∙ sym (def-counted _ _ _ _ _ (known (at-read-optional .read-optional .ensures) (at-length .length .given .1)) (at-list-count .list-count .ensures) (known (at-read-name .read-name .ensures) (at-name .name .given .1)) (known (at-read-count .read-count .ensures) (at-fields .fields .given .1)))
+    c .read-fields .ensures
+    ∙ sym (def-counted _ _ _ _ _ (known (at-read-optional .read-optional .ensures) (at-length .length .given .1)) (at-list-count .list-count .ensures)
+    (known (at-read-name .read-name .ensures) (at-name .name .given .1)) (known (at-read-count .read-count .ensures) (at-fields .fields .given .1)))
 
 abbrev read-fields-Inv-loop : read-fields-lts.InvT-loop
-read-fields-Inv-loop s start depth left count at₀ still₀ todo₀ at still todo = mapRead (λ f. left - among f) (readFields s (readTy s depth) count left start) ≡ mapRead (λ f. still - among f) (readFields s (readTy s depth) todo still at)
+read-fields-Inv-loop s start depth left count at₀ still₀ todo₀ at still todo =
+    mapRead (λ f. left - among f) (readFields s (readTy s depth) count left start) ≡ mapRead (λ f. still - among f) (readFields s (readTy s depth) todo still at)
 
 abbrev read-fields-μ-loop : read-fields-lts.MeasureT-loop
 read-fields-μ-loop s start depth left count at₀ still₀ todo₀ at still todo = todo
@@ -560,7 +572,9 @@ read-fields-returns t c =
     let at-loop = c .before .before .before .before in
     let at-loop-test = c .before .before .before in
     let at-read-type = c .before .before in
-    at-read-type .read-type .ensures ∙ ((told (at-read-type .read-type .ensures) (c .enum-told .given .1)) ∙ sym (at-loop .loop .inv ∙ fields-stop _ _ _ _ _ (at-loop-test .loop-test .taken) (told (at-read-type .read-type .ensures) (c .enum-told .given .1))))
+    at-read-type .read-type .ensures
+    ∙ ((told (at-read-type .read-type .ensures) (c .enum-told .given .1))
+    ∙ sym (at-loop .loop .inv ∙ fields-stop _ _ _ _ _ (at-loop-test .loop-test .taken) (told (at-read-type .read-type .ensures) (c .enum-told .given .1))))
 
 read-fields-sub-todo :
     (t : ℕ) →
@@ -678,7 +692,9 @@ read-scalar-returns-2 t c =
     let at-read-mark = c .before .before .before .before .before .before in
     let at-mark = c .before .before .before .before in
     let at-read-byte = c .before .before in
-    at-read-byte .read-byte .ensures ∙ ((told (at-read-byte .read-byte .ensures) (c .enum-told2 .given .1)) ∙ sym (scalar-ended _ _ _ _ (known (at-read-mark .read-mark .ensures) (at-mark .mark .given .1)) (told (at-read-byte .read-byte .ensures) (c .enum-told2 .given .1))))
+    at-read-byte .read-byte .ensures
+    ∙ ((told (at-read-byte .read-byte .ensures) (c .enum-told2 .given .1))
+    ∙ sym (scalar-ended _ _ _ _ (known (at-read-mark .read-mark .ensures) (at-mark .mark .given .1)) (told (at-read-byte .read-byte .ensures) (c .enum-told2 .given .1))))
 
 read-scalar-read-box-requires : (t : ℕ) → read-scalar-lts.Need-read-box-requires (
   read-mark-reads.Asked,

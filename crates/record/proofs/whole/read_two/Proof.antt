@@ -19,7 +19,9 @@ enum-known-first c = search needs
 
 -- src/whole.rt:63:9
 returns : tie.Need-returns
-returns c = sym (refusal-first (lone (c .before .before .before .before .before .before .args .a .now)) (lone (c .before .before .before .before .before .before .args .b .now)) (sym (c .before .before .before .read-lone .ensures) ∙ ap loneOf (c .before .first .given .1)))
+returns c =
+    sym (refusal-first (lone (c .before .before .before .before .before .before .args .a .now)) (lone (c .before .before .before .before .before .before .args .b .now))
+    (sym (c .before .before .before .read-lone .ensures) ∙ ap loneOf (c .before .first .given .1)))
 
 enum-told : tie.Need-enum-told
 enum-told c = search needs
@@ -34,14 +36,22 @@ enum-known-second c = search needs
 
 -- src/whole.rt:67:9
 returns-2 : tie.Need-returns-2
-returns-2 c = sym (refusal-second (lone (c .before .before .before .before .before .before .before .before .before .args .a .now)) (lone (c .before .before .before .before .before .before .before .before .before .args .b .now)) (sym (c .before .before .before .before .before .before .read-lone .ensures) ∙ ap loneOf (c .before .before .before .before .enum-told .given .1)) (sym (c .before .before .before .read-lone2 .ensures) ∙ ap loneOf (c .before .second .given .1)))
+returns-2 c =
+    sym (refusal-second (lone (c .before .before .before .before .before .before .before .before .before .args .a .now))
+    (lone (c .before .before .before .before .before .before .before .before .before .args .b .now))
+    (sym (c .before .before .before .before .before .before .read-lone .ensures) ∙ ap loneOf (c .before .before .before .before .enum-told .given .1))
+    (sym (c .before .before .before .read-lone2 .ensures) ∙ ap loneOf (c .before .second .given .1)))
 
 enum-told-2 : tie.Need-enum-told-2
 enum-told-2 c = search needs
 
 -- src/whole.rt:58:1
 returns-3 : tie.Need-returns-3
-returns-3 c = sym (refusal-neither (lone (c .before .before .before .before .before .before .before .before .args .a .now)) (lone (c .before .before .before .before .before .before .before .before .args .b .now)) (sym (c .before .before .before .before .before .read-lone .ensures) ∙ ap loneOf (c .before .before .before .enum-told .given .1)) (sym (c .before .before .read-lone2 .ensures) ∙ ap loneOf (c .enum-told2 .given .1)))
+returns-3 c =
+    sym (refusal-neither (lone (c .before .before .before .before .before .before .before .before .args .a .now))
+    (lone (c .before .before .before .before .before .before .before .before .args .b .now))
+    (sym (c .before .before .before .before .before .read-lone .ensures) ∙ ap loneOf (c .before .before .before .enum-told .given .1))
+    (sym (c .before .before .read-lone2 .ensures) ∙ ap loneOf (c .enum-told2 .given .1)))
 
 pub read-two-spec : {M : Type 1} → statement M
 read-two-spec =

@@ -50,7 +50,9 @@ returns-2 c =
     let at-size-at = c .before .before .before in
     let at-size-at2 = c .before .before in
     let args = entry .args in
-    sym (at-loop .loop .inv .1 ∙ compatible-stop (dimsOf (args .a)) (dimsOf (args .b)) (at-loop .loop .i) (omega (arith, at-size-count .size-count .ensures .0)) (omega (arith, at-size-count2 .size-count2 .ensures .0)) (at-size-at .size-at .ensures) (at-size-at2 .size-at2 .ensures) (c .before .row-compatible .ensures) (c .if2 .taken))
+    sym (at-loop .loop .inv .1
+    ∙ compatible-stop (dimsOf (args .a)) (dimsOf (args .b)) (at-loop .loop .i) (omega (arith, at-size-count .size-count .ensures .0))
+    (omega (arith, at-size-count2 .size-count2 .ensures .0)) (at-size-at .size-at .ensures) (at-size-at2 .size-at2 .ensures) (c .before .row-compatible .ensures) (c .if2 .taken))
 
 add-i : tie.Need-add-i Inv-loop μ-loop
 add-i c = search needs
@@ -66,8 +68,12 @@ loop-again c =
     let at-loop = c .before .before .before .before .before in
     let at-size-at = c .before .before .before in
     let at-size-at2 = c .before .before in
-    let args = entry .args in
-    (omega arith, at-loop .loop .inv .1 ∙ compatible-more (dimsOf (args .a)) (dimsOf (args .b)) (at-loop .loop .i) (omega (arith, at-size-count .size-count .ensures .0)) (omega (arith, at-size-count2 .size-count2 .ensures .0)) (at-size-at .size-at .ensures) (at-size-at2 .size-at2 .ensures) (c .before .row-compatible .ensures) (c .if2 .left))
+    let args = entry .args in (
+      omega arith,
+      at-loop .loop .inv .1
+          ∙ compatible-more (dimsOf (args .a)) (dimsOf (args .b)) (at-loop .loop .i) (omega (arith, at-size-count .size-count .ensures .0))
+          (omega (arith, at-size-count2 .size-count2 .ensures .0)) (at-size-at .size-at .ensures) (at-size-at2 .size-at2 .ensures) (c .before .row-compatible .ensures) (c .if2 .left),
+    )
 
 returns-3 : tie.Need-returns-3 Inv-loop μ-loop
 returns-3 c =

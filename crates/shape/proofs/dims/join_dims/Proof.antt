@@ -50,15 +50,20 @@ loop-again c =
     let at-shorter = c .before .before .before .before .before in
     let at-loop = c .before .before .before .before in
     let at-size-at = c .before .before in
-    let args = entry .args in
-    (omega arith, simp length-set (at-loop .loop .inv .1), join-more (dimsOf (args .a)) (dimsOf (args .b)) (at-loop .loop .sizes) (at-loop .loop .i) (c .join-sizes .result) (omega arith) (omega (arith, at-shorter .shorter .ensures .0)) (at-size-at .size-at .ensures) (c .before .size-at2 .ensures) (c .join-sizes .ensures) (at-loop .loop .inv .2))
+    let args = entry .args in (
+      omega arith,
+      simp length-set (at-loop .loop .inv .1),
+      join-more (dimsOf (args .a)) (dimsOf (args .b)) (at-loop .loop .sizes) (at-loop .loop .i) (c .join-sizes .result) (omega arith)
+          (omega (arith, at-shorter .shorter .ensures .0)) (at-size-at .size-at .ensures) (c .before .size-at2 .ensures) (c .join-sizes .ensures) (at-loop .loop .inv .2),
+    )
 
 returns : tie.Need-returns Inv-loop μ-loop
 returns c =
     let entry = c .before .before .before in
     let at-shorter = c .before .before in
     let args = entry .args in
-    build-end (joinDims (dimsOf (args .a)) (dimsOf (args .b))) (c .before .loop .sizes) (c .before .loop .i) (omega arith) (at-shorter .shorter .ensures .0 ∙ sym (join-length (dimsOf (args .a)) (dimsOf (args .b)))) (c .before .loop .inv .2)
+    build-end (joinDims (dimsOf (args .a)) (dimsOf (args .b))) (c .before .loop .sizes) (c .before .loop .i) (omega arith)
+    (at-shorter .shorter .ensures .0 ∙ sym (join-length (dimsOf (args .a)) (dimsOf (args .b)))) (c .before .loop .inv .2)
 
 pub join-dims-spec : {M : Type 1} → statement M
 join-dims-spec =

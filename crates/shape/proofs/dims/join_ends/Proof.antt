@@ -50,15 +50,20 @@ loop-again c =
     let at-longer = c .before .before .before .before .before in
     let at-loop = c .before .before .before .before in
     let at-from-end = c .before .before in
-    let args = entry .args in
-    (omega arith, simp length-set (at-loop .loop .inv .1), ends-more (dimsOf (args .a)) (dimsOf (args .b)) (at-loop .loop .sizes) (at-loop .loop .i) (c .join-sizes .result) (omega arith) (omega (arith, at-longer .longer .ensures .0)) (at-from-end .from-end .ensures) (c .before .from-end2 .ensures) (c .join-sizes .ensures) (at-loop .loop .inv .2))
+    let args = entry .args in (
+      omega arith,
+      simp length-set (at-loop .loop .inv .1),
+      ends-more (dimsOf (args .a)) (dimsOf (args .b)) (at-loop .loop .sizes) (at-loop .loop .i) (c .join-sizes .result) (omega arith)
+          (omega (arith, at-longer .longer .ensures .0)) (at-from-end .from-end .ensures) (c .before .from-end2 .ensures) (c .join-sizes .ensures) (at-loop .loop .inv .2),
+    )
 
 returns : tie.Need-returns Inv-loop μ-loop
 returns c =
     let entry = c .before .before .before in
     let at-longer = c .before .before in
     let args = entry .args in
-    build-end (joinEnds (dimsOf (args .a)) (dimsOf (args .b))) (c .before .loop .sizes) (c .before .loop .i) (omega arith) (at-longer .longer .ensures .0 ∙ sym (joinEnds-length (dimsOf (args .a)) (dimsOf (args .b)))) (c .before .loop .inv .2)
+    build-end (joinEnds (dimsOf (args .a)) (dimsOf (args .b))) (c .before .loop .sizes) (c .before .loop .i) (omega arith)
+    (at-longer .longer .ensures .0 ∙ sym (joinEnds-length (dimsOf (args .a)) (dimsOf (args .b)))) (c .before .loop .inv .2)
 
 pub join-ends-spec : {M : Type 1} → statement M
 join-ends-spec =

@@ -43,15 +43,20 @@ loop-again c =
     let entry = c .before .before .before .before in
     let at-longer = c .before .before .before in
     let at-loop = c .before .before in
-    let args = entry .args in
-    (omega arith, simp length-set (at-loop .loop .inv .1), merge-more (dimsOf (args .a)) (dimsOf (args .b)) (at-loop .loop .sizes) (at-loop .loop .i) (c .merge-at .result) (omega arith) (omega (arith, at-longer .longer .ensures .0)) (c .merge-at .ensures) (at-loop .loop .inv .2))
+    let args = entry .args in (
+      omega arith,
+      simp length-set (at-loop .loop .inv .1),
+      merge-more (dimsOf (args .a)) (dimsOf (args .b)) (at-loop .loop .sizes) (at-loop .loop .i) (c .merge-at .result) (omega arith)
+          (omega (arith, at-longer .longer .ensures .0)) (c .merge-at .ensures) (at-loop .loop .inv .2),
+    )
 
 returns : tie.Need-returns Inv-loop μ-loop
 returns c =
     let entry = c .before .before .before in
     let at-longer = c .before .before in
     let args = entry .args in
-    build-end (mergeDims (dimsOf (args .a)) (dimsOf (args .b))) (c .before .loop .sizes) (c .before .loop .i) (omega arith) (at-longer .longer .ensures .0 ∙ sym (merge-length (dimsOf (args .a)) (dimsOf (args .b)))) (c .before .loop .inv .2)
+    build-end (mergeDims (dimsOf (args .a)) (dimsOf (args .b))) (c .before .loop .sizes) (c .before .loop .i) (omega arith)
+    (at-longer .longer .ensures .0 ∙ sym (merge-length (dimsOf (args .a)) (dimsOf (args .b)))) (c .before .loop .inv .2)
 
 pub merge-dims-spec : {M : Type 1} → statement M
 merge-dims-spec =

@@ -53,15 +53,20 @@ loop-again : tie.Need-loop-again Inv-loop μ-loop
 loop-again c =
     let entry = c .before .before .before .before .before in
     let at-size-count = c .before .before .before .before in
-    let at-loop = c .before .before in
-    (omega arith, simp length-set (at-loop .loop .inv .1), rest-more (dimsOf (entry .args .d)) (at-loop .loop .sizes) (at-loop .loop .i) (c .size-at .result) (omega arith) (omega (arith, at-size-count .size-count .ensures .0)) (c .size-at .ensures) (at-loop .loop .inv .2))
+    let at-loop = c .before .before in (
+      omega arith,
+      simp length-set (at-loop .loop .inv .1),
+      rest-more (dimsOf (entry .args .d)) (at-loop .loop .sizes) (at-loop .loop .i) (c .size-at .result) (omega arith)
+          (omega (arith, at-size-count .size-count .ensures .0)) (c .size-at .ensures) (at-loop .loop .inv .2),
+    )
 
 returns-2 : tie.Need-returns-2 Inv-loop μ-loop
 returns-2 c =
     let entry = c .before .before .before .before in
     let at-size-count = c .before .before .before in
     let args = entry .args in
-    build-end (drop 1 (dimsOf (args .d))) (c .before .loop .sizes) (c .before .loop .i) {n = at-size-count .size-count .result - 1} (omega arith) (omega (arith, length-drop 1 (dimsOf (args .d)), at-size-count .size-count .ensures .0)) (c .before .loop .inv .2)
+    build-end (drop 1 (dimsOf (args .d))) (c .before .loop .sizes) (c .before .loop .i) {n = at-size-count .size-count .result - 1} (omega arith)
+    (omega (arith, length-drop 1 (dimsOf (args .d)), at-size-count .size-count .ensures .0)) (c .before .loop .inv .2)
 
 pub rest-dims-spec : {M : Type 1} → statement M
 rest-dims-spec =

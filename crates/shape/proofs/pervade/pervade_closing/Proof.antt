@@ -39,7 +39,9 @@ returns-3 c =
     let at-if2 = c .before .before .before in
     let at-size-count = c .before .before in
     let args = entry .args in
-    c .of-parts3 .ensures ∙ ap (shape (dimsOf (args .dims))) (sym (pervade-empty (open-is (args .a) (at-if1 .if1 .left)) (open-is (args .b) (at-if2 .if2 .left)) (sym (at-size-count .size-count .ensures .0) ∙ c .before .if3 .taken)))
+    c .of-parts3 .ensures
+    ∙ ap (shape (dimsOf (args .dims)))
+    (sym (pervade-empty (open-is (args .a) (at-if1 .if1 .left)) (open-is (args .b) (at-if2 .if2 .left)) (sym (at-size-count .size-count .ensures .0) ∙ c .before .if3 .taken)))
 
 size-count-requires-2 : tie.Need-size-count-requires-2
 size-count-requires-2 c κs = search needs
@@ -56,7 +58,10 @@ returns-4 c =
     let at-if3 = c .before .before .before in
     let at-size-count2 = c .before .before in
     let args = entry .args in
-    c .of-parts4 .ensures ∙ ap (shape (dimsOf (args .dims))) (sym (pervade-named (open-is (args .a) (at-if1 .if1 .left)) (open-is (args .b) (at-if2 .if2 .left)) (λ e. at-if3 .if3 .left (at-size-count .size-count .ensures .0 ∙ e)) (sym (at-size-count2 .size-count2 .ensures .0) ∙ c .before .if4 .taken)))
+    c .of-parts4 .ensures
+    ∙ ap (shape (dimsOf (args .dims)))
+    (sym (pervade-named (open-is (args .a) (at-if1 .if1 .left)) (open-is (args .b) (at-if2 .if2 .left)) (λ e. at-if3 .if3 .left (at-size-count .size-count .ensures .0 ∙ e))
+    (sym (at-size-count2 .size-count2 .ensures .0) ∙ c .before .if4 .taken)))
 
 no-dims-requires : tie.Need-no-dims-requires
 no-dims-requires c κs = search needs
@@ -74,7 +79,10 @@ returns-5 c =
     let at-size-count2 = c .before .before .before in
     let at-if4 = c .before .before in
     let args = entry .args in
-    c .of-parts5 .ensures ∙ ap (shape (dimsOf (args .dims))) (sym (pervade-twice (open-is (args .a) (at-if1 .if1 .left)) (open-is (args .b) (at-if2 .if2 .left)) (c .before .no-dims .result) (λ e. at-if3 .if3 .left (at-size-count .size-count .ensures .0 ∙ e)) (λ e. at-if4 .if4 .left (at-size-count2 .size-count2 .ensures .0 ∙ e)) (c .before .no-dims .ensures)))
+    c .of-parts5 .ensures
+    ∙ ap (shape (dimsOf (args .dims)))
+    (sym (pervade-twice (open-is (args .a) (at-if1 .if1 .left)) (open-is (args .b) (at-if2 .if2 .left)) (c .before .no-dims .result)
+    (λ e. at-if3 .if3 .left (at-size-count .size-count .ensures .0 ∙ e)) (λ e. at-if4 .if4 .left (at-size-count2 .size-count2 .ensures .0 ∙ e)) (c .before .no-dims .ensures)))
 
 pub pervade-closing-spec : {M : Type 1} → statement M
 pervade-closing-spec =

@@ -51,8 +51,13 @@ loop-again c =
     let at-longer = c .before .before .before .before .before .before in
     let at-loop = c .before .before .before .before .before in
     let at-pervade-at = c .before .before .before in
-    let args = entry .args in
-    (omega arith, simp length-set (at-loop .loop .inv .1), walk-more (args .fill-a) (args .fill-b) (dimsOf (args .a)) (dimsOf (args .b)) (at-loop .loop .sizes) (at-loop .loop .i) (omega (arith, at-longer .longer .ensures .0)) (at-pervade-at .pervade-at .ensures) (at-loop .loop .inv .2) (c .before .size .given .0 .0) (omega arith) (sym (ap cellOf (c .before .size .given .1))))
+    let args = entry .args in (
+      omega arith,
+      simp length-set (at-loop .loop .inv .1),
+      walk-more (args .fill-a) (args .fill-b) (dimsOf (args .a)) (dimsOf (args .b)) (at-loop .loop .sizes) (at-loop .loop .i)
+          (omega (arith, at-longer .longer .ensures .0)) (at-pervade-at .pervade-at .ensures) (at-loop .loop .inv .2) (c .before .size .given .0 .0) (omega arith)
+          (sym (ap cellOf (c .before .size .given .1))),
+    )
 
 no-dims-requires : tie.Need-no-dims-requires Inv-loop μ-loop
 no-dims-requires c κs = search needs
@@ -64,7 +69,10 @@ returns c =
     let at-loop = c .before .before .before in
     let at-if1 = c .before .before in
     let args = entry .args in
-    ⊎-elim (λ w. absurd (omega arith)) (λ w. ap clash (w .4) ∙ sym (walk-stop (args .fill-a) (args .fill-b) (dimsOf (args .a)) (dimsOf (args .b)) (at-loop .loop .sizes) (at-loop .loop .i) (omega (arith, at-longer .longer .ensures .0)) (w .1 .ensures) (at-loop .loop .inv .2) (omega arith) (sym (ap cellOf (w .3 .given .1))))) (at-if1 .if1 .came)
+    ⊎-elim (λ w. absurd (omega arith))
+    (λ w. ap clash (w .4)
+    ∙ sym (walk-stop (args .fill-a) (args .fill-b) (dimsOf (args .a)) (dimsOf (args .b)) (at-loop .loop .sizes) (at-loop .loop .i) (omega (arith, at-longer .longer .ensures .0))
+    (w .1 .ensures) (at-loop .loop .inv .2) (omega arith) (sym (ap cellOf (w .3 .given .1))))) (at-if1 .if1 .came)
 
 returns-2 : tie.Need-returns-2 Inv-loop μ-loop
 returns-2 c =
@@ -72,7 +80,8 @@ returns-2 c =
     let at-longer = c .before .before .before in
     let at-loop = c .before .before in
     let args = entry .args in
-    ⊎-elim (λ w. sym (walk-end (args .fill-a) (args .fill-b) (dimsOf (args .a)) (dimsOf (args .b)) (at-loop .loop .sizes) (at-loop .loop .i) (w .0 .taken) (at-longer .longer .ensures .0) (at-loop .loop .inv .2))) (λ w. absurd (omega arith)) (c .before .if1 .came)
+    ⊎-elim (λ w. sym (walk-end (args .fill-a) (args .fill-b) (dimsOf (args .a)) (dimsOf (args .b)) (at-loop .loop .sizes) (at-loop .loop .i) (w .0 .taken) (at-longer .longer .ensures .0)
+    (at-loop .loop .inv .2))) (λ w. absurd (omega arith)) (c .before .if1 .came)
 
 pub pervade-dims-spec : {M : Type 1} → statement M
 pervade-dims-spec =

@@ -15,7 +15,8 @@ returns c =
     let entry = c .before .before .before .before .before in
     let at-pervade-dims = c .before .before in
     let args = entry .args in
-    pervade-beside (args .a-fill) (args .b-fill) (dimsOf (args .a .dims)) (dimsOf (args .b .dims)) (closingFor (args .a)) (closingFor (args .b)) (at-pervade-dims .pervade-dims .result .answer) (at-pervade-dims .pervade-dims .ensures) (c .pervade-closing .ensures)
+    pervade-beside (args .a-fill) (args .b-fill) (dimsOf (args .a .dims)) (dimsOf (args .b .dims)) (closingFor (args .a)) (closingFor (args .b))
+    (at-pervade-dims .pervade-dims .result .answer) (at-pervade-dims .pervade-dims .ensures) (c .pervade-closing .ensures)
 
 pub pervade-dyn-shapes-spec : {M : Type 1} → statement M
 pervade-dyn-shapes-spec =

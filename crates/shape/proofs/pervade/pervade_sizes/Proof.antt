@@ -56,7 +56,9 @@ returns-5 c =
     let at-if4 = c .before .before .before .before in
     let at-cmp = c .before .before .before in
     let args = entry .args in
-    c .where-filled .ensures ∙ sym (together-order (args .fill-a) (args .fill-b) (args .a) (args .b) (at-if1 .if1 .left) (at-if2 .if2 .left) (at-if3 .if3 .left) (at-if4 .if4 .left) (sym (ap orderOf (c .before .enum-told .given .1)) ∙ at-cmp .cmp .ensures))
+    c .where-filled .ensures
+    ∙ sym (together-order (args .fill-a) (args .fill-b) (args .a) (args .b) (at-if1 .if1 .left) (at-if2 .if2 .left) (at-if3 .if3 .left) (at-if4 .if4 .left)
+    (sym (ap orderOf (c .before .enum-told .given .1)) ∙ at-cmp .cmp .ensures))
 
 returns-6 : tie.Need-returns-6
 returns-6 c =
@@ -78,7 +80,9 @@ returns-7 c =
     let at-if4 = c .before .before .before .before in
     let at-cmp = c .before .before .before in
     let args = entry .args in
-    c .where-filled2 .ensures ∙ sym (together-order (args .fill-a) (args .fill-b) (args .a) (args .b) (at-if1 .if1 .left) (at-if2 .if2 .left) (at-if3 .if3 .left) (at-if4 .if4 .left) (sym (ap orderOf (c .before .enum-told3 .given .1)) ∙ at-cmp .cmp .ensures))
+    c .where-filled2 .ensures
+    ∙ sym (together-order (args .fill-a) (args .fill-b) (args .a) (args .b) (at-if1 .if1 .left) (at-if2 .if2 .left) (at-if3 .if3 .left) (at-if4 .if4 .left)
+    (sym (ap orderOf (c .before .enum-told3 .given .1)) ∙ at-cmp .cmp .ensures))
 
 pub pervade-sizes-spec : {M : Type 1} → statement M
 pervade-sizes-spec =

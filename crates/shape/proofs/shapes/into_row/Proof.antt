@@ -23,7 +23,9 @@ returns c =
     let entry = c .before .before .before .before .before .before in
     let at-size-count = c .before .before .before in
     let args = entry .args in
-    c .of-parts .ensures ∙ (ap (λ d. shape d (closingFor (args .shape))) (c .before .rest-dims .ensures) ∙ sym (row-opening (dimsOf (args .shape .dims)) (closingFor (args .shape)) (omega (arith, at-size-count .size-count .ensures .0))))
+    c .of-parts .ensures
+    ∙ (ap (λ d. shape d (closingFor (args .shape))) (c .before .rest-dims .ensures)
+    ∙ sym (row-opening (dimsOf (args .shape .dims)) (closingFor (args .shape)) (omega (arith, at-size-count .size-count .ensures .0))))
 
 rest-dims-requires-2 : tie.Need-rest-dims-requires-2
 rest-dims-requires-2 c κs = search needs
@@ -36,7 +38,9 @@ returns-2 c =
     let entry = c .before .before .before .before .before .before in
     let at-size-count = c .before .before .before in
     let args = entry .args in
-    c .of-parts2 .ensures ∙ (ap (λ d. shape (dimsOf (args .shape .dims)) (cond (args .shape .closed) none (some d))) (c .before .rest-dims2 .ensures) ∙ sym (row-closing (dimsOf (args .shape .dims)) (args .shape .closed) (dimsOf (args .shape .suffix)) (omega (arith, at-size-count .size-count .ensures .0))))
+    c .of-parts2 .ensures
+    ∙ (ap (λ d. shape (dimsOf (args .shape .dims)) (cond (args .shape .closed) none (some d))) (c .before .rest-dims2 .ensures)
+    ∙ sym (row-closing (dimsOf (args .shape .dims)) (args .shape .closed) (dimsOf (args .shape .suffix)) (omega (arith, at-size-count .size-count .ensures .0))))
 
 pub into-row-spec : {M : Type 1} → statement M
 into-row-spec =

@@ -31,7 +31,9 @@ returns-2 c =
     let at-join-dims = c .before .before .before in
     let at-join-ends = c .before .before in
     let args = entry .args in
-    c .of-parts2 .ensures ∙ join-open (dimsOf (args .a .dims)) (dimsOf (args .b .dims)) (args .b .closed) (dimsOf (args .b .suffix)) (at-join-dims .join-dims .ensures) (open-is (args .a) (c .before .if1 .left)) (at-join-ends .join-ends .ensures)
+    c .of-parts2 .ensures
+    ∙ join-open (dimsOf (args .a .dims)) (dimsOf (args .b .dims)) (args .b .closed) (dimsOf (args .b .suffix)) (at-join-dims .join-dims .ensures) (open-is (args .a) (c .before .if1 .left))
+    (at-join-ends .join-ends .ensures)
 
 pub join-spec : {M : Type 1} → statement M
 join-spec =

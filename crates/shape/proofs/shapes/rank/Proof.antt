@@ -26,8 +26,11 @@ returns-2 c =
     let entry = c .before .before .before .before .before in
     let at-size-count = c .before .before .before in
     let at-if1 = c .before .before in
-    let args = entry .args in
-    (rank-open (dimsOf (args .shape .dims)) (at-size-count .size-count .ensures .0) (c .size-count2 .ensures .0) (open-is (args .shape) (at-if1 .if1 .left)), omega (arith, at-size-count .size-count .ensures .1, c .size-count2 .ensures .1))
+    let args = entry .args in (
+      rank-open (dimsOf (args .shape .dims)) (at-size-count .size-count .ensures .0) (c .size-count2 .ensures .0) (open-is (args .shape) (at-if1 .if1 .left)),
+      omega
+          (arith, at-size-count .size-count .ensures .1, c .size-count2 .ensures .1),
+    )
 
 pub rank-spec : {M : Type 1} → statement M
 rank-spec =

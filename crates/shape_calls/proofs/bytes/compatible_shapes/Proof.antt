@@ -1,11 +1,10 @@
 use native.Mathlib.Omega.{arith}
 use mathlib.Core.Bool.{true}
 use mathlib.Core.Path.{sym, ap, _∙_}
-use Rattle.model.specs.Limits.{maxDepth}
 use Rattle.format.specs.Outcome.{accepted, mapped}
 use Rattle.record.specs.Answers.{loneOf}
 use Rattle.rules.specs.Shapes.{compatibleShapes}
-use Rattle.shape_calls.proofs.CallLaws.{shapes-told, shapes-there, shapes-are}
+use Rattle.shape_calls.proofs.CallLaws.{TwoRead, two-read, shapes-told, first-there, second-there, shapes-are}
 use borrow.Author.Needs.{needs}
 use Rattle.shape_calls.proofs.bytes.compatible_shapes.Statement.{statement}
 use Rattle.shape_calls.proofs.bytes.compatible_shapes.Tie as tie
@@ -41,10 +40,15 @@ as-tested-requires c κs = search needs
 returns : tie.Need-returns
 returns c =
     let entry = c .before .before .before .before .before .before .before in
+    let at-shared-slice-known = c .before .before .before .before .before .before in
+    let at-shared-slice-known2 = c .before .before .before .before .before in
     let at-read-two = c .before .before .before .before in
     let at-whichever = c .before .before .before in
     let args = entry .args in
-    c .as-tested .ensures ∙ ap (mapped (λ _. true)) (ap loneOf (c .before .enum-told2 .given .1)) ∙ sym (shapes-told (λ s t. accepted (compatibleShapes s t)) (args .a .now) (args .b .now) (at-read-two .read-two .result) (at-read-two .read-two .ensures) (at-whichever .whichever .result) (at-whichever .whichever .ensures) (c .before .enum-told2 .given .1))
+    let known : TwoRead (args .a .now) (args .b .now) (at-whichever .whichever .result) =
+    two-read (λ i. omega (arith, at-shared-slice-known .shared-slice-known .given i)) (λ i. omega (arith, at-shared-slice-known2 .shared-slice-known2 .given i))
+    (at-read-two .read-two .result) (at-read-two .read-two .ensures) (at-whichever .whichever .result) (at-whichever .whichever .ensures) in
+    c .as-tested .ensures ∙ ap (mapped (λ _. true)) (ap loneOf (c .before .enum-told2 .given .1)) ∙ sym (shapes-told (λ s t. accepted (compatibleShapes s t)) known (c .before .enum-told2 .given .1))
 
 -- src/bytes.rt:67:26
 shape-at-requires : tie.Need-shape-at-requires
@@ -55,7 +59,10 @@ shape-at-requires c κs =
     let at-read-two = c .before .before .before in
     let at-whichever = c .before .before in
     let args = entry .args in
-    (maxDepth, shapes-there (λ s t. accepted (compatibleShapes s t)) (args .a .now) (args .b .now) (at-read-two .read-two .result) (at-read-two .read-two .ensures) (at-whichever .whichever .result) (at-whichever .whichever .ensures) (λ i. omega (arith, at-shared-slice-known .shared-slice-known .given i)) (λ i. omega (arith, at-shared-slice-known2 .shared-slice-known2 .given i)) (c .enum-told .given .1) .0)
+    let known : TwoRead (args .a .now) (args .b .now) (at-whichever .whichever .result) =
+    two-read (λ i. omega (arith, at-shared-slice-known .shared-slice-known .given i)) (λ i. omega (arith, at-shared-slice-known2 .shared-slice-known2 .given i))
+    (at-read-two .read-two .result) (at-read-two .read-two .ensures) (at-whichever .whichever .result) (at-whichever .whichever .ensures) in
+    first-there (λ s t. accepted (compatibleShapes s t)) known (c .enum-told .given .1)
 
 -- src/bytes.rt:67:42
 shape-at-requires-2 : tie.Need-shape-at-requires-2
@@ -66,7 +73,10 @@ shape-at-requires-2 c κs =
     let at-read-two = c .before .before .before .before in
     let at-whichever = c .before .before .before in
     let args = entry .args in
-    (maxDepth, shapes-there (λ s t. accepted (compatibleShapes s t)) (args .a .now) (args .b .now) (at-read-two .read-two .result) (at-read-two .read-two .ensures) (at-whichever .whichever .result) (at-whichever .whichever .ensures) (λ i. omega (arith, at-shared-slice-known .shared-slice-known .given i)) (λ i. omega (arith, at-shared-slice-known2 .shared-slice-known2 .given i)) (c .before .enum-told .given .1) .1)
+    let known : TwoRead (args .a .now) (args .b .now) (at-whichever .whichever .result) =
+    two-read (λ i. omega (arith, at-shared-slice-known .shared-slice-known .given i)) (λ i. omega (arith, at-shared-slice-known2 .shared-slice-known2 .given i))
+    (at-read-two .read-two .result) (at-read-two .read-two .ensures) (at-whichever .whichever .result) (at-whichever .whichever .ensures) in
+    second-there (λ s t. accepted (compatibleShapes s t)) known (c .before .enum-told .given .1)
 
 -- src/bytes.rt:67:10
 compatible-with-requires : tie.Need-compatible-with-requires
@@ -88,7 +98,12 @@ returns-2 c =
     let at-shape-at = c .before .before .before in
     let at-shape-at2 = c .before .before in
     let args = entry .args in
-    c .tell .ensures ∙ ap accepted (c .before .compatible-with .ensures) ∙ sym (shapes-are (λ s t. accepted (compatibleShapes s t)) (args .a .now) (args .b .now) (at-read-two .read-two .result) (at-read-two .read-two .ensures) (at-whichever .whichever .result) (at-whichever .whichever .ensures) (λ i. omega (arith, at-shared-slice-known .shared-slice-known .given i)) (λ i. omega (arith, at-shared-slice-known2 .shared-slice-known2 .given i)) (at-enum-told .enum-told .given .1) (at-shape-at .shape-at .result) (at-shape-at2 .shape-at2 .result) (at-shape-at .shape-at .ensures) (at-shape-at2 .shape-at2 .ensures))
+    let known : TwoRead (args .a .now) (args .b .now) (at-whichever .whichever .result) =
+    two-read (λ i. omega (arith, at-shared-slice-known .shared-slice-known .given i)) (λ i. omega (arith, at-shared-slice-known2 .shared-slice-known2 .given i))
+    (at-read-two .read-two .result) (at-read-two .read-two .ensures) (at-whichever .whichever .result) (at-whichever .whichever .ensures) in
+    c .tell .ensures ∙ ap accepted (c .before .compatible-with .ensures)
+    ∙ sym (shapes-are (λ s t. accepted (compatibleShapes s t)) known (at-enum-told .enum-told .given .1) (at-shape-at .shape-at .result) (at-shape-at2 .shape-at2 .result)
+    (at-shape-at .shape-at .ensures) (at-shape-at2 .shape-at2 .ensures))
 
 pub compatible-shapes-spec : {M : Type 1} → statement M
 compatible-shapes-spec =

@@ -1,12 +1,11 @@
 use native.Mathlib.Omega.{arith}
 use mathlib.Core.Path.{sym, ap, _∙_}
-use Rattle.model.specs.Limits.{maxDepth}
 use Rattle.format.specs.Outcome.{deliver}
 use Rattle.lent.specs.Delivers.{deliver-handed}
 use Rattle.record.specs.Answers.{loneOf}
 use Rattle.rules.specs.Shapes.{mergeFrom}
 use Rattle.shape_calls.specs.Calls.{recorded}
-use Rattle.shape_calls.proofs.CallLaws.{shapes-told, shapes-there, shapes-are}
+use Rattle.shape_calls.proofs.CallLaws.{TwoRead, two-read, shapes-told, first-there, second-there, shapes-are}
 use borrow.Author.Needs.{needs}
 use Rattle.shape_calls.proofs.bytes.merge.Statement.{statement}
 use Rattle.shape_calls.proofs.bytes.merge.Tie as tie
@@ -42,10 +41,16 @@ as-written-requires c κs = search needs
 returns : tie.Need-returns
 returns c =
     let entry = c .before .before .before .before .before .before .before .before in
+    let at-shared-slice-known = c .before .before .before .before .before .before .before in
+    let at-shared-slice-known2 = c .before .before .before .before .before .before in
     let at-read-two = c .before .before .before .before in
     let at-whichever = c .before .before .before in
     let args = entry .args in
-    deliver-handed (args .result .now) (c .as-written .result) (c .as-written .ensures ∙ ap loneOf (c .before .enum-told2 .given .1)) (shapes-told (λ s t. recorded (mergeFrom s t)) (args .a .now) (args .b .now) (at-read-two .read-two .result) (at-read-two .read-two .ensures) (at-whichever .whichever .result) (at-whichever .whichever .ensures) (c .before .enum-told2 .given .1))
+    let known : TwoRead (args .a .now) (args .b .now) (at-whichever .whichever .result) =
+    two-read (λ i. omega (arith, at-shared-slice-known .shared-slice-known .given i)) (λ i. omega (arith, at-shared-slice-known2 .shared-slice-known2 .given i))
+    (at-read-two .read-two .result) (at-read-two .read-two .ensures) (at-whichever .whichever .result) (at-whichever .whichever .ensures) in
+    deliver-handed (args .result .now) (c .as-written .result) (c .as-written .ensures ∙ ap loneOf (c .before .enum-told2 .given .1))
+    (shapes-told (λ s t. recorded (mergeFrom s t)) known (c .before .enum-told2 .given .1))
 
 -- src/bytes.rt:37:28
 shape-at-requires : tie.Need-shape-at-requires
@@ -56,7 +61,10 @@ shape-at-requires c κs =
     let at-read-two = c .before .before .before in
     let at-whichever = c .before .before in
     let args = entry .args in
-    (maxDepth, shapes-there (λ s t. recorded (mergeFrom s t)) (args .a .now) (args .b .now) (at-read-two .read-two .result) (at-read-two .read-two .ensures) (at-whichever .whichever .result) (at-whichever .whichever .ensures) (λ i. omega (arith, at-shared-slice-known .shared-slice-known .given i)) (λ i. omega (arith, at-shared-slice-known2 .shared-slice-known2 .given i)) (c .enum-told .given .1) .0)
+    let known : TwoRead (args .a .now) (args .b .now) (at-whichever .whichever .result) =
+    two-read (λ i. omega (arith, at-shared-slice-known .shared-slice-known .given i)) (λ i. omega (arith, at-shared-slice-known2 .shared-slice-known2 .given i))
+    (at-read-two .read-two .result) (at-read-two .read-two .ensures) (at-whichever .whichever .result) (at-whichever .whichever .ensures) in
+    first-there (λ s t. recorded (mergeFrom s t)) known (c .enum-told .given .1)
 
 -- src/bytes.rt:37:44
 shape-at-requires-2 : tie.Need-shape-at-requires-2
@@ -67,7 +75,10 @@ shape-at-requires-2 c κs =
     let at-read-two = c .before .before .before .before in
     let at-whichever = c .before .before .before in
     let args = entry .args in
-    (maxDepth, shapes-there (λ s t. recorded (mergeFrom s t)) (args .a .now) (args .b .now) (at-read-two .read-two .result) (at-read-two .read-two .ensures) (at-whichever .whichever .result) (at-whichever .whichever .ensures) (λ i. omega (arith, at-shared-slice-known .shared-slice-known .given i)) (λ i. omega (arith, at-shared-slice-known2 .shared-slice-known2 .given i)) (c .before .enum-told .given .1) .1)
+    let known : TwoRead (args .a .now) (args .b .now) (at-whichever .whichever .result) =
+    two-read (λ i. omega (arith, at-shared-slice-known .shared-slice-known .given i)) (λ i. omega (arith, at-shared-slice-known2 .shared-slice-known2 .given i))
+    (at-read-two .read-two .result) (at-read-two .read-two .ensures) (at-whichever .whichever .result) (at-whichever .whichever .ensures) in
+    second-there (λ s t. recorded (mergeFrom s t)) known (c .before .enum-told .given .1)
 
 -- src/bytes.rt:37:17
 merge-from-requires : tie.Need-merge-from-requires
@@ -95,7 +106,14 @@ returns-2 c =
     let at-merge-from = c .before .before .before .before in
     let at-write-shape = c .before .before in
     let args = entry .args in
-    at-write-shape .write-shape .ensures ∙ ap (λ o. deliver o (args .result .now)) (ap recorded (at-merge-from .merge-from .ensures) ∙ sym (shapes-are (λ s t. recorded (mergeFrom s t)) (args .a .now) (args .b .now) (at-read-two .read-two .result) (at-read-two .read-two .ensures) (at-whichever .whichever .result) (at-whichever .whichever .ensures) (λ i. omega (arith, at-shared-slice-known .shared-slice-known .given i)) (λ i. omega (arith, at-shared-slice-known2 .shared-slice-known2 .given i)) (at-enum-told .enum-told .given .1) (at-shape-at .shape-at .result) (at-shape-at2 .shape-at2 .result) (at-shape-at .shape-at .ensures) (at-shape-at2 .shape-at2 .ensures)))
+    let known : TwoRead (args .a .now) (args .b .now) (at-whichever .whichever .result) =
+    two-read (λ i. omega (arith, at-shared-slice-known .shared-slice-known .given i)) (λ i. omega (arith, at-shared-slice-known2 .shared-slice-known2 .given i))
+    (at-read-two .read-two .result) (at-read-two .read-two .ensures) (at-whichever .whichever .result) (at-whichever .whichever .ensures) in
+    at-write-shape .write-shape .ensures
+    ∙ ap (λ o. deliver o (args .result .now))
+    (ap recorded (at-merge-from .merge-from .ensures)
+    ∙ sym (shapes-are (λ s t. recorded (mergeFrom s t)) known (at-enum-told .enum-told .given .1) (at-shape-at .shape-at .result) (at-shape-at2 .shape-at2 .result)
+    (at-shape-at .shape-at .ensures) (at-shape-at2 .shape-at2 .ensures)))
 
 pub merge-spec : {M : Type 1} → statement M
 merge-spec =

@@ -1,12 +1,11 @@
 use native.Mathlib.Omega.{arith}
 use mathlib.Core.Path.{sym, ap, _∙_}
-use Rattle.model.specs.Limits.{maxDepth}
 use Rattle.format.specs.Outcome.{deliver}
 use Rattle.lent.specs.Delivers.{deliver-handed}
 use Rattle.record.specs.Answers.{loneOf}
 use Rattle.rules.specs.Shapes.{rowShape}
 use Rattle.shape_calls.specs.Calls.{recorded}
-use Rattle.shape_calls.proofs.CallLaws.{shape-told, shape-there, shape-is}
+use Rattle.shape_calls.proofs.CallLaws.{OneRead, shape-told, shape-there, shape-is}
 use borrow.Author.Needs.{needs}
 use Rattle.shape_calls.proofs.bytes.row_shape.Statement.{statement}
 use Rattle.shape_calls.proofs.bytes.row_shape.Tie as tie
@@ -37,9 +36,13 @@ as-written-requires c κs = search needs
 returns : tie.Need-returns
 returns c =
     let entry = c .before .before .before .before .before .before in
+    let at-shared-slice-known = c .before .before .before .before .before in
     let at-read-lone = c .before .before .before in
     let args = entry .args in
-    deliver-handed (args .result .now) (c .as-written .result) (c .as-written .ensures ∙ ap loneOf (c .before .enum-told2 .given .1)) (shape-told (λ s. recorded (rowShape s)) (args .a .now) _ (at-read-lone .read-lone .ensures) (c .before .enum-told2 .given .1))
+    let known : OneRead (args .a .now) (at-read-lone .read-lone .result) =
+    record { small = λ i. omega (arith, at-shared-slice-known .shared-slice-known .given i); reads = at-read-lone .read-lone .ensures } in
+    deliver-handed (args .result .now) (c .as-written .result) (c .as-written .ensures ∙ ap loneOf (c .before .enum-told2 .given .1))
+    (shape-told (λ s. recorded (rowShape s)) known (c .before .enum-told2 .given .1))
 
 -- src/bytes.rt:57:26
 shape-at-requires : tie.Need-shape-at-requires
@@ -47,7 +50,9 @@ shape-at-requires c κs =
     let entry = c .before .before .before .before .before in
     let at-shared-slice-known = c .before .before .before .before in
     let at-read-lone = c .before .before in
-    (maxDepth, shape-there (λ s. recorded (rowShape s)) (entry .args .a .now) _ (at-read-lone .read-lone .ensures) (λ i. omega (arith, at-shared-slice-known .shared-slice-known .given i)) (c .enum-told .given .1))
+    let known : OneRead (entry .args .a .now) (at-read-lone .read-lone .result) =
+    record { small = λ i. omega (arith, at-shared-slice-known .shared-slice-known .given i); reads = at-read-lone .read-lone .ensures } in
+    shape-there (λ s. recorded (rowShape s)) known (c .enum-told .given .1)
 
 -- src/bytes.rt:57:17
 into-row-requires : tie.Need-into-row-requires
@@ -72,7 +77,12 @@ returns-2 c =
     let at-into-row = c .before .before .before .before in
     let at-write-shape = c .before .before in
     let args = entry .args in
-    at-write-shape .write-shape .ensures ∙ ap (λ o. deliver o (args .result .now)) (shape-is (λ s. recorded (rowShape s)) (args .a .now) _ (at-read-lone .read-lone .ensures) (λ i. omega (arith, at-shared-slice-known .shared-slice-known .given i)) (at-enum-told .enum-told .given .1) (λ d t h. ap recorded (at-into-row .into-row .ensures ∙ ap rowShape (at-shape-at .shape-at .ensures d t h))))
+    let known : OneRead (args .a .now) (at-read-lone .read-lone .result) =
+    record { small = λ i. omega (arith, at-shared-slice-known .shared-slice-known .given i); reads = at-read-lone .read-lone .ensures } in
+    at-write-shape .write-shape .ensures
+    ∙ ap (λ o. deliver o (args .result .now))
+    (shape-is (λ s. recorded (rowShape s)) known (at-enum-told .enum-told .given .1)
+    (λ d t h. ap recorded (at-into-row .into-row .ensures ∙ ap rowShape (at-shape-at .shape-at .ensures d t h))))
 
 pub row-shape-spec : {M : Type 1} → statement M
 row-shape-spec =

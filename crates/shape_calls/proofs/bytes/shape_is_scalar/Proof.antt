@@ -1,11 +1,10 @@
 use native.Mathlib.Omega.{arith}
 use mathlib.Core.Bool.{true}
 use mathlib.Core.Path.{sym, ap, _∙_}
-use Rattle.model.specs.Limits.{maxDepth}
 use Rattle.format.specs.Outcome.{accepted, mapped}
 use Rattle.record.specs.Answers.{loneOf}
 use Rattle.rules.specs.Shapes.{isScalar}
-use Rattle.shape_calls.proofs.CallLaws.{shape-told, shape-there, shape-is}
+use Rattle.shape_calls.proofs.CallLaws.{OneRead, shape-told, shape-there, shape-is}
 use borrow.Author.Needs.{needs}
 use Rattle.shape_calls.proofs.bytes.shape_is_scalar.Statement.{statement}
 use Rattle.shape_calls.proofs.bytes.shape_is_scalar.Tie as tie
@@ -36,8 +35,11 @@ as-tested-requires c κs = search needs
 returns : tie.Need-returns
 returns c =
     let entry = c .before .before .before .before .before in
+    let at-shared-slice-known = c .before .before .before .before in
     let at-read-lone = c .before .before .before in
-    c .as-tested .ensures ∙ ap (mapped (λ _. true)) (ap loneOf (c .before .enum-told2 .given .1)) ∙ sym (shape-told (λ s. accepted (isScalar s)) (entry .args .a .now) _ (at-read-lone .read-lone .ensures) (c .before .enum-told2 .given .1))
+    let known : OneRead (entry .args .a .now) (at-read-lone .read-lone .result) =
+    record { small = λ i. omega (arith, at-shared-slice-known .shared-slice-known .given i); reads = at-read-lone .read-lone .ensures } in
+    c .as-tested .ensures ∙ ap (mapped (λ _. true)) (ap loneOf (c .before .enum-told2 .given .1)) ∙ sym (shape-told (λ s. accepted (isScalar s)) known (c .before .enum-told2 .given .1))
 
 -- src/bytes.rt:87:20
 shape-at-requires : tie.Need-shape-at-requires
@@ -45,7 +47,9 @@ shape-at-requires c κs =
     let entry = c .before .before .before .before in
     let at-shared-slice-known = c .before .before .before in
     let at-read-lone = c .before .before in
-    (maxDepth, shape-there (λ s. accepted (isScalar s)) (entry .args .a .now) _ (at-read-lone .read-lone .ensures) (λ i. omega (arith, at-shared-slice-known .shared-slice-known .given i)) (c .enum-told .given .1))
+    let known : OneRead (entry .args .a .now) (at-read-lone .read-lone .result) =
+    record { small = λ i. omega (arith, at-shared-slice-known .shared-slice-known .given i); reads = at-read-lone .read-lone .ensures } in
+    shape-there (λ s. accepted (isScalar s)) known (c .enum-told .given .1)
 
 -- src/bytes.rt:87:10
 is-scalar-requires : tie.Need-is-scalar-requires
@@ -63,7 +67,10 @@ returns-2 c =
     let at-read-lone = c .before .before .before .before .before in
     let at-enum-told = c .before .before .before in
     let at-shape-at = c .before .before in
-    shape-is (λ s. accepted (isScalar s)) (entry .args .a .now) _ (at-read-lone .read-lone .ensures) (λ i. omega (arith, at-shared-slice-known .shared-slice-known .given i)) (at-enum-told .enum-told .given .1) (λ d t h. c .tell .ensures ∙ ap accepted (c .before .is-scalar .ensures ∙ ap isScalar (at-shape-at .shape-at .ensures d t h)))
+    let known : OneRead (entry .args .a .now) (at-read-lone .read-lone .result) =
+    record { small = λ i. omega (arith, at-shared-slice-known .shared-slice-known .given i); reads = at-read-lone .read-lone .ensures } in
+    shape-is (λ s. accepted (isScalar s)) known (at-enum-told .enum-told .given .1)
+    (λ d t h. c .tell .ensures ∙ ap accepted (c .before .is-scalar .ensures ∙ ap isScalar (at-shape-at .shape-at .ensures d t h)))
 
 pub shape-is-scalar-spec : {M : Type 1} → statement M
 shape-is-scalar-spec =

@@ -1,10 +1,9 @@
 use native.Mathlib.Omega.{arith}
 use mathlib.Core.Path.{sym, ap, _∙_}
-use Rattle.model.specs.Limits.{maxDepth}
 use Rattle.format.specs.Outcome.{accepted}
 use Rattle.record.specs.Answers.{loneOf}
 use Rattle.rules.specs.Shapes.{rank}
-use Rattle.shape_calls.proofs.CallLaws.{shape-told, shape-there, shape-is}
+use Rattle.shape_calls.proofs.CallLaws.{OneRead, shape-told, shape-there, shape-is}
 use borrow.Author.Needs.{needs}
 use Rattle.shape_calls.proofs.bytes.shape_rank.Statement.{statement}
 use Rattle.shape_calls.proofs.bytes.shape_rank.Tie as tie
@@ -34,8 +33,11 @@ as-counted-requires c κs = search needs
 returns : tie.Need-returns
 returns c =
     let entry = c .before .before .before .before .before in
+    let at-shared-slice-known = c .before .before .before .before in
     let at-read-lone = c .before .before .before in
-    c .as-counted .ensures .0 ∙ ap loneOf (c .before .enum-told2 .given .1) ∙ sym (shape-told (λ s. accepted (rank s)) (entry .args .a .now) _ (at-read-lone .read-lone .ensures) (c .before .enum-told2 .given .1))
+    let known : OneRead (entry .args .a .now) (at-read-lone .read-lone .result) =
+    record { small = λ i. omega (arith, at-shared-slice-known .shared-slice-known .given i); reads = at-read-lone .read-lone .ensures } in
+    c .as-counted .ensures .0 ∙ ap loneOf (c .before .enum-told2 .given .1) ∙ sym (shape-told (λ s. accepted (rank s)) known (c .before .enum-told2 .given .1))
 
 -- src/bytes.rt:107:25
 shape-at-requires : tie.Need-shape-at-requires
@@ -43,7 +45,9 @@ shape-at-requires c κs =
     let entry = c .before .before .before .before in
     let at-shared-slice-known = c .before .before .before in
     let at-read-lone = c .before .before in
-    (maxDepth, shape-there (λ s. accepted (rank s)) (entry .args .a .now) _ (at-read-lone .read-lone .ensures) (λ i. omega (arith, at-shared-slice-known .shared-slice-known .given i)) (c .enum-told .given .1))
+    let known : OneRead (entry .args .a .now) (at-read-lone .read-lone .result) =
+    record { small = λ i. omega (arith, at-shared-slice-known .shared-slice-known .given i); reads = at-read-lone .read-lone .ensures } in
+    shape-there (λ s. accepted (rank s)) known (c .enum-told .given .1)
 
 -- src/bytes.rt:107:20
 rank-requires : tie.Need-rank-requires
@@ -56,7 +60,9 @@ returns-2 c =
     let at-shared-slice-known = c .before .before .before .before .before in
     let at-read-lone = c .before .before .before .before in
     let at-enum-told = c .before .before in
-    shape-is (λ s. accepted (rank s)) (entry .args .a .now) _ (at-read-lone .read-lone .ensures) (λ i. omega (arith, at-shared-slice-known .shared-slice-known .given i)) (at-enum-told .enum-told .given .1) (λ d t h. ap accepted (c .rank .ensures .0 ∙ ap rank (c .before .shape-at .ensures d t h)))
+    let known : OneRead (entry .args .a .now) (at-read-lone .read-lone .result) =
+    record { small = λ i. omega (arith, at-shared-slice-known .shared-slice-known .given i); reads = at-read-lone .read-lone .ensures } in
+    shape-is (λ s. accepted (rank s)) known (at-enum-told .enum-told .given .1) (λ d t h. ap accepted (c .rank .ensures .0 ∙ ap rank (c .before .shape-at .ensures d t h)))
 
 pub shape-rank-spec : {M : Type 1} → statement M
 shape-rank-spec =

@@ -35,7 +35,8 @@ returns-2 c =
     let at-judge-sizes = c .before .before .before .before in
     let at-enum-told = c .before .before in
     let args = entry .args in
-    c .tell .ensures ∙ (ap accepted (c .before .compatible .ensures) ∙ sym (sizes-passed (args .a) (args .b) compatible (sym (at-judge-sizes .judge-sizes .ensures) ∙ ap judgedOf (at-enum-told .enum-told .given .1))))
+    c .tell .ensures ∙ (ap accepted (c .before .compatible .ensures)
+    ∙ sym (sizes-passed (args .a) (args .b) compatible (sym (at-judge-sizes .judge-sizes .ensures) ∙ ap judgedOf (at-enum-told .enum-told .given .1))))
 
 pub dim-compatible-spec : {M : Type 1} → statement M
 dim-compatible-spec =

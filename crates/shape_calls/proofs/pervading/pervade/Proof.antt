@@ -1,13 +1,12 @@
 use native.Mathlib.Omega.{arith}
 use mathlib.Core.Path.{sym, ap, _∙_}
-use Rattle.model.specs.Limits.{maxDepth}
 use Rattle.format.specs.Outcome.{deliver}
 use Rattle.lent.specs.Delivers.{deliver-refused, deliver-handed}
 use Rattle.record.specs.Answers.{loneOf, shapeFor}
 use Rattle.rules.specs.Pervade as rules
 use Rattle.shape.specs.Answers.{shapeBeside}
 use Rattle.shape_calls.specs.Calls.{pervaded}
-use Rattle.shape_calls.proofs.CallLaws.{shapes-told, shapes-there, shapes-are}
+use Rattle.shape_calls.proofs.CallLaws.{TwoRead, two-read, shapes-told, first-there, second-there, shapes-are}
 use borrow.Author.Needs.{needs}
 use Rattle.shape_calls.proofs.pervading.pervade.Statement.{statement}
 use Rattle.shape_calls.proofs.pervading.pervade.Tie as tie
@@ -43,10 +42,16 @@ as-written-requires c κs = search needs
 returns : tie.Need-returns
 returns c =
     let entry = c .before .before .before .before .before .before .before .before in
+    let at-shared-slice-known = c .before .before .before .before .before .before .before in
+    let at-shared-slice-known2 = c .before .before .before .before .before .before in
     let at-read-two = c .before .before .before .before in
     let at-whichever = c .before .before .before in
     let args = entry .args in
-    deliver-handed (args .result .now) (c .as-written .result) (c .as-written .ensures ∙ ap loneOf (c .before .enum-told2 .given .1)) (shapes-told (λ s t. pervaded (rules.pervade (args .fill-a) (args .fill-b) s t)) (args .a .now) (args .b .now) (at-read-two .read-two .result) (at-read-two .read-two .ensures) (at-whichever .whichever .result) (at-whichever .whichever .ensures) (c .before .enum-told2 .given .1))
+    let known : TwoRead (args .a .now) (args .b .now) (at-whichever .whichever .result) =
+    two-read (λ i. omega (arith, at-shared-slice-known .shared-slice-known .given i)) (λ i. omega (arith, at-shared-slice-known2 .shared-slice-known2 .given i))
+    (at-read-two .read-two .result) (at-read-two .read-two .ensures) (at-whichever .whichever .result) (at-whichever .whichever .ensures) in
+    deliver-handed (args .result .now) (c .as-written .result) (c .as-written .ensures ∙ ap loneOf (c .before .enum-told2 .given .1))
+    (shapes-told (λ s t. pervaded (rules.pervade (args .fill-a) (args .fill-b) s t)) known (c .before .enum-told2 .given .1))
 
 -- src/pervading.rt:25:39
 shape-at-requires : tie.Need-shape-at-requires
@@ -57,7 +62,10 @@ shape-at-requires c κs =
     let at-read-two = c .before .before .before in
     let at-whichever = c .before .before in
     let args = entry .args in
-    (maxDepth, shapes-there (λ s t. pervaded (rules.pervade (args .fill-a) (args .fill-b) s t)) (args .a .now) (args .b .now) (at-read-two .read-two .result) (at-read-two .read-two .ensures) (at-whichever .whichever .result) (at-whichever .whichever .ensures) (λ i. omega (arith, at-shared-slice-known .shared-slice-known .given i)) (λ i. omega (arith, at-shared-slice-known2 .shared-slice-known2 .given i)) (c .enum-told .given .1) .0)
+    let known : TwoRead (args .a .now) (args .b .now) (at-whichever .whichever .result) =
+    two-read (λ i. omega (arith, at-shared-slice-known .shared-slice-known .given i)) (λ i. omega (arith, at-shared-slice-known2 .shared-slice-known2 .given i))
+    (at-read-two .read-two .result) (at-read-two .read-two .ensures) (at-whichever .whichever .result) (at-whichever .whichever .ensures) in
+    first-there (λ s t. pervaded (rules.pervade (args .fill-a) (args .fill-b) s t)) known (c .enum-told .given .1)
 
 -- src/pervading.rt:25:55
 shape-at-requires-2 : tie.Need-shape-at-requires-2
@@ -68,7 +76,10 @@ shape-at-requires-2 c κs =
     let at-read-two = c .before .before .before .before in
     let at-whichever = c .before .before .before in
     let args = entry .args in
-    (maxDepth, shapes-there (λ s t. pervaded (rules.pervade (args .fill-a) (args .fill-b) s t)) (args .a .now) (args .b .now) (at-read-two .read-two .result) (at-read-two .read-two .ensures) (at-whichever .whichever .result) (at-whichever .whichever .ensures) (λ i. omega (arith, at-shared-slice-known .shared-slice-known .given i)) (λ i. omega (arith, at-shared-slice-known2 .shared-slice-known2 .given i)) (c .before .enum-told .given .1) .1)
+    let known : TwoRead (args .a .now) (args .b .now) (at-whichever .whichever .result) =
+    two-read (λ i. omega (arith, at-shared-slice-known .shared-slice-known .given i)) (λ i. omega (arith, at-shared-slice-known2 .shared-slice-known2 .given i))
+    (at-read-two .read-two .result) (at-read-two .read-two .ensures) (at-whichever .whichever .result) (at-whichever .whichever .ensures) in
+    second-there (λ s t. pervaded (rules.pervade (args .fill-a) (args .fill-b) s t)) known (c .before .enum-told .given .1)
 
 -- src/pervading.rt:25:9
 pervade-dyn-shapes-requires : tie.Need-pervade-dyn-shapes-requires
@@ -91,7 +102,14 @@ returns-2 c =
     let at-shape-at2 = c .before .before .before in
     let at-pervade-dyn-shapes = c .before .before in
     let args = entry .args in
-    sym (deliver-refused (args .result .now) (shapes-are (λ s t. pervaded (rules.pervade (args .fill-a) (args .fill-b) s t)) (args .a .now) (args .b .now) (at-read-two .read-two .result) (at-read-two .read-two .ensures) (at-whichever .whichever .result) (at-whichever .whichever .ensures) (λ i. omega (arith, at-shared-slice-known .shared-slice-known .given i)) (λ i. omega (arith, at-shared-slice-known2 .shared-slice-known2 .given i)) (at-enum-told .enum-told .given .1) (at-shape-at .shape-at .result) (at-shape-at2 .shape-at2 .result) (at-shape-at .shape-at .ensures) (at-shape-at2 .shape-at2 .ensures) ∙ sym (ap pervaded (sym (ap (λ v. shapeBeside v (shapeFor (at-pervade-dyn-shapes .pervade-dyn-shapes .result .shape))) (c .enum-told3 .given .1)) ∙ at-pervade-dyn-shapes .pervade-dyn-shapes .ensures))))
+    let known : TwoRead (args .a .now) (args .b .now) (at-whichever .whichever .result) =
+    two-read (λ i. omega (arith, at-shared-slice-known .shared-slice-known .given i)) (λ i. omega (arith, at-shared-slice-known2 .shared-slice-known2 .given i))
+    (at-read-two .read-two .result) (at-read-two .read-two .ensures) (at-whichever .whichever .result) (at-whichever .whichever .ensures) in
+    sym (deliver-refused (args .result .now)
+    (shapes-are (λ s t. pervaded (rules.pervade (args .fill-a) (args .fill-b) s t)) known (at-enum-told .enum-told .given .1) (at-shape-at .shape-at .result)
+    (at-shape-at2 .shape-at2 .result) (at-shape-at .shape-at .ensures) (at-shape-at2 .shape-at2 .ensures)
+    ∙ sym (ap pervaded (sym (ap (λ v. shapeBeside v (shapeFor (at-pervade-dyn-shapes .pervade-dyn-shapes .result .shape))) (c .enum-told3 .given .1))
+    ∙ at-pervade-dyn-shapes .pervade-dyn-shapes .ensures))))
 
 enum-told-4 : tie.Need-enum-told-4
 enum-told-4 c = search needs
@@ -119,7 +137,15 @@ returns-3 c =
     let at-enum-told4 = c .before .before .before .before .before in
     let at-write-shape = c .before .before in
     let args = entry .args in
-    at-write-shape .write-shape .ensures ∙ ap (λ o. deliver o (args .result .now)) (ap pervaded (sym (ap (λ v. shapeBeside v (shapeFor (at-pervade-dyn-shapes .pervade-dyn-shapes .result .shape))) (at-enum-told4 .enum-told4 .given .1)) ∙ at-pervade-dyn-shapes .pervade-dyn-shapes .ensures) ∙ sym (shapes-are (λ s t. pervaded (rules.pervade (args .fill-a) (args .fill-b) s t)) (args .a .now) (args .b .now) (at-read-two .read-two .result) (at-read-two .read-two .ensures) (at-whichever .whichever .result) (at-whichever .whichever .ensures) (λ i. omega (arith, at-shared-slice-known .shared-slice-known .given i)) (λ i. omega (arith, at-shared-slice-known2 .shared-slice-known2 .given i)) (at-enum-told .enum-told .given .1) (at-shape-at .shape-at .result) (at-shape-at2 .shape-at2 .result) (at-shape-at .shape-at .ensures) (at-shape-at2 .shape-at2 .ensures)))
+    let known : TwoRead (args .a .now) (args .b .now) (at-whichever .whichever .result) =
+    two-read (λ i. omega (arith, at-shared-slice-known .shared-slice-known .given i)) (λ i. omega (arith, at-shared-slice-known2 .shared-slice-known2 .given i))
+    (at-read-two .read-two .result) (at-read-two .read-two .ensures) (at-whichever .whichever .result) (at-whichever .whichever .ensures) in
+    at-write-shape .write-shape .ensures
+    ∙ ap (λ o. deliver o (args .result .now))
+    (ap pervaded (sym (ap (λ v. shapeBeside v (shapeFor (at-pervade-dyn-shapes .pervade-dyn-shapes .result .shape))) (at-enum-told4 .enum-told4 .given .1))
+    ∙ at-pervade-dyn-shapes .pervade-dyn-shapes .ensures)
+    ∙ sym (shapes-are (λ s t. pervaded (rules.pervade (args .fill-a) (args .fill-b) s t)) known (at-enum-told .enum-told .given .1) (at-shape-at .shape-at .result)
+    (at-shape-at2 .shape-at2 .result) (at-shape-at .shape-at .ensures) (at-shape-at2 .shape-at2 .ensures)))
 
 pub pervade-spec : {M : Type 1} → statement M
 pervade-spec =

@@ -32,7 +32,9 @@ same-length c = search needs
 returns : tie.Need-returns
 returns c =
     let s = c .before .before .before .before .before .before .before .before .before .before in
-    c .before .before .spec-of-number .ensures ∙ ap (λ o. deliver o (s .args .result .now)) (ap (mapped writeTy) (sym (for-number valueSpec (s .args .list .now) (s .args .bytes .now) (c .before .before .before .before .before .v .given .1))))
+    c .before .before .spec-of-number .ensures
+    ∙ ap (λ o. deliver o (s .args .result .now))
+    (ap (mapped writeTy) (sym (for-number valueSpec (s .args .list .now) (s .args .bytes .now) (c .before .before .before .before .before .v .given .1))))
 
 same-length-2 : tie.Need-same-length-2
 same-length-2 c = search needs
@@ -40,7 +42,9 @@ same-length-2 c = search needs
 returns-2 : tie.Need-returns-2
 returns-2 c =
     let s = c .before .before .before .before .before .before .before .before .before in
-    c .before .before .spec-of-list .ensures ∙ ap (λ o. deliver o (s .args .result .now)) (ap (mapped writeTy) (sym (for-list valueSpec (s .args .list .now) (s .args .bytes .now) (c .before .before .before .before .enum-told .given .1))))
+    c .before .before .spec-of-list .ensures
+    ∙ ap (λ o. deliver o (s .args .result .now))
+    (ap (mapped writeTy) (sym (for-list valueSpec (s .args .list .now) (s .args .bytes .now) (c .before .before .before .before .enum-told .given .1))))
 
 same-length-3 : tie.Need-same-length-3
 same-length-3 c = search needs

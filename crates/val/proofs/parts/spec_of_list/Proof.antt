@@ -27,7 +27,10 @@ same-length c = search needs
 returns : tie.Need-returns
 returns c =
     let s = c .before .before .before .before .before .before .before .before .before .before .before in
-    c .before .before .write-closed .ensures ∙ ap (λ o. deliver o (s .args .result .now)) (sym (spec-listed (s .args .list .now) (c .before .before .before .before .before .before .before .before .dims-of .result .list) (c .before .before .before .before .before .before .before .before .dims-of .ensures .0) (c .before .before .before .before .before .before .answer .given .1)))
+    c .before .before .write-closed .ensures
+    ∙ ap (λ o. deliver o (s .args .result .now))
+    (sym (spec-listed (s .args .list .now) (c .before .before .before .before .before .before .before .before .dims-of .result .list)
+    (c .before .before .before .before .before .before .before .before .dims-of .ensures .0) (c .before .before .before .before .before .before .answer .given .1)))
 
 returns-2 : tie.Need-returns-2
 returns-2 c =

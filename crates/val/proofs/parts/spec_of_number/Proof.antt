@@ -30,7 +30,10 @@ same-length c = search needs
 returns : tie.Need-returns
 returns c =
     let s = c .before .before .before .before .before .before .before .before .before .before in
-    c .before .before .write-closed .ensures ∙ ap (λ o. deliver o (s .args .result .now)) (sym (spec-sized (s .args .x) (c .before .before .before .before .before .before .before .before .listed-dim .ensures) (c .before .before .before .before .before .before .n .given .1) (c .before .before .before .before .one-dim .ensures)))
+    c .before .before .write-closed .ensures
+    ∙ ap (λ o. deliver o (s .args .result .now))
+    (sym (spec-sized (s .args .x) (c .before .before .before .before .before .before .before .before .listed-dim .ensures) (c .before .before .before .before .before .before .n .given .1)
+    (c .before .before .before .before .one-dim .ensures)))
 
 returns-2 : tie.Need-returns-2
 returns-2 c =

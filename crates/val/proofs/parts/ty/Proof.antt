@@ -44,7 +44,9 @@ returns c =
     let at-no-dims = c .before .before .before .before in
     let at-write-closed = c .before .before in
     let args = entry .args in
-    at-write-closed .write-closed .ensures ∙ ap (λ o. deliver o (args .result .now)) (sym (ty-number (args .list .now) (args .bytes .now) (at-no-dims .no-dims .result) (at-enum-told .enum-told .given .1) (at-no-dims .no-dims .ensures)))
+    at-write-closed .write-closed .ensures
+    ∙ ap (λ o. deliver o (args .result .now))
+    (sym (ty-number (args .list .now) (args .bytes .now) (at-no-dims .no-dims .result) (at-enum-told .enum-told .given .1) (at-no-dims .no-dims .ensures)))
 
 same-length-2 : tie.Need-same-length-2
 same-length-2 c = search needs

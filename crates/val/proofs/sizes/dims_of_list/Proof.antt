@@ -33,7 +33,8 @@ unfolding valueAsDims
 returns-2 c =
     let at-dims-of = c .before .before .before .before in
     let at-answer2 = c .before .before in
-    ap (λ a. maybeDims a (dimsOf (c .without-dims .result .dims))) (c .without-dims .ensures) ∙ sym (ap (mapped some) (listed-refused (at-dims-of .dims-of .result .list) (at-dims-of .dims-of .ensures .0) (at-answer2 .answer2 .given .1)))
+    ap (λ a. maybeDims a (dimsOf (c .without-dims .result .dims))) (c .without-dims .ensures)
+    ∙ sym (ap (mapped some) (listed-refused (at-dims-of .dims-of .result .list) (at-dims-of .dims-of .ensures .0) (at-answer2 .answer2 .given .1)))
 
 pub dims-of-list-spec : {M : Type 1} → statement M
 dims-of-list-spec =

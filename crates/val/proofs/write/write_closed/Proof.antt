@@ -24,11 +24,8 @@ returns c =
 put-shape-requires : tie.Need-put-shape-requires
 put-shape-requires c κs = search needs
 
-put-kind-requires : tie.Need-put-kind-requires
-put-kind-requires c κs = search needs
-
-add-t8 : tie.Need-add-t8
-add-t8 c = search needs
+put-plain-requires : tie.Need-put-plain-requires
+put-plain-requires c κs = search needs
 
 same-length : tie.Need-same-length
 same-length c = search needs
@@ -36,7 +33,13 @@ same-length c = search needs
 returns-2 : tie.Need-returns-2
 returns-2 c =
     let s = c .before .before .before .before .before .before .before .before .before .before .before .before in
-    deliver-wrote _ refl (omega (arith, c .before .before .before .before .before .before .before .before .before .shape-length .ensures .0, length-closed (dimsOf (s .args .dims)) (s .args .kind))) (omega (arith, c .before .before .before .before .before .before .before .before .before .shape-length .ensures .0, length-closed (dimsOf (s .args .dims)) (s .args .kind))) (lay-closed (dimsOf (s .args .dims)) (s .args .kind) _ (c .before .before .before .before .before .before .before .before .before .shape-length .ensures .0) (c .before .before .before .before .before .before .before .before .if1 .left) (c .before .before .before .before .before .before .put-shape .ensures .1) (c .before .before .put-kind .ensures))
+    let long = c .before .before .before .before .before .before .before .before .before .shape-length .ensures .0 in
+    let room = c .before .before .before .before .before .before .before .before .if1 .left in
+    let shaped = c .before .before .before .before .before .before .put-shape .ensures .1 in
+    let whole = length-closed (dimsOf (s .args .dims)) (s .args .kind) in
+    let placed = c .before .before .put-plain .ensures in
+    deliver-wrote _ refl (omega (arith, long, whole, room)) (omega (arith, long, whole, placed .0))
+    (lay-closed (dimsOf (s .args .dims)) (s .args .kind) _ long room shaped (placed .1))
 
 pub write-closed-spec : {M : Type 1} → statement M
 write-closed-spec =
@@ -47,7 +50,6 @@ write-closed-spec =
     add-if1
     returns
     put-shape-requires
-    put-kind-requires
-    add-t8
+    put-plain-requires
     same-length
     returns-2)

@@ -79,7 +79,12 @@ by-content : (k l : Scalar) (o p : Shape) (m n : Scalar) → k ≡ boxAll o m �
 unfolding compatibleWithBoxes
 by-content k l o p m n e f = rw (e, f)
 
-united-content : (r : United) (k l : Scalar) (o p : Shape) (m n : Scalar) → k ≡ boxAll o m → l ≡ boxAll p n → unitedOf r (boxAll o m) (boxAll p n) ≡ cond (compatibleContents (ty o m) (ty p n)) (boxOf (laterTy (ty o m) (ty p n))) boxAny → unitedOf r k l ≡ union k l
+united-content :
+    (r : United) (k l : Scalar) (o p : Shape) (m n : Scalar) →
+    k ≡ boxAll o m →
+    l ≡ boxAll p n →
+    unitedOf r (boxAll o m) (boxAll p n) ≡ cond (compatibleContents (ty o m) (ty p n)) (boxOf (laterTy (ty o m) (ty p n))) boxAny →
+    unitedOf r k l ≡ union k l
 unfolding union
 united-content r k l o p m n e f g = rw (e, f) g
 

@@ -131,7 +131,14 @@ module _ (out : List ℕ) (at d : ℕ) where
   abbrev pub Done : Scalar → ℕ → List ℕ → Type 0
   Done k r after = (r ≡ at + length (writeScalar k)) × (after ≡ over out at (writeScalar (unrefine k)))
 
-  all-done : (o : Shape) (l : Scalar) → ScalarAt out at d (boxAll o l) → {content r : ℕ} {after : List ℕ} → content ≡ at + length (boxStart 1) → r ≡ content + length (writeTy (ty o l)) → after ≡ over out content (writeTy (unrefineTy (ty o l))) → Done (boxAll o l) r after
+  all-done :
+      (o : Shape) (l : Scalar) →
+      ScalarAt out at d (boxAll o l) →
+      {content r : ℕ} {after : List ℕ} →
+      content ≡ at + length (boxStart 1) →
+      r ≡ content + length (writeTy (ty o l)) →
+      after ≡ over out content (writeTy (unrefineTy (ty o l))) →
+      Done (boxAll o l) r after
   unfolding writeScalar writeTy unrefine
   all-done o l h place ends laid =
       (ends ∙ omega arith, laid ∙ (ap (λ p. over out p (writeShape o ++ writeScalar (unrefine l))) place ∙ over-behind out at (boxStart 1) (writeShape o ++ writeScalar l) (writeShape o ++ writeScalar (unrefine l)) (h .stands)))
@@ -181,7 +188,12 @@ module _ (out : List ℕ) (at d : ℕ) where
       pub all-there : HasScalar out at d → HasType out content d
       all-there has = let x = seen out at d looked e (has .scalar) (has .there) in record { type = ty (x .shape) (x .scalar); there = x .there }
 
-      pub unrefine-all : {r : ℕ} {after : List ℕ} → ((t : Ty) → TypeAt out content d t → (r ≡ content + length (writeTy t)) × (after ≡ over out content (writeTy (unrefineTy t)))) → (k : Scalar) → ScalarAt out at d k → Done k r after
+      pub unrefine-all :
+          {r : ℕ} {after : List ℕ} →
+          ((t : Ty) → TypeAt out content d t → (r ≡ content + length (writeTy t)) × (after ≡ over out content (writeTy (unrefineTy t)))) →
+          (k : Scalar) →
+          ScalarAt out at d k →
+          Done k r after
       unrefine-all {r} {after} call k h =
           let x = seen out at d looked e k h in
           let (ends, laid) = call (ty (x .shape) (x .scalar)) (x .there) in
@@ -296,7 +308,7 @@ module _ (s : List ℕ) (small : Bytes s) (good : mapped nothing (lone s) ≡ ac
     pub laid-scalar : HasScalar laid 0 (maxDepth - 1)
     laid-scalar = whole λ k h e is long. record { scalar = k; there = laid-there k h e long }
 
-    pub whole-wrote : {r : ℕ} {after : List ℕ} → ((k : Scalar) → ScalarAt laid 0 (maxDepth - 1) k → (r ≡ 0 + length (writeScalar k)) × (after ≡ over laid 0 (writeScalar (unrefine k)))) → delivery (accepted (length s - i)) after ≡ deliver UnrefinedBytes buffer
+    pub whole-wrote : {r : ℕ} {after : List ℕ} → ((k : Scalar) → ScalarAt laid 0 (maxDepth - 1) k → Done laid 0 (maxDepth - 1) k r after) → delivery (accepted (length s - i)) after ≡ deliver UnrefinedBytes buffer
     whole-wrote call =
         whole λ k h e is long.
         let twice = ap (λ x. over x 0 (writeScalar (unrefine k))) (laid-is k e) ∙ over-twice buffer (writeScalar k) (writeScalar (unrefine k)) (sym (unrefine-length k)) in

@@ -128,7 +128,8 @@ returns-2 c =
     let small′ : Bytes (args .b .now) = λ i. omega (arith, at-shared-slice-known2 .shared-slice-known2 .given i) in
     let read = both-read (lone (args .a .now)) (lone (args .b .now)) (at-read-two .read-two .result) (at-read-two .read-two .ensures) (at-whichever .whichever .result) (at-whichever .whichever .ensures) in
     let good = sym read ∙ ap loneOf (at-enum-told .enum-told .given .1) in
-    c .tell .ensures ∙ compatible-is (args .a .now) (args .b .now) good small small′ (at-scalar-at .scalar-at .ensures) (at-scalar-at2 .scalar-at2 .ensures) (at-kind-at .kind-at .ensures) (at-kind-at2 .kind-at2 .ensures) (c .before .compatible-codes .ensures)
+    c .tell .ensures ∙ compatible-is (args .a .now) (args .b .now) good small small′ (at-scalar-at .scalar-at .ensures) (at-scalar-at2 .scalar-at2 .ensures)
+    (at-kind-at .kind-at .ensures) (at-kind-at2 .kind-at2 .ensures) (c .before .compatible-codes .ensures)
 
 pub compatible-scalars-spec : {M : Type 1} → statement M
 compatible-scalars-spec =

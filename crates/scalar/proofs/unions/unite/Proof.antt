@@ -60,7 +60,8 @@ returns c =
     let at-inner-at2 = c .before .before .before .before in
     let at-other = c .before .before in
     let args = entry .args in
-    all-united (args .a .now) (args .i) (args .b .now) (args .j) (args .depth) (at-inner-at .inner-at .ensures) (at-inner-at2 .inner-at2 .ensures) (at-content .content .given .1) (at-other .other .given .1) (c .unite-contents .result) (c .unite-contents .ensures)
+    all-united (args .a .now) (args .i) (args .b .now) (args .j) (args .depth) (at-inner-at .inner-at .ensures) (at-inner-at2 .inner-at2 .ensures)
+    (at-content .content .given .1) (at-other .other .given .1) (c .unite-contents .result) (c .unite-contents .ensures)
 
 returns-2 : tie.Need-returns-2
 returns-2 c =

@@ -1,41 +1,62 @@
--- Which of four records the union of two types' scalars is, behind a shape's.
-use Prim.Native.Nat.{ℕ, _-_, _≤_}
+-- What the join of two types lays down: which of four records the union of their scalars is, behind a shape's; and the join by its scalars.
+use Prim.Native.Nat.{ℕ, _-_}
 use mathlib.Core.List.{List, [], _++_}
 use mathlib.Core.Path.{_≡_, sym, _∙_, ap}
-use lib.ListN.{length, drop}
+use lib.ListN.{length, take, drop}
 use Rattle.model.specs.Limits.{maxDepth}
-use Rattle.model.specs.Types.{any, Shape, Scalar, plain, boxAny, ty}
+use Rattle.model.specs.Types.{any, Shape, Scalar, plain, boxAny, Ty, ty, shapeOf}
 use Rattle.format.specs.Reader.{Bytes}
 use Rattle.format.specs.Records.{writeShape, writeScalar, writeTy}
-use Rattle.format.specs.Outcome.{Outcome, accepted, mapped, both, lone, scalarRecord}
-use Rattle.record.specs.Answers.{nothings}
+use Rattle.format.specs.Outcome.{Outcome, accepted, both, lone}
+use Rattle.format.specs.Views.{rest-is}
+use Rattle.record.specs.Answers.{nothings, shapeFor}
+use Rattle.record.specs.declared.DynShape.{DynShape}
+use Rattle.rules.specs.Shapes.{joinShapes}
 use Rattle.rules.specs.Scalars.{union}
-use Rattle.walk.specs.At.{ScalarAt}
-use Rattle.walk.specs.Whole.{ofScalars}
-use Rattle.walk.specs.WholeLaws.{records-there}
+use Rattle.rules.specs.Types.{joinTypes}
+use Rattle.known.specs.Known.{TypeAt, ScalarAt}
+use Rattle.known.specs.Whole.{ofScalars}
+use Rattle.known.specs.WholeLaws.{Begins, first-good, second-good, whole-shape, records-there}
 use Rattle.scalar.specs.Calls.{unitedOf}
 use Rattle.scalar.specs.declared.United.{United}
 use Rattle.scalar.specs.declared.United.the-variants.{First, Second, BoxAny, Any}
+use Rattle.join.specs.Calls.{joinCall}
+use Rattle.join.specs.ShapesLaws.{by-scalars}
 
-module _ (s : Shape) (a b : List ℕ) (good : both nothings (lone a) (lone b) ≡ accepted 0) (small : Bytes a) (small′ : Bytes b) {i j : ℕ} (first : (mapped scalarRecord (lone a) ≡ accepted (drop i a)) × (i ≤ length a)) (second : (mapped scalarRecord (lone b) ≡ accepted (drop j b)) × (j ≤ length b)) where
-  module _ (r : United) (call : (k l : Scalar) → ScalarAt a i (maxDepth - 1) k → ScalarAt b j (maxDepth - 1) l → unitedOf r k l ≡ union k l) where
-    abbrev Record : Outcome (List ℕ)
-    Record = ofScalars (λ k l. writeTy (ty s (union k l))) a b
+module _ (a b : List ℕ) (good : both nothings (lone a) (lone b) ≡ accepted 0) (small : Bytes a) (small′ : Bytes b) where
+  -- the join of two types whose shapes are o and p
+  pub joined :
+      (o p : DynShape) →
+      ((d : ℕ) (t : Ty) → TypeAt a 0 d t → shapeFor o ≡ shapeOf t) →
+      ((d : ℕ) (t : Ty) → TypeAt b 0 d t → shapeFor p ≡ shapeOf t) →
+      (s : Shape) →
+      s ≡ joinShapes (shapeFor o) (shapeFor p) →
+      joinCall a b ≡ ofScalars (λ k l. writeTy (ty s (union k l))) a b
+  unfolding joinTypes
+  joined o p one two s is =
+      let first = whole-shape a small (first-good a b good) o one in
+      let second = whole-shape b small′ (second-good a b good) p two in
+      by-scalars (lone a) (lone b) first second (λ t u. accepted (writeTy (joinTypes t u))) (λ k l. accepted (writeTy (ty s (union k l)))) (λ k l. ap (λ r. accepted (writeTy (ty r (union k l)))) (sym is))
 
-    united-is : (w : List ℕ) → ((k l : Scalar) → drop i a ≡ writeScalar k → drop j b ≡ writeScalar l → w ≡ writeScalar (unitedOf r k l)) → accepted (writeShape s ++ ([] ++ w)) ≡ Record
-    unfolding writeTy
-    united-is w e =
-        records-there a b good small small′ first second (λ k l. writeTy (ty s (union k l))) λ k l h g u v is.
-        ap (λ x. accepted (writeShape s ++ x)) (e k l u v ∙ ap writeScalar (call k l h g)) ∙ sym is
+  module _ (s : Shape) {i j : ℕ} (first : Begins a i) (second : Begins b j) where
+    module _ (r : United) (call : (k l : Scalar) → ScalarAt a i (maxDepth - 1) k → ScalarAt b j (maxDepth - 1) l → unitedOf r k l ≡ union k l) where
+      abbrev UnionBehind : Outcome (List ℕ)
+      UnionBehind = ofScalars (λ k l. writeTy (ty s (union k l))) a b
 
-    pub union-first : r ≡ First → accepted (writeShape s ++ ([] ++ drop i a)) ≡ Record
-    union-first e = united-is (drop i a) (λ k l u v. u ∙ rw e)
+      united-is : (w : List ℕ) → ((k l : Scalar) → drop i a ≡ writeScalar k → drop j b ≡ writeScalar l → w ≡ writeScalar (unitedOf r k l)) → UnionBehind ≡ accepted (writeShape s ++ ([] ++ w))
+      unfolding writeTy
+      united-is w e =
+          records-there a b good small small′ first second (λ k l. writeTy (ty s (union k l))) λ k l h g u v is.
+          is ∙ sym (ap (λ x. accepted (writeShape s ++ x)) (e k l u v ∙ ap writeScalar (call k l h g)))
 
-    pub union-second : r ≡ Second → accepted (writeShape s ++ ([] ++ drop j b)) ≡ Record
-    union-second e = united-is (drop j b) (λ k l u v. v ∙ rw e)
+      pub union-first : r ≡ First → UnionBehind ≡ accepted (writeShape s ++ ([] ++ take (length a - i) (drop i a)))
+      union-first e = united-is (take (length a - i) (drop i a)) (λ k l u v. rest-is a i ∙ (u ∙ rw e))
 
-    pub union-box-any : r ≡ BoxAny → accepted (writeShape s ++ ([] ++ writeScalar boxAny)) ≡ Record
-    union-box-any e = united-is (writeScalar boxAny) (λ k l u v. rw e)
+      pub union-second : r ≡ Second → UnionBehind ≡ accepted (writeShape s ++ ([] ++ take (length b - j) (drop j b)))
+      union-second e = united-is (take (length b - j) (drop j b)) (λ k l u v. rest-is b j ∙ (v ∙ rw e))
 
-    pub union-any : r ≡ Any → accepted (writeShape s ++ ([] ++ writeScalar (plain any))) ≡ Record
-    union-any e = united-is (writeScalar (plain any)) (λ k l u v. rw e)
+      pub union-box-any : r ≡ BoxAny → UnionBehind ≡ accepted (writeShape s ++ ([] ++ writeScalar boxAny))
+      union-box-any e = united-is (writeScalar boxAny) (λ k l u v. rw e)
+
+      pub union-any : r ≡ Any → UnionBehind ≡ accepted (writeShape s ++ ([] ++ writeScalar (plain any)))
+      union-any e = united-is (writeScalar (plain any)) (λ k l u v. rw e)

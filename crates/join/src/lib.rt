@@ -1,13 +1,14 @@
 // The join of two types: the join of their shapes with the union of their scalars.
+use known::scalar_at;
+use known::shape_at;
 use lent::Written;
 use limits::MAX_DEPTH;
 use limits::records::ANY_SCALAR;
 use limits::records::BOX_ANY_SCALAR;
 use record::DynShape;
 use record::Lone;
-use record::lone_scalar;
-use record::lone_shape;
-use record::read_both;
+use record::read_two;
+use record::whichever;
 use scalar::United;
 use scalar::unite;
 use shape::join as join_shapes;
@@ -20,13 +21,13 @@ ghost use Rattle.format.specs.Outcome.{accepted, deliver, both, lone};
 ghost use Rattle.lent.specs.Written.{delivered};
 ghost use Rattle.record.specs.Answers.{nothings, shapeFor};
 ghost use Rattle.rules.specs.Scalars.{union};
-ghost use Rattle.walk.specs.Whole.{ofScalars};
+ghost use Rattle.known.specs.Whole.{ofScalars};
 ghost use Rattle.join.specs.Calls.{joinCall};
 
 pub fn join(a: &[u8], b: &[u8], result: &mut [u8]) -> Written
     ensures { λ r. ⌜ delivered r (now (result .exit)) ≡ deliver (joinCall (now (a .entry)) (now (b .entry))) (now (result .entry)) ⌝ }
 {
-    let read = read_both(a, b);
+    let read = whichever(read_two(a, b));
     let Lone::Accepted = read else {
         return as_written(read);
     };
@@ -38,7 +39,7 @@ pub fn join_known(a: &[u8], b: &[u8], result: &mut [u8]) -> Written
     requires { ⌜ both nothings (lone (now a)) (lone (now b)) ≡ accepted 0 ⌝ }
     ensures { λ r. ⌜ delivered r (now (result .exit)) ≡ deliver (joinCall (now (a .entry)) (now (b .entry))) (now (result .entry)) ⌝ }
 {
-    let shape = join_shapes(lone_shape(a), lone_shape(b));
+    let shape = join_shapes(shape_at(a, 0), shape_at(b, 0));
     write_union(shape, a, b, &mut *result)
 }
 
@@ -47,8 +48,8 @@ pub fn write_union(shape: DynShape, a: &[u8], b: &[u8], result: &mut [u8]) -> Wr
     requires { ⌜ both nothings (lone (now a)) (lone (now b)) ≡ accepted 0 ⌝ }
     ensures { λ r. ⌜ delivered r (now (result .exit)) ≡ deliver (ofScalars (λ k l. writeTy (ty (shapeFor shape) (union k l))) (now (a .entry)) (now (b .entry))) (now (result .entry)) ⌝ }
 {
-    let i = lone_scalar(a);
-    let j = lone_scalar(b);
+    let i = scalar_at(a, 0);
+    let j = scalar_at(b, 0);
     match unite(a, i, b, j, MAX_DEPTH - 1) {
         United::First => write_parts(shape, b"", &a[i..], &mut *result),
         United::Second => write_parts(shape, b"", &b[j..], &mut *result),

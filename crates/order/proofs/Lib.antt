@@ -1,3 +1,3 @@
 pub mod AnswerLaws
 mod ListLaws
-mod TypeLaws
+pub mod TypeLaws

@@ -84,7 +84,7 @@ abbrev pub Shaped : List ℕ → ℕ → Shape → Type 0
 Shaped s at o = (d : ℕ) (t : Ty) → TypeAt s at d t → o ≡ shapeOf t
 
 module _ (s : List ℕ) (at d : ℕ) {v : View} (looked : Looked s at v) where
-  seen : {x : View} → v ≡ x → (k : Scalar) → ScalarAt s at d k → Seen s at d k x
+  pub seen : {x : View} → v ≡ x → (k : Scalar) → ScalarAt s at d k → Seen s at d k x
   seen e k h = subst (Seen s at d k) e (looked d k h)
 
   kind : {c e : ℕ} (m : ℕ) {r : Ranking} → v ≡ Plain c e → r ≡ rankingOf (cmpKind boxCode c) m → (k l : Scalar) → codeOf k ≡ boxCode → ScalarAt s at d l → (n : ℕ) → r ≡ rankingOf (cmpScalar k l) n

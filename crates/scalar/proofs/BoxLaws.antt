@@ -1,85 +1,147 @@
 -- Whether boxes are compatible, and their union: one law for each way out of a function.
-use Prim.Native.Nat.{ℕ, _+_}
-use native.Mathlib.Omega.{arith}
-use mathlib.Core.Bool.{Bool, true, false, _&&_, cond}
+use Prim.Native.Nat.{ℕ, _-_}
+use mathlib.Core.Bool.{Bool, true, false, cond}
 use mathlib.Core.List.{List}
-use mathlib.Core.Path.{_≡_, refl, sym, _∙_, subst}
-use lib.ListN.{getD}
+use mathlib.Core.Path.{_≡_, refl, sym, _∙_, ap, subst}
 use Rattle.model.specs.Types.{Shape, any, Scalar, plain, boxAny, boxAll, boxDef, Ty, ty, boxOf, shapeOf, scalarOf}
+use Rattle.format.specs.Records.{boxCode}
 use Rattle.rules.specs.Order.{codeOf, compare}
 use Rattle.rules.specs.Shapes.{compatibleShapes}
 use Rattle.rules.specs.Scalars.{supersetCodes, compatibleCodes, supersetOf, compatibleScalars, compatibleWithBoxes, wider, laterTy, union}
-use Rattle.rules.specs.Views.{kind-byte}
-use Rattle.order.specs.Answers.{answer}
-use Rattle.order.specs.declared.Compared.{Compared}
-use Rattle.order.specs.declared.Compared.the-variants.{Less, Same, More}
-use Rattle.order.proofs.AnswerLaws.{answer-less, answer-same, answer-more}
-use Rattle.scalar.specs.Calls.{unitedOf}
+use Rattle.known.specs.Known.{ScalarAt, TypeAt, HasType}
+use Rattle.known.specs.KnownLaws.{scalar-behind}
+use Rattle.known.specs.declared.View.{View}
+use Rattle.known.specs.declared.View.the-variants.{Plain, BoxAny, BoxAll, BoxDef}
+use Rattle.order.specs.Answers.{rankingOf}
+use Rattle.order.specs.declared.Ranking.{Ranking}
+use Rattle.order.specs.declared.Ranking.the-variants.{Less, Same, More}
+use Rattle.order.proofs.AnswerLaws.{ranking-less, ranking-same, ranking-more}
+use Rattle.order.proofs.TypeLaws.{Looked, Starts, Shaped, seen}
+use Rattle.scalar.specs.Calls.{unitedOf, AllAt, NoAll, InnerIs, compatibleContents}
+use Rattle.scalar.specs.declared.Inner.{Inner}
+use Rattle.scalar.specs.declared.Inner.the-variants.{Content, Code}
 use Rattle.scalar.specs.declared.United.{United}
-use Rattle.walk.specs.At.{ScalarAt, TypeAt, isAll}
-use Rattle.walk.specs.AtLaws.{is-all, all-content}
 
--- both All, or not
-module _ (k l : Scalar) where
-  apart-compatible : (isAll k ≡ true → isAll l ≡ true → ⊥) → compatibleWithBoxes k l ≡ compatibleScalars k l
-  unfolding isAll compatibleWithBoxes
-  apart-compatible n = go k l n
-    where
-      go : (k l : Scalar) → (isAll k ≡ true → isAll l ≡ true → ⊥) → compatibleWithBoxes k l ≡ compatibleScalars k l
-      go (plain k) l n = refl
-      go boxAny l n = refl
-      go (boxDef m f) l n = refl
-      go (boxAll o k) (plain l) n = refl
-      go (boxAll o k) boxAny n = refl
-      go (boxAll o k) (boxDef m f) n = refl
-      go (boxAll o k) (boxAll p l) n = absurd (n refl refl)
+-- ---- what an All box holds, or what kind another scalar is
 
-  apart-union : (isAll k ≡ true → isAll l ≡ true → ⊥) → union k l ≡ wider k l
-  unfolding isAll union
-  apart-union n = go k l n
-    where
-      go : (k l : Scalar) → (isAll k ≡ true → isAll l ≡ true → ⊥) → union k l ≡ wider k l
-      go (plain k) l n = refl
-      go boxAny l n = refl
-      go (boxDef m f) l n = refl
-      go (boxAll o k) (plain l) n = refl
-      go (boxAll o k) boxAny n = refl
-      go (boxAll o k) (boxDef m f) n = refl
-      go (boxAll o k) (boxAll p l) n = absurd (n refl refl)
+abbrev pub InnerOf : List ℕ → ℕ → Inner → Type 0
+InnerOf s at v = (d : ℕ) (k : Scalar) → ScalarAt s at d k → InnerIs s d k v
 
-pub clash : {t u : Bool} → t ≡ u → u ≡ true → t ≡ false → ⊥
-clash e f g = let z : _≡_ {A = ℕ} 0 1 = cc in omega arith
+module _ (s : List ℕ) (at : ℕ) {v : View} (looked : Looked s at v) where
+  pub inner-plain : {c end : ℕ} → v ≡ Plain c end → InnerOf s at (Code c)
+  unfolding codeOf
+  inner-plain e d k h = let x = seen s at d looked e k h in (sym (ap codeOf (x .is) ∙ x .coded), subst NoAll (sym (x .is)) tt)
+
+  pub inner-any : {end : ℕ} → v ≡ BoxAny end → InnerOf s at (Code boxCode)
+  unfolding codeOf
+  inner-any e d k h = let x = seen s at d looked e k h in (sym (ap codeOf (x .is)), subst NoAll (sym (x .is)) tt)
+
+  pub inner-all : {content : ℕ} → v ≡ BoxAll content → InnerOf s at (Content content)
+  inner-all e d k h = let x = seen s at d looked e k h in record { shape = x .shape; scalar = x .scalar; is = x .is; there = x .there }
+
+  pub inner-def : {name start count : ℕ} {named : Bool} → v ≡ BoxDef name named start count → InnerOf s at (Code boxCode)
+  unfolding codeOf
+  inner-def e d k h = let x = seen s at d looked e k h in (sym (ap codeOf (x .is)), subst NoAll (sym (x .is)) tt)
+
+module _ (s : List ℕ) (at d : ℕ) {v : Inner} (inner : InnerOf s at v) where
+  known : {w : Inner} → v ≡ w → (k : Scalar) → ScalarAt s at d k → InnerIs s d k w
+  known e k h = subst (InnerIs s d k) e (inner d k h)
+
+  pub content-there : {c : ℕ} {k : Scalar} → ScalarAt s at d k → v ≡ Content c → HasType s c d
+  content-there {c} {k} h e = let x = known e k h in record { type = ty (x .shape) (x .scalar); there = x .there }
+
+-- ---- by kind, where not both are All
+
+codes-compatible : (k l : Scalar) {x y : ℕ} → x ≡ codeOf k → y ≡ codeOf l → compatibleCodes x y ≡ compatibleScalars k l
+unfolding compatibleScalars
+codes-compatible k l e f = rw (e, f)
+
+first-apart : (k l : Scalar) → NoAll k → (compatibleWithBoxes k l ≡ compatibleScalars k l) × (union k l ≡ wider k l)
+unfolding compatibleWithBoxes union
+first-apart (plain k) l n = (refl, refl)
+first-apart boxAny l n = (refl, refl)
+first-apart (boxAll s k) l n = absurd n
+first-apart (boxDef m f) l n = (refl, refl)
+
+second-apart : (k l : Scalar) → NoAll l → (compatibleWithBoxes k l ≡ compatibleScalars k l) × (union k l ≡ wider k l)
+unfolding compatibleWithBoxes union
+second-apart (plain k) l n = (refl, refl)
+second-apart boxAny l n = (refl, refl)
+second-apart (boxDef m f) l n = (refl, refl)
+second-apart (boxAll s k) (plain l) n = (refl, refl)
+second-apart (boxAll s k) boxAny n = (refl, refl)
+second-apart (boxAll s k) (boxDef m f) n = (refl, refl)
+second-apart (boxAll s k) (boxAll t l) n = absurd n
+
+-- ---- by content, where both are
+
+by-content : (k l : Scalar) (o p : Shape) (m n : Scalar) → k ≡ boxAll o m → l ≡ boxAll p n → compatibleContents (ty o m) (ty p n) ≡ compatibleWithBoxes k l
+unfolding compatibleWithBoxes
+by-content k l o p m n e f = rw (e, f)
+
+united-content :
+    (r : United) (k l : Scalar) (o p : Shape) (m n : Scalar) →
+    k ≡ boxAll o m →
+    l ≡ boxAll p n →
+    unitedOf r (boxAll o m) (boxAll p n) ≡ cond (compatibleContents (ty o m) (ty p n)) (boxOf (laterTy (ty o m) (ty p n))) boxAny →
+    unitedOf r k l ≡ union k l
+unfolding union
+united-content r k l o p m n e f g = rw (e, f) g
 
 -- ---- two scalars
 
-module _ (a : List ℕ) (i : ℕ) (b : List ℕ) (j d : ℕ) (k l : Scalar) (h : ScalarAt a i d k) (g : ScalarAt b j d l) where
-  module _ (first : isAll k ≡ true) (second : isAll l ≡ true) where
-    both : {C : Type 0} → ((t u : Ty) → TypeAt a (i + 6) d t → TypeAt b (j + 6) d u → k ≡ boxOf t → l ≡ boxOf u → C) → C
-    both f =
-        is-all k first λ o k′ m. is-all l second λ p l′ n.
-        f (ty o k′) (ty p l′) (all-content a i d (subst (ScalarAt a i d) m h)) (all-content b j d (subst (ScalarAt b j d) n g)) m n
+module _ (a : List ℕ) (i : ℕ) (b : List ℕ) (j d : ℕ) where
+  abbrev pub Compatible : Bool → Type 0
+  Compatible r = (k l : Scalar) → ScalarAt a i d k → ScalarAt b j d l → r ≡ compatibleWithBoxes k l
 
-    pub all-compatible : {r : Bool} → ((t u : Ty) → TypeAt a (i + 6) d t → TypeAt b (j + 6) d u → r ≡ (compatibleWithBoxes (scalarOf t) (scalarOf u) && compatibleShapes (shapeOf t) (shapeOf u))) → r ≡ compatibleWithBoxes k l
-    unfolding compatibleWithBoxes
-    all-compatible content = both λ t u x y m n. content t u x y ∙ rw (m, n) (asked t u)
-      where
-        asked : (t u : Ty) → (compatibleWithBoxes (scalarOf t) (scalarOf u) && compatibleShapes (shapeOf t) (shapeOf u)) ≡ compatibleWithBoxes (boxOf t) (boxOf u)
-        asked (ty o k) (ty p l) = refl
+  abbrev pub Unites : United → Type 0
+  Unites r = (k l : Scalar) → ScalarAt a i d k → ScalarAt b j d l → unitedOf r k l ≡ union k l
 
-    pub all-united : (r : United) → ((t u : Ty) → TypeAt a (i + 6) d t → TypeAt b (j + 6) d u → unitedOf r (boxOf t) (boxOf u) ≡ cond (compatibleWithBoxes (scalarOf t) (scalarOf u) && compatibleShapes (shapeOf t) (shapeOf u)) (boxOf (laterTy t u)) boxAny) → unitedOf r k l ≡ union k l
-    unfolding union
-    all-united r content = both λ t u x y m n. rw (m, n) (content t u x y ∙ asked t u)
-      where
-        asked : (t u : Ty) → cond (compatibleWithBoxes (scalarOf t) (scalarOf u) && compatibleShapes (shapeOf t) (shapeOf u)) (boxOf (laterTy t u)) boxAny ≡ union (boxOf t) (boxOf u)
-        asked (ty o k) (ty p l) = refl
+  abbrev pub Widens : United → ℕ → ℕ → Type 0
+  Widens r x y = (k l : Scalar) → x ≡ codeOf k → y ≡ codeOf l → unitedOf r k l ≡ wider k l
 
-  module _ (apart : isAll k ≡ true → isAll l ≡ true → ⊥) {x y : ℕ} (kind : x ≡ getD a (i + 2) 0) (kind′ : y ≡ getD b (j + 2) 0) where
-    pub by-kind : {r : Bool} → r ≡ compatibleCodes x y → r ≡ compatibleWithBoxes k l
-    unfolding compatibleScalars
-    by-kind e = e ∙ rw (kind, kind′, kind-byte a i k (h .stands), kind-byte b j l (g .stands)) (sym (apart-compatible k l apart))
+  module _ {v : Inner} (first : InnerOf a i v) where
+    module _ {x y : ℕ} (e : v ≡ Code x) (kind : (d : ℕ) (l : Scalar) → ScalarAt b j d l → y ≡ codeOf l) where
+      pub kinds-compatible : {r : Bool} → r ≡ compatibleCodes x y → Compatible r
+      kinds-compatible is k l h g =
+          let (coded, apart) = known a i d first e k h in
+          is ∙ (codes-compatible k l coded (kind d l g) ∙ sym (first-apart k l apart .0))
 
-    pub by-wider : (r : United) → ((k l : Scalar) → x ≡ codeOf k → y ≡ codeOf l → unitedOf r k l ≡ wider k l) → unitedOf r k l ≡ union k l
-    by-wider r e = e k l (kind ∙ kind-byte a i k (h .stands)) (kind′ ∙ kind-byte b j l (g .stands)) ∙ sym (apart-union k l apart)
+      pub kinds-unite : (r : United) → Widens r x y → Unites r
+      kinds-unite r is k l h g =
+          let (coded, apart) = known a i d first e k h in
+          is k l coded (kind d l g) ∙ sym (first-apart k l apart .1)
+
+    box : {c : ℕ} → v ≡ Content c → (k : Scalar) → ScalarAt a i d k → boxCode ≡ codeOf k
+    unfolding codeOf
+    box e k h = sym (ap codeOf (known a i d first e k h .is))
+
+    module _ {w : Inner} (second : InnerOf b j w) {c : ℕ} (e : v ≡ Content c) where
+      module _ {y : ℕ} (f : w ≡ Code y) where
+        pub box-compatible : {r : Bool} → r ≡ compatibleCodes boxCode y → Compatible r
+        box-compatible is k l h g =
+            let (coded, apart) = known b j d second f l g in
+            is ∙ (codes-compatible k l (box e k h) coded ∙ sym (second-apart k l apart .0))
+
+        pub box-unites : (r : United) → Widens r boxCode y → Unites r
+        box-unites r is k l h g =
+            let (coded, apart) = known b j d second f l g in
+            is k l (box e k h) coded ∙ sym (second-apart k l apart .1)
+
+      module _ {m : ℕ} (f : w ≡ Content m) where
+        pub all-compatible : {r : Bool} → ((t u : Ty) → TypeAt a c d t → TypeAt b m d u → r ≡ compatibleContents t u) → Compatible r
+        all-compatible content k l h g =
+            let x = known a i d first e k h in
+            let y = known b j d second f l g in
+            content (ty (x .shape) (x .scalar)) (ty (y .shape) (y .scalar)) (x .there) (y .there)
+            ∙ by-content k l (x .shape) (y .shape) (x .scalar) (y .scalar) (x .is) (y .is)
+
+        pub all-united : (r : United) → ((t u : Ty) → TypeAt a c d t → TypeAt b m d u → unitedOf r (boxOf t) (boxOf u) ≡ cond (compatibleContents t u) (boxOf (laterTy t u)) boxAny) → Unites r
+        all-united r content k l h g =
+            let x = known a i d first e k h in
+            let y = known b j d second f l g in
+            united-content r k l (x .shape) (y .shape) (x .scalar) (y .scalar) (x .is) (y .is)
+            (content (ty (x .shape) (x .scalar)) (ty (y .shape) (y .scalar)) (x .there) (y .there))
 
 -- ---- two kinds
 
@@ -104,26 +166,29 @@ module _ {x y : ℕ} (k l : Scalar) (kind : x ≡ codeOf k) (kind′ : y ≡ cod
 
 -- ---- two contents
 
-module _ (t u : Ty) where
-  abbrev Asked : Bool
-  Asked = compatibleWithBoxes (scalarOf t) (scalarOf u) && compatibleShapes (shapeOf t) (shapeOf u)
+module _ (a : List ℕ) (i : ℕ) (b : List ℕ) (j d : ℕ) {p q : ℕ} (first : Starts a i p) (second : Starts b j q) {r : Bool} (call : Compatible a p b q (d - 1) r) where
+  scalars : (t u : Ty) → TypeAt a i d t → TypeAt b j d u → r ≡ compatibleWithBoxes (scalarOf t) (scalarOf u)
+  scalars t u h g = call (scalarOf t) (scalarOf u) (scalar-behind a i first d t h) (scalar-behind b j second d u g)
 
-  pub contents-no : {r : Bool} → r ≡ compatibleWithBoxes (scalarOf t) (scalarOf u) → r ≡ false → false ≡ Asked
-  contents-no e f = rw (← e, f)
+  pub contents-no : r ≡ false → (t u : Ty) → TypeAt a i d t → TypeAt b j d u → false ≡ compatibleContents t u
+  contents-no f t u h g = rw (← scalars t u h g, f)
 
-  pub contents-shapes : {r q : Bool} {o p : Shape} → r ≡ compatibleWithBoxes (scalarOf t) (scalarOf u) → r ≡ true → q ≡ compatibleShapes o p → o ≡ shapeOf t → p ≡ shapeOf u → q ≡ Asked
-  contents-shapes e f g m n = rw (← e, f, ← m, ← n) g
+  pub contents-shapes : r ≡ true → {x : Bool} {o o′ : Shape} → x ≡ compatibleShapes o o′ → Shaped a i o → Shaped b j o′ → (t u : Ty) → TypeAt a i d t → TypeAt b j d u → x ≡ compatibleContents t u
+  contents-shapes f e one two t u h g = rw (← scalars t u h g, f, ← one d t h, ← two d u g) e
 
-  module _ {r : Bool} (e : r ≡ Asked) where
-    pub none-later : r ≡ false → boxAny ≡ cond Asked (boxOf (laterTy t u)) boxAny
-    none-later f = rw (← e, f)
+module _ (t u : Ty) {r : Bool} (e : r ≡ compatibleContents t u) where
+  abbrev Later : Scalar
+  Later = cond (compatibleContents t u) (boxOf (laterTy t u)) boxAny
 
-    module _ (f : r ≡ true) (n : ℕ) {q : Compared} (g : q ≡ answer (compare t u) n) where
-      pub second-later : q ≡ Less → boxOf u ≡ cond Asked (boxOf (laterTy t u)) boxAny
-      second-later m = rw (← e, f, answer-less (compare t u) n g m)
+  pub none-later : r ≡ false → boxAny ≡ Later
+  none-later f = rw (← e, f)
 
-      pub same-later : {p : ℕ} → q ≡ Same p → boxOf u ≡ cond Asked (boxOf (laterTy t u)) boxAny
-      same-later m = rw (← e, f, answer-same (compare t u) n g m .0)
+  module _ (f : r ≡ true) (n : ℕ) {q : Ranking} (g : q ≡ rankingOf (compare t u) n) where
+    pub second-later : q ≡ Less → boxOf u ≡ Later
+    second-later m = rw (← e, f, ranking-less (compare t u) n g m)
 
-      pub first-later : q ≡ More → boxOf t ≡ cond Asked (boxOf (laterTy t u)) boxAny
-      first-later m = rw (← e, f, answer-more (compare t u) n g m)
+    pub same-later : {p : ℕ} → q ≡ Same p → boxOf u ≡ Later
+    same-later m = rw (← e, f, ranking-same (compare t u) n g m .0)
+
+    pub first-later : q ≡ More → boxOf t ≡ Later
+    first-later m = rw (← e, f, ranking-more (compare t u) n g m)

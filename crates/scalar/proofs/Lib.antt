@@ -1,4 +1,4 @@
 mod KindLaws
-mod CallLaws
+pub mod CallLaws
 mod BoxLaws
 mod UnrefineLaws

@@ -3,6 +3,7 @@ use Prim.Native.Nat.{ℕ, suc, _+_, _-_, _≤_, _<_}
 use native.Mathlib.Omega.{arith}
 use native.Mathlib.Nat.{zero-add, add-zero}
 use native.Mathlib.Numerals.{add-one}
+use mathlib.Core.Bool.{Bool}
 use mathlib.Core.List.{List, [], _∷_, _++_, append-assoc}
 use mathlib.Core.Option.{Option}
 use mathlib.Core.Path.{_≡_, refl, sym, _∙_, ap, subst}
@@ -10,24 +11,25 @@ use lib.ListN.{length, getD, set, take, drop, length-append, length-drop, take-a
 use lib.Seq.{take-add, set-split, paste-zero, append-snoc, drop-append-seam}
 use Rattle.model.specs.Limits.{maxDepth}
 use Rattle.model.specs.Refusals.{tooShort}
-use Rattle.model.specs.Types.{Kind, bool, nat, int, num, complex, ascii, char, stream, any, Scalar, plain, boxAny, boxAll, boxDef, Fields, noFields, field, Ty, ty, shapeOf, scalarOf, fieldCount}
+use Rattle.model.specs.Types.{Shape, Kind, bool, nat, int, num, complex, ascii, char, stream, any, Scalar, plain, boxAny, boxAll, boxDef, Fields, noFields, field, Ty, ty, scalarOf, fieldCount}
 use Rattle.format.specs.Reader.{Bytes}
-use Rattle.format.specs.Records.{scalarMark, markBytes, code, boxCode, boxStart, countOf, listOf, writeShape, writeScalar, writeFields, writeTy}
-use Rattle.format.specs.Outcome.{Outcome, accepted, refused, mapped, lone, scalarRecord, delivery, deliver}
+use Rattle.format.specs.Records.{code, boxStart, countOf, listOf, writeShape, writeScalar, writeFields, writeTy}
+use Rattle.format.specs.Outcome.{Outcome, accepted, refused, mapped, lone, delivery, deliver}
 use Rattle.format.specs.Views.{rest-is, Stands, stands-first, stands-part, stands-within}
 use Rattle.lent.specs.Over.{over, over-front, drop-over, over-over}
 use Rattle.lent.specs.Delivers.{deliver-short, deliver-wrote}
 use Rattle.record.specs.Answers.{nothing}
 use Rattle.record.proofs.LoneLaws.{passed-accepted}
-use Rattle.rules.specs.Order.{codeOf}
 use Rattle.rules.specs.Scalars.{unrefineKind, unrefine, unrefineFields}
 use Rattle.rules.specs.ScalarsLaws.{unrefine-fieldCount}
-use Rattle.rules.specs.Views.{is-plain, is-box-any, is-box-all, is-box-def, is-box-def-else, formOf}
-use Rattle.walk.specs.At.{ScalarAt, TypeAt, NameAt, CountedAt, FieldsAt, HasScalar, HasType}
-use Rattle.walk.specs.AtLaws.{all-content, def-content, def-name, def-fields, fields-count, fields-there, first-field, rest-fields, type-within, coded, formed}
-use Rattle.walk.specs.Whole.{ofScalar}
-use Rattle.walk.specs.WholeLaws.{record-there, scalar-there}
-use Rattle.scalar.specs.Calls.{unrefined}
+use Rattle.known.specs.Known.{ScalarAt, TypeAt, FieldsAt, HasScalar, HasType, HasFields}
+use Rattle.known.specs.KnownLaws.{first-field, rest-fields, type-within, scalar-behind, behind-ends}
+use Rattle.known.specs.Whole.{ofScalar}
+use Rattle.known.specs.WholeLaws.{Begins, record-there, scalar-there}
+use Rattle.known.specs.declared.View.{View}
+use Rattle.known.specs.declared.View.the-variants.{Plain, BoxAny, BoxAll, BoxDef}
+use Rattle.order.proofs.TypeLaws.{Looked, Starts, seen}
+use Rattle.scalar.specs.Calls.{unrefineTy, FieldsUnrefined}
 
 -- ---- bytes laid over a part of what stands there
 
@@ -66,9 +68,9 @@ mutual
   unrefineFields-length noFields = refl
   unrefineFields-length (field o k f) = simp length-append (omega (arith, unrefine-length k, unrefineFields-length f))
 
-unrefined-length : (t : Ty) → length (writeTy (unrefined t)) ≡ length (writeTy t)
+unrefineTy-length : (t : Ty) → length (writeTy (unrefineTy t)) ≡ length (writeTy t)
 unfolding writeTy
-unrefined-length (ty o k) = simp length-append (omega (arith, unrefine-length k))
+unrefineTy-length (ty o k) = simp length-append (omega (arith, unrefine-length k))
 
 -- ---- a kind by its code
 
@@ -120,85 +122,120 @@ module _ {x : ℕ} where
 
 -- ---- scalars
 
-module _ (out : List ℕ) (at d : ℕ) (k : Scalar) (h : ScalarAt out at d k) {x : ℕ} (kind : x ≡ getD out (at + 2) 0) where
-  abbrev pub Unrefined : ℕ → List ℕ → Type 0
-  Unrefined r after = (r ≡ at + length (writeScalar k)) × (after ≡ over out at (writeScalar (unrefine k)))
+any-stays : (k : Scalar) → k ≡ boxAny → unrefine k ≡ k
+unfolding unrefine
+any-stays k e = rw e
 
-  module _ (unboxed : x ≡ boxCode → ⊥) {y : ℕ} (call : (l : Kind) → x ≡ code l → (y ≡ code (unrefineKind l)) × (y < 256)) where
-    plainly : {C : Type 0} → ((l : Kind) → k ≡ plain l → x ≡ code l → C) → C
-    unfolding codeOf
-    plainly f = is-plain k (λ e. unboxed (coded out at d k h kind ∙ e)) λ l e. f l e (coded out at d k h kind ∙ rw e)
+module _ (out : List ℕ) (at d : ℕ) where
+  -- one scalar is unrefineTy, and r is the place after it
+  abbrev pub Done : Scalar → ℕ → List ℕ → Type 0
+  Done k r after = (r ≡ at + length (writeScalar k)) × (after ≡ over out at (writeScalar (unrefine k)))
 
-    pub kind-small : y < 256
-    kind-small = plainly λ l e c. call l c .1
+  all-done :
+      (o : Shape) (l : Scalar) →
+      ScalarAt out at d (boxAll o l) →
+      {content r : ℕ} {after : List ℕ} →
+      content ≡ at + length (boxStart 1) →
+      r ≡ content + length (writeTy (ty o l)) →
+      after ≡ over out content (writeTy (unrefineTy (ty o l))) →
+      Done (boxAll o l) r after
+  unfolding writeScalar writeTy unrefine
+  all-done o l h place ends laid =
+      (ends ∙ omega arith, laid ∙ (ap (λ p. over out p (writeShape o ++ writeScalar (unrefine l))) place ∙ over-behind out at (boxStart 1) (writeShape o ++ writeScalar l) (writeShape o ++ writeScalar (unrefine l)) (h .stands)))
 
-    pub unrefine-plain : Unrefined (at + 3) (set out (at + 2) y)
+  module _ (n : Option (List ℕ)) (f : Fields) where
+    -- what stands before a Def's fields
+    abbrev head : List ℕ
+    head = boxStart 2 ++ (countOf n ∷ (listOf n ++ (fieldCount f ∷ [])))
+
+    head-length : length head ≡ 8 + length (listOf n)
+    head-length = simp length-append (omega arith)
+
+    whole-def : (w : List ℕ) → head ++ w ≡ boxStart 2 ++ (countOf n ∷ (listOf n ++ (fieldCount f ∷ w)))
+    whole-def w = simp append-assoc
+
+    def-done : ScalarAt out at d (boxDef n f) → {start r : ℕ} {after : List ℕ} → start ≡ at + length head → r ≡ start + length (writeFields f) → after ≡ over out start (writeFields (unrefineFields f)) → Done (boxDef n f) r after
     unfolding writeScalar unrefine
-    unrefine-plain =
-        plainly λ l e c.
-        let stands : Stands out at (markBytes scalarMark ++ (code l ∷ [])) = rw e at (h .stands) in
-        let room : at + 2 < length out = omega (arith, stands-within out at (markBytes scalarMark ++ (code l ∷ [])) (omega arith) stands) in
-        rw e (refl, over-byte out (at + 2) y room ∙ over-behind out at (markBytes scalarMark) (code l ∷ []) (y ∷ []) stands ∙ ap (λ c. over out at (markBytes scalarMark ++ (c ∷ []))) (call l c .0))
+    def-done h {start} place ends laid = (
+      ends ∙ simp length-append (omega (arith, place, head-length)),
+      laid
+          ∙ ap (λ p. over out p (writeFields (unrefineFields f))) place
+          ∙ over-behind out at head (writeFields f) (writeFields (unrefineFields f)) (subst (Stands out at) (sym (whole-def (writeFields f))) (h .stands))
+          ∙ ap (over out at) (whole-def (writeFields (unrefineFields f)))
+          ∙ rw (unrefine-fieldCount f),
+    )
 
-  module _ (boxed : x ≡ boxCode) {v : ℕ} (form : v ≡ getD out (at + 5) 0) where
-    form-is : v ≡ formOf k
-    form-is = formed out at d k h kind boxed form
+  module _ {v : View} (looked : Looked out at v) where
+    module _ {c end : ℕ} (e : v ≡ Plain c end) {y : ℕ} (call : (l : Kind) → c ≡ code l → (y ≡ code (unrefineKind l)) × (y < 256)) where
+      pub kind-there : HasScalar out at d → ((d : ℕ) × (k : Kind) × ScalarAt out at d (plain k)) × (y < 256)
+      kind-there has =
+          let x = seen out at d looked e (has .scalar) (has .there) in
+          ((d, x .kind, subst (ScalarAt out at d) (x .is) (has .there)), call (x .kind) (sym (x .coded)) .1)
 
-    pub unrefine-any : v ≡ 0 → Unrefined (at + 6) out
-    unfolding writeScalar unrefine
-    unrefine-any e =
-        let b : k ≡ boxAny = is-box-any k (sym form-is ∙ e) in
-        let stands : Stands out at (boxStart 0) = rw b at (h .stands) in
-        rw b (refl, sym (over-same out at (boxStart 0) stands))
+      pub unrefine-plain : {after : List ℕ} → ((d : ℕ) (k l : Kind) → ScalarAt out at d (plain k) → y ≡ code l → after ≡ over out at (writeScalar (plain l))) → (k : Scalar) → ScalarAt out at d k → Done k end after
+      unfolding unrefine
+      unrefine-plain put k h =
+          let x = seen out at d looked e k h in
+          let laid = put d (x .kind) (unrefineKind (x .kind)) (subst (ScalarAt out at d) (x .is) h) (call (x .kind) (sym (x .coded)) .0) in
+          (x .ends, laid ∙ ap (λ l. over out at (writeScalar (unrefine l))) (sym (x .is)))
 
-    pub unrefine-all : {r : ℕ} {after : List ℕ} → v ≡ 1 → ((t : Ty) → TypeAt out (at + 6) d t → (r ≡ at + 6 + length (writeTy t)) × (after ≡ over out (at + 6) (writeTy (unrefined t)))) → Unrefined r after
-    unfolding writeScalar writeTy unrefine
-    unrefine-all e content =
-        is-box-all k (sym form-is ∙ e) λ o l b.
-        let g : ScalarAt out at d (boxAll o l) = subst (ScalarAt out at d) b h in
-        let (place, laid) = content (ty o l) (all-content out at d g) in
-        rw b (place ∙ omega arith, laid ∙ over-behind out at (boxStart 1) (writeShape o ++ writeScalar l) (writeShape o ++ writeScalar (unrefine l)) (g .stands))
+    pub unrefine-any : {end : ℕ} → v ≡ BoxAny end → (k : Scalar) → ScalarAt out at d k → Done k end out
+    unrefine-any e k h =
+        let x = seen out at d looked e k h in
+        (x .ends, sym (ap (λ l. over out at (writeScalar l)) (any-stays k (x .is)) ∙ over-same out at (writeScalar k) (h .stands)))
 
-    pub unrefine-def : {r start : ℕ} {after : List ℕ} → (v ≡ 0 → ⊥) → (v ≡ 1 → ⊥) → ((n : Option (List ℕ)) → NameAt out (at + 6) n → start ≡ at + 6 + 1 + length (listOf n)) → ((f : Fields) → CountedAt out start d f → (r ≡ start + 1 + length (writeFields f)) × (after ≡ over out (start + 1) (writeFields (unrefineFields f)))) → Unrefined r after
-    unfolding writeScalar unrefine
-    unrefine-def {r} {start} {after} m m′ named content =
-        is-box-def k (is-box-def-else k (sym (coded out at d k h kind) ∙ boxed) (λ e. m (form-is ∙ e)) (λ e. m′ (form-is ∙ e))) λ n f b.
-        let g : ScalarAt out at d (boxDef n f) = subst (ScalarAt out at d) b h in
-        let i = def-content out at d g in
-        let place : start ≡ at + 6 + 1 + length (listOf n) = named n (def-name out (at + 6) d i) in
-        let (end, laid) = content f (subst (λ p. CountedAt out p d f) (sym place) (def-fields out (at + 6) d i)) in
-        let head : List ℕ = boxStart 2 ++ (countOf n ∷ (listOf n ++ (fieldCount f ∷ []))) in
-        let whole : (w : List ℕ) → head ++ w ≡ boxStart 2 ++ (countOf n ∷ (listOf n ++ (fieldCount f ∷ w))) = λ w. simp append-assoc in
-        let long : start + 1 ≡ at + length head = simp length-append (omega arith) in
-        rw b (
-          end ∙ simp length-append (omega arith),
-          laid
-              ∙ ap (λ p. over out p (writeFields (unrefineFields f))) long
-              ∙ over-behind out at head (writeFields f) (writeFields (unrefineFields f)) (subst (Stands out at) (sym (whole (writeFields f))) (g .stands))
-              ∙ ap (over out at) (whole (writeFields (unrefineFields f)))
-              ∙ rw (unrefine-fieldCount f),
-        )
+    module _ {content : ℕ} (e : v ≡ BoxAll content) where
+      pub all-there : HasScalar out at d → HasType out content d
+      all-there has = let x = seen out at d looked e (has .scalar) (has .there) in record { type = ty (x .shape) (x .scalar); there = x .there }
+
+      pub unrefine-all :
+          {r : ℕ} {after : List ℕ} →
+          ((t : Ty) → TypeAt out content d t → (r ≡ content + length (writeTy t)) × (after ≡ over out content (writeTy (unrefineTy t)))) →
+          (k : Scalar) →
+          ScalarAt out at d k →
+          Done k r after
+      unrefine-all {r} {after} call k h =
+          let x = seen out at d looked e k h in
+          let (ends, laid) = call (ty (x .shape) (x .scalar)) (x .there) in
+          subst (λ l. Done l r after) (sym (x .is)) (all-done (x .shape) (x .scalar) (subst (ScalarAt out at d) (x .is) h) (x .place) ends laid)
+
+    module _ {name start count : ℕ} {named : Bool} (e : v ≡ BoxDef name named start count) where
+      pub fields-there : HasScalar out at d → HasFields out start d count
+      fields-there has = let x = seen out at d looked e (has .scalar) (has .there) in record { fields = x .held; there = x .there; counted = sym (x .counted) }
+
+      pub unrefine-def : {r : ℕ} {after : List ℕ} → FieldsUnrefined out start count d r after → (k : Scalar) → ScalarAt out at d k → Done k r after
+      unrefine-def {r} {after} call k h =
+          let x = seen out at d looked e k h in
+          let (ends, laid) = call (x .held) (x .there) (sym (x .counted)) in
+          let place : start ≡ at + length (head (x .label) (x .held)) = omega (arith, x .place, x .behind, head-length (x .label) (x .held)) in
+          subst (λ l. Done l r after) (sym (x .is)) (def-done (x .label) (x .held) (subst (ScalarAt out at d) (x .is) h) place ends laid)
 
 -- ---- types
 
-pub unrefine-behind : (out : List ℕ) (at d : ℕ) (t : Ty) → TypeAt out at d t → (m : ℕ) {r : ℕ} {after : List ℕ} → at + m ≡ at + length (writeShape (shapeOf t)) → (r ≡ at + m + length (writeScalar (scalarOf t))) × (after ≡ over out (at + m) (writeScalar (unrefine (scalarOf t)))) → (r ≡ at + length (writeTy t)) × (after ≡ over out at (writeTy (unrefined t)))
-unfolding writeTy
-unrefine-behind out at d (ty o k) h m e (place, laid) =
-    (place ∙ omega (arith, length-append (writeShape o) (writeScalar k)), laid ∙ ap (λ p. over out p (writeScalar (unrefine k))) e ∙ over-behind out at (writeShape o) (writeScalar k) (writeScalar (unrefine k)) (h .stands))
+module _ (out : List ℕ) (at d : ℕ) where
+  abbrev pub DoneType : Ty → ℕ → List ℕ → Type 0
+  DoneType t r after = (r ≡ at + length (writeTy t)) × (after ≡ over out at (writeTy (unrefineTy t)))
+
+  -- the scalar begins at p
+  pub unrefine-behind : {p r : ℕ} {after : List ℕ} → Starts out at p → ((k : Scalar) → ScalarAt out p (d - 1) k → Done out p (d - 1) k r after) → (t : Ty) → TypeAt out at d t → DoneType t r after
+  unfolding writeTy
+  unrefine-behind {p} begins call (ty o k) h =
+      let (ends, laid) = call k (scalar-behind out at begins d (ty o k) h) in
+      (ends ∙ behind-ends out at begins d (ty o k) h, laid ∙ (ap (λ q. over out q (writeScalar (unrefine k))) (begins d (ty o k) h) ∙ over-behind out at (writeShape o) (writeScalar k) (writeScalar (unrefine k)) (h .stands)))
 
 -- ---- fields, one after the other: what is left to unrefine, and what that comes to
 
-pub record Left (out : List ℕ) (at d left end : ℕ) (final : List ℕ) : Type 0 where
+pub record FieldsLeft (out : List ℕ) (at d left end : ℕ) (final : List ℕ) : Type 0 where
   f : Fields
   there : FieldsAt out at d f
   count : left ≡ fieldCount f
   ends : at + length (writeFields f) ≡ end
   is : over out at (writeFields (unrefineFields f)) ≡ final
 
-pub left-start : (out : List ℕ) (at d : ℕ) {x : ℕ} → x ≡ getD out at 0 → (f : Fields) → CountedAt out at d f → Left out (at + 1) d x (at + 1 + length (writeFields f)) (over out (at + 1) (writeFields (unrefineFields f)))
-left-start out at d e f h = record { f = f; there = fields-there out at d h; count = e ∙ fields-count out at d h; ends = refl; is = refl }
+pub left-start : (out : List ℕ) (at d : ℕ) {x : ℕ} (f : Fields) → FieldsAt out at d f → fieldCount f ≡ x → FieldsLeft out at d x (at + length (writeFields f)) (over out at (writeFields (unrefineFields f)))
+left-start out at d f h e = record { f = f; there = h; count = sym e; ends = refl; is = refl }
 
-module _ {out : List ℕ} {at d left end : ℕ} {final : List ℕ} (l : Left out at d left end final) where
+module _ {out : List ℕ} {at d left end : ℕ} {final : List ℕ} (l : FieldsLeft out at d left end final) where
   pub left-type : 0 < left → HasType out at d
   left-type n = go (l .f) (l .there) (l .count)
     where
@@ -214,28 +251,28 @@ module _ {out : List ℕ} {at d left end : ℕ} {final : List ℕ} (l : Left out
       go noFields c e is = (omega arith, paste-zero out at [] ∙ is)
       go (field o k f) c e is = absurd (omega arith)
 
-  pub left-next : {r : ℕ} {after : List ℕ} → 0 < left → ((t : Ty) → TypeAt out at d t → (r ≡ at + length (writeTy t)) × (after ≡ over out at (writeTy (unrefined t)))) → Left after r d (left - 1) end final
+  pub left-next : {r : ℕ} {after : List ℕ} → 0 < left → ((t : Ty) → TypeAt out at d t → DoneType out at d t r after) → FieldsLeft after r d (left - 1) end final
   unfolding writeFields unrefineFields writeTy
   left-next {r} {after} n call = go (l .f) (l .there) (l .count) (l .ends) (l .is)
     where
-      go : (f : Fields) → FieldsAt out at d f → left ≡ fieldCount f → at + length (writeFields f) ≡ end → over out at (writeFields (unrefineFields f)) ≡ final → Left after r d (left - 1) end final
+      go : (f : Fields) → FieldsAt out at d f → left ≡ fieldCount f → at + length (writeFields f) ≡ end → over out at (writeFields (unrefineFields f)) ≡ final → FieldsLeft after r d (left - 1) end final
       go noFields h c e is = absurd (omega arith)
       go (field o k f) h c e is =
           let t = first-field out at d h in
           let (place, laid) = call (ty o k) t in
-          let same : length (writeTy (ty o k)) ≡ length (writeTy (unrefined (ty o k))) = sym (unrefined-length (ty o k)) in
+          let same : length (writeTy (ty o k)) ≡ length (writeTy (unrefineTy (ty o k))) = sym (unrefineTy-length (ty o k)) in
           let fits = type-within out at d (ty o k) t in
           let rest = rest-fields out at d h in
-          let behind : Stands (over out at (writeTy (unrefined (ty o k)))) (at + length (writeTy (ty o k))) (writeFields f) = stands-behind out at (writeTy (ty o k)) (writeTy (unrefined (ty o k))) (writeFields f) same fits (rest .stands) in
+          let behind = stands-behind out at (writeTy (ty o k)) (writeTy (unrefineTy (ty o k))) (writeFields f) same fits (rest .stands) in
           record {
             f = f;
-            there = rw (place, laid) (record { stands = behind; records = rest .records; shallow = rest .shallow });
+            there = rw (place, laid) (record { stands = behind; records = rest .records; numbered = rest .numbered; few = rest .few; shallow = rest .shallow });
             count = omega arith;
             ends = rw place (omega (arith, length-append (writeTy (ty o k)) (writeFields f)));
-            is = rw (place, laid, same) (over-over out at (writeTy (unrefined (ty o k))) (omega arith) (writeFields (unrefineFields f)) ∙ is);
+            is = rw (place, laid, same) (over-over out at (writeTy (unrefineTy (ty o k))) (omega arith) (writeFields (unrefineFields f)) ∙ is);
           }
 
--- ---- a whole type: its scalar's record, which begins at i, is laid down in the buffer and unrefined there
+-- ---- a whole type: its scalar's record, which begins at i, is laid down in the buffer and unrefineTy there
 
 laid-stands : (d w : List ℕ) → length w ≤ length d → Stands (over d 0 w) 0 w
 laid-stands d w h = record { is = over-front d w ∙ ap (λ x. w ++ x) (sym (rw (add-zero (0 + length w)) at (drop-over d 0 w (rw zero-add h) 0) ∙ rw zero-add)) }
@@ -248,17 +285,17 @@ over-twice d w w′ e =
     ∙ ap (λ x. w′ ++ x) rest
     ∙ sym (over-front d w′)
 
-module _ (s : List ℕ) (small : Bytes s) (good : mapped nothing (lone s) ≡ accepted 0) {i : ℕ} (part : (mapped scalarRecord (lone s) ≡ accepted (drop i s)) × (i ≤ length s)) (buffer : List ℕ) where
-  abbrev Record : Outcome (List ℕ)
-  Record = ofScalar (λ k. writeScalar (unrefine k)) s
+module _ (s : List ℕ) (small : Bytes s) (good : mapped nothing (lone s) ≡ accepted 0) {i : ℕ} (begins : Begins s i) (buffer : List ℕ) where
+  abbrev UnrefinedBytes : Outcome (List ℕ)
+  UnrefinedBytes = ofScalar (λ k. writeScalar (unrefine k)) s
 
-  whole : {C : Type 0} → ((k : Scalar) → ScalarAt s i (maxDepth - 1) k → drop i s ≡ writeScalar k → Record ≡ accepted (writeScalar (unrefine k)) → length s - i ≡ length (writeScalar (unrefine k)) → C) → C
+  whole : {C : Type 0} → ((k : Scalar) → ScalarAt s i (maxDepth - 1) k → drop i s ≡ writeScalar k → UnrefinedBytes ≡ accepted (writeScalar (unrefine k)) → length s - i ≡ length (writeScalar (unrefine k)) → C) → C
   whole f =
       passed-accepted (lone s) good λ t e.
-      let bytes = record-there s small i t e (part .0) in
-      f (scalarOf t) (scalar-there s small t e (part .0) (part .1)) bytes (rw e) (sym (length-drop i s) ∙ ap length bytes ∙ sym (unrefine-length (scalarOf t)))
+      let bytes = record-there s small begins t e in
+      f (scalarOf t) (scalar-there s small begins t e) bytes (rw e) (sym (length-drop i s) ∙ ap length bytes ∙ sym (unrefine-length (scalarOf t)))
 
-  pub whole-short : length buffer < length s - i → delivery (refused tooShort 0) buffer ≡ deliver Record buffer
+  pub whole-short : length buffer < length s - i → delivery (refused tooShort 0) buffer ≡ deliver UnrefinedBytes buffer
   whole-short h = whole λ k at bytes is long. sym (deliver-short buffer is (omega arith))
 
   module _ (fits : length s - i ≤ length buffer) {laid : List ℕ} (lays : laid ≡ over buffer 0 (take (length s - i) (drop i s))) where
@@ -266,12 +303,13 @@ module _ (s : List ℕ) (small : Bytes s) (good : mapped nothing (lone s) ≡ ac
     laid-is k e = lays ∙ ap (over buffer 0) (rest-is s i ∙ e)
 
     laid-there : (k : Scalar) → ScalarAt s i (maxDepth - 1) k → drop i s ≡ writeScalar k → length s - i ≡ length (writeScalar (unrefine k)) → ScalarAt laid 0 (maxDepth - 1) k
-    laid-there k h e long = record { stands = rw (laid-is k e) (laid-stands buffer (writeScalar k) (omega (arith, unrefine-length k))); records = h .records; shallow = h .shallow }
+    laid-there k h e long = record { stands = rw (laid-is k e) (laid-stands buffer (writeScalar k) (omega (arith, unrefine-length k))); records = h .records; few = h .few; shallow = h .shallow }
 
     pub laid-scalar : HasScalar laid 0 (maxDepth - 1)
     laid-scalar = whole λ k h e is long. record { scalar = k; there = laid-there k h e long }
 
-    pub whole-wrote : {r : ℕ} {after : List ℕ} → ((k : Scalar) → ScalarAt laid 0 (maxDepth - 1) k → (r ≡ 0 + length (writeScalar k)) × (after ≡ over laid 0 (writeScalar (unrefine k)))) → delivery (accepted (length s - i)) after ≡ deliver Record buffer
+    pub whole-wrote : {r : ℕ} {after : List ℕ} → ((k : Scalar) → ScalarAt laid 0 (maxDepth - 1) k → Done laid 0 (maxDepth - 1) k r after) → delivery (accepted (length s - i)) after ≡ deliver UnrefinedBytes buffer
     whole-wrote call =
         whole λ k h e is long.
-        deliver-wrote buffer is (omega arith) long (call k (laid-there k h e long) .1 ∙ ap (λ x. over x 0 (writeScalar (unrefine k))) (laid-is k e) ∙ over-twice buffer (writeScalar k) (writeScalar (unrefine k)) (sym (unrefine-length k)))
+        let twice = ap (λ x. over x 0 (writeScalar (unrefine k))) (laid-is k e) ∙ over-twice buffer (writeScalar k) (writeScalar (unrefine k)) (sym (unrefine-length k)) in
+        deliver-wrote buffer is (omega arith) long (call k (laid-there k h e long) .1 ∙ twice)

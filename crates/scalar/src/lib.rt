@@ -14,6 +14,12 @@ pub use tests::superset;
 pub use unions::union;
 pub use unions::unite;
 
+// Where an All box's content begins, or the code of any other scalar.
+pub enum Inner {
+    Content(usize),
+    Code(u64),
+}
+
 // Which scalar a union is.
 pub enum United {
     First,

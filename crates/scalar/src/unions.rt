@@ -1,43 +1,45 @@
 // `union` of two scalars in their bytes. It is one of the two as it stands, or a box Any, or Any.
+use crate::Inner;
 use crate::United;
 use crate::boxes::compatible_contents;
+use crate::boxes::inner_at;
 use crate::kinds::superset_codes;
+use known::kind_at;
+use known::scalar_at;
 use lent::Written;
 use lent::hand_over;
+use limits::BOX;
 use limits::MAX_DEPTH;
 use limits::records::ANY_SCALAR;
 use limits::records::BOX_ANY_SCALAR;
-use order::Compared;
+use order::Ranking;
 use order::compare_types;
 use record::Lone;
-use record::lone_scalar;
-use record::read_both;
-use walk::is_all;
-use walk::kind_at;
+use record::read_two;
+use record::whichever;
 use writer::as_written;
 ghost use mathlib.Core.Path.{_≡_};
-ghost use mathlib.Core.Bool.{_&&_, cond};
-ghost use Rattle.model.specs.Types.{any, Scalar, Ty, plain, boxAny, boxOf, shapeOf, scalarOf};
+ghost use mathlib.Core.Bool.{cond};
+ghost use Rattle.model.specs.Types.{any, Scalar, Ty, plain, boxAny, boxOf};
 ghost use Rattle.format.specs.Records.{writeScalar};
 ghost use Rattle.format.specs.Outcome.{accepted, deliver};
 ghost use Rattle.lent.specs.Written.{delivered};
 ghost use Rattle.rules.specs.Order.{codeOf};
-ghost use Rattle.rules.specs.Shapes.{compatibleShapes};
-ghost use Rattle.rules.specs.Scalars.{compatibleWithBoxes, wider, laterTy, union};
-ghost use Rattle.walk.specs.At.{ScalarAt, TypeAt, HasScalar, HasType};
-ghost use Rattle.walk.specs.Whole.{ofScalars};
-ghost use Rattle.scalar.specs.Calls.{unitedOf};
+ghost use Rattle.rules.specs.Scalars.{wider, laterTy, union};
+ghost use Rattle.known.specs.Known.{ScalarAt, TypeAt, HasScalar, HasType};
+ghost use Rattle.known.specs.Whole.{ofScalars};
+ghost use Rattle.scalar.specs.Calls.{unitedOf, compatibleContents};
 
 // The union's record, to the front of the result.
 pub fn union(a: &[u8], b: &[u8], result: &mut [u8]) -> Written
     ensures { λ r. ⌜ delivered r (now (result .exit)) ≡ deliver (ofScalars (λ k l. writeScalar (union k l)) (now (a .entry)) (now (b .entry))) (now (result .entry)) ⌝ }
 {
-    let read = read_both(a, b);
+    let read = whichever(read_two(a, b));
     let Lone::Accepted = read else {
         return as_written(read);
     };
-    let i = lone_scalar(a);
-    let j = lone_scalar(b);
+    let i = scalar_at(a, 0);
+    let j = scalar_at(b, 0);
     match unite(a, i, b, j, MAX_DEPTH - 1) {
         United::First => hand_over(&a[i..], &mut *result),
         United::Second => hand_over(&b[j..], &mut *result),
@@ -63,24 +65,25 @@ pub fn unite(a: &[u8], i: usize, b: &[u8], j: usize, depth: u64) -> United
     requires { ⌜ HasScalar (now a) i depth × HasScalar (now b) j depth ⌝ }
     ensures { λ r. ⌜ ((k l : Scalar) → ScalarAt (now (a .entry)) i depth k → ScalarAt (now (b .entry)) j depth l → unitedOf r k l ≡ union k l) ⌝ }
 {
-    if is_all(a, i) {
-        if is_all(b, j) {
-            return unite_contents(a, i + 6, b, j + 6, depth);
-        }
+    match inner_at(a, i) {
+        Inner::Content(content) => match inner_at(b, j) {
+            Inner::Content(other) => unite_contents(a, content, b, other, depth),
+            Inner::Code(code) => widen(BOX, code),
+        },
+        Inner::Code(code) => widen(code, kind_at(b, j)),
     }
-    widen(kind_at(a, i), kind_at(b, j))
 }
 
 // Two All boxes by their contents: the later one, if they are compatible.
 fn unite_contents(a: &[u8], i: usize, b: &[u8], j: usize, depth: u64) -> United
     requires { ⌜ HasType (now a) i depth × HasType (now b) j depth ⌝ }
-    ensures { λ r. ⌜ ((t u : Ty) → TypeAt (now (a .entry)) i depth t → TypeAt (now (b .entry)) j depth u → unitedOf r (boxOf t) (boxOf u) ≡ cond (compatibleWithBoxes (scalarOf t) (scalarOf u) && compatibleShapes (shapeOf t) (shapeOf u)) (boxOf (laterTy t u)) boxAny) ⌝ }
+    ensures { λ r. ⌜ ((t u : Ty) → TypeAt (now (a .entry)) i depth t → TypeAt (now (b .entry)) j depth u → unitedOf r (boxOf t) (boxOf u) ≡ cond (compatibleContents t u) (boxOf (laterTy t u)) boxAny) ⌝ }
 {
     if compatible_contents(a, i, b, j, depth) {
         match compare_types(a, i, b, j, depth) {
-            Compared::Less => United::Second,
-            Compared::Same(_) => United::Second,
-            Compared::More => United::First,
+            Ranking::Less => United::Second,
+            Ranking::Same(_) => United::Second,
+            Ranking::More => United::First,
         }
     } else {
         United::BoxAny

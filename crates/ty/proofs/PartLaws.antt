@@ -7,14 +7,14 @@ use mathlib.Core.Path.{_≡_, sym, _∙_, ap, subst}
 use lib.ListN.{length, drop, length-append}
 use lib.Seq.{drop-drop}
 use Rattle.model.specs.Limits.{maxDepth}
-use Rattle.model.specs.Types.{Shape, Kind, Scalar, plain, boxAny, boxAll, boxDef, Ty, ty, shapeOf, scalarOf}
+use Rattle.model.specs.Types.{Shape, Kind, Scalar, plain, boxAny, boxAll, boxDef, Ty, ty, scalarOf}
 use Rattle.format.specs.Reader.{Bytes}
 use Rattle.format.specs.Records.{writeScalar, writeTy}
-use Rattle.format.specs.Outcome.{Outcome, accepted, mapped, lone, scalarRecord, Delivery, deliver}
+use Rattle.format.specs.Outcome.{Outcome, accepted, mapped, lone, Delivery, deliver}
 use Rattle.record.specs.Answers.{nothing}
 use Rattle.record.proofs.LoneLaws.{passed-accepted}
 use Rattle.rules.specs.Types.{beforeFields, boxes, writeBoxes}
-use Rattle.known.specs.Known.{TypeAt, ScalarAt, HasType, HasScalar, SeenAll, SeenDef, Seen}
+use Rattle.known.specs.Known.{ScalarAt, HasType, HasScalar, SeenAll, SeenDef, Seen}
 use Rattle.known.specs.KnownLaws.{type-within, name-within, fields-deeper, has-scalar}
 use Rattle.known.specs.WholeLaws.{type-there, has-type, Begins, record-there, scalar-there}
 use Rattle.known.specs.declared.View.{View}
@@ -25,24 +25,15 @@ use Rattle.ty.specs.Parts.{LoneDef}
 pub delivers : (buffer : List ℕ) {d : Delivery} {o p : Outcome (List ℕ)} → d ≡ deliver o buffer → p ≡ o → d ≡ deliver p buffer
 delivers buffer e f = e ∙ ap (λ x. deliver x buffer) (sym f)
 
--- ---- the shape, and the scalar's record, which begins at `at`
+-- ---- the type is known, and so is its scalar, which begins at `at`
 
 module _ (s : List ℕ) (small : Bytes s) (good : mapped nothing (lone s) ≡ accepted 0) where
   pub type-known : (d : ℕ) × HasType s 0 d
   type-known = (maxDepth, has-type s small good)
 
-  pub lone-shape : {x : Shape} → ((d : ℕ) (t : Ty) → TypeAt s 0 d t → x ≡ shapeOf t) → mapped shapeOf (lone s) ≡ accepted x
-  lone-shape is = passed-accepted (lone s) good λ t e. rw e (ap accepted (sym (is maxDepth t (type-there s small t e))))
-
   module _ {at : ℕ} (begins : Begins s at) where
     pub scalar-known : (d : ℕ) × HasScalar s at d
     scalar-known = (maxDepth - 1, has-scalar s 0 begins maxDepth (has-type s small good))
-
-    pub lone-scalar : mapped scalarRecord (lone s) ≡ accepted (drop at s)
-    lone-scalar = passed-accepted (lone s) good go
-      where
-        go : (t : Ty) → lone s ≡ accepted t → mapped scalarRecord (lone s) ≡ accepted (drop at s)
-        go (ty o k) e = rw e (ap accepted (sym (record-there s small begins (ty o k) e)))
 
 -- ---- what the scalar is
 

@@ -19,13 +19,13 @@ use Rattle.lent.specs.Over.{over, over-over}
 use Rattle.record.specs.Answers.{nothing}
 use Rattle.rules.specs.Shapes.{rank, rowShape}
 use Rattle.rules.specs.Types.{anyTy, fieldIn, firstField, lastField, nthField, orElse, stretch, fieldPlace, rowScalar, rowBy}
-use Rattle.known.specs.WholeLaws.{Begins}
+use Rattle.known.specs.WholeLaws.{Begins, whole-scalar}
 use Rattle.known.specs.declared.View.{View}
 use Rattle.ty.specs.Parts.{LoneDef}
 use Rattle.ty.specs.Rows.{chosen, indexOf, reshaped, rowOfDef}
 use Rattle.ty.specs.declared.rows.Which.{Which}
 use Rattle.ty.specs.declared.rows.Which.the-variants.{First, Last, Nth}
-use Rattle.ty.proofs.PartLaws.{lone-scalar, Inside, in-plain, in-any, in-all, in-def, NoDef}
+use Rattle.ty.proofs.PartLaws.{Inside, in-plain, in-any, in-all, in-def, NoDef}
 use Rattle.ty.proofs.ContentLaws.{anyBytes, any-bytes, first-is, field-found, field-lacks, shaped-as}
 
 -- ---- three stretches, one after the other
@@ -112,7 +112,7 @@ index-high n count h = rw (le-ltb n count h)
 
 pub keep-bytes : (s : List ℕ) → Bytes s → mapped nothing (lone s) ≡ accepted 0 → {at : ℕ} → Begins s at → (row : Shape) → mapped (reshaped row) (lone s) ≡ accepted (writeShape row ++ ([] ++ take (length s - at) (drop at s)))
 unfolding reshaped writeTy
-keep-bytes s small good {at} begins row = go (lone s) (lone-scalar s small good begins ∙ ap accepted (sym (rest-is s at)))
+keep-bytes s small good {at} begins row = go (lone s) (whole-scalar s small good begins ∙ ap accepted (sym (rest-is s at)))
   where
     go : (r : Outcome Ty) {w : List ℕ} → mapped scalarRecord r ≡ accepted w → mapped (reshaped row) r ≡ accepted (writeShape row ++ ([] ++ w))
     go (accepted (ty o k)) {w} e = let x : writeScalar k ≡ w = cc in rw x

@@ -1,18 +1,21 @@
-use mathlib.Core.Path.{sym, _∙_, ap}
+use mathlib.Core.Path.{sym, ap, _∙_}
 use Rattle.format.specs.Records.{writeTy}
 use Rattle.format.specs.Outcome.{accepted, lone}
+use Rattle.rules.specs.Types.{joinTypes}
 use Rattle.lent.specs.Delivers.{deliver-handed}
 use Rattle.record.specs.Answers.{loneOf}
-use Rattle.rules.specs.Types.{joinTypes}
-use Rattle.record.proofs.LoneLaws.{both-refused}
+use Rattle.record.proofs.LoneLaws.{both-refused, both-read}
 use borrow.Author.Needs.{needs}
 use Rattle.join.proofs.join.Statement.{statement}
 use Rattle.join.proofs.join.Tie as tie
 use Rattle.join.proofs.join.Reads as reads
 use Rattle.join.proofs.join.Lts as lts
 
-read-both-requires : tie.Need-read-both-requires
-read-both-requires c κs = search needs
+read-two-requires : tie.Need-read-two-requires
+read-two-requires c κs = search needs
+
+whichever-requires : tie.Need-whichever-requires
+whichever-requires c κs = search needs
 
 enum-told : tie.Need-enum-told
 enum-told c = search needs
@@ -25,16 +28,23 @@ as-written-requires c κs = search needs
 
 returns : tie.Need-returns
 returns c =
-    let entry = c .before .before .before .before .before .before .before in
-    let at-read-both = c .before .before .before in
+    let entry = c .before .before .before .before .before .before .before .before in
+    let at-read-two = c .before .before .before .before in
+    let at-whichever = c .before .before .before in
     let args = entry .args in
+    let read = both-read (lone (args .a .now)) (lone (args .b .now)) (at-read-two .read-two .result) (at-read-two .read-two .ensures) (at-whichever .whichever .result) (at-whichever .whichever .ensures) in
     let told = ap loneOf (c .before .enum-told2 .given .1) in
-    deliver-handed _ (c .as-written .result) (c .as-written .ensures ∙ told) (both-refused (lone (args .a .now)) (lone (args .b .now)) (λ t u. accepted (writeTy (joinTypes t u))) (sym (at-read-both .read-both .ensures) ∙ told))
+    let stopped = both-refused (lone (args .a .now)) (lone (args .b .now)) (λ t u. accepted (writeTy (joinTypes t u))) (sym read ∙ told) in
+    deliver-handed _ (c .as-written .result) (c .as-written .ensures ∙ told) stopped
 
 join-known-requires : tie.Need-join-known-requires
 join-known-requires c κs =
-    let at-read-both = c .before .before .before in
-    (sym (at-read-both .read-both .ensures) ∙ ap loneOf (c .before .enum-told .given .1))
+    let entry = c .before .before .before .before .before .before .before .before in
+    let at-read-two = c .before .before .before .before in
+    let at-whichever = c .before .before .before in
+    let args = entry .args in
+    let read = both-read (lone (args .a .now)) (lone (args .b .now)) (at-read-two .read-two .result) (at-read-two .read-two .ensures) (at-whichever .whichever .result) (at-whichever .whichever .ensures) in
+    sym read ∙ ap loneOf (c .before .enum-told .given .1)
 
 same-length : tie.Need-same-length
 same-length c = search needs
@@ -46,7 +56,8 @@ pub join-spec : {M : Type 1} → statement M
 join-spec =
     tie.close
     (tie.spec
-    read-both-requires
+    read-two-requires
+    whichever-requires
     enum-told
     enum-told-2
     as-written-requires

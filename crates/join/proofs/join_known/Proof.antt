@@ -1,67 +1,64 @@
-use mathlib.Core.Path.{sym, _∙_, ap}
-use Rattle.format.specs.Records.{writeTy}
-use Rattle.format.specs.Outcome.{accepted, lone, deliver}
-use Rattle.model.specs.Types.{ty}
+use native.Mathlib.Omega.{arith}
+use Rattle.format.specs.Reader.{Bytes}
 use Rattle.record.specs.Answers.{shapeFor}
-use Rattle.rules.specs.Scalars.{union}
-use Rattle.rules.specs.Types.{joinTypes}
-use Rattle.record.proofs.LoneLaws.{both-passed}
-use Rattle.join.specs.ShapesLaws.{by-scalars}
+use Rattle.scalar.proofs.CallLaws.{delivered-as, first-type, second-type}
+use Rattle.join.proofs.Laws.{joined}
 use borrow.Author.Needs.{needs}
 use Rattle.join.proofs.join_known.Statement.{statement}
 use Rattle.join.proofs.join_known.Tie as tie
 use Rattle.join.proofs.join_known.Reads as reads
 use Rattle.join.proofs.join_known.Lts as lts
-use Rattle.join.proofs.write_union.Reads as write-union-reads
-use Rattle.record.proofs.lone_shape.Reads as lone-shape-reads
-use Rattle.shape.proofs.join.Reads as join-reads
 
--- src/lib.rt:41:29
-lone-shape-requires : tie.Need-lone-shape-requires
-lone-shape-requires c κs =
+shape-at-requires : tie.Need-shape-at-requires
+shape-at-requires c κs =
     let entry = c .before .before .before in
-    let good = both-passed (lone (entry .args .a .now)) (lone (entry .args .b .now)) (entry .pre) in
-    search needs
+    let at-shared-slice-known = c .before .before in
+    let args = entry .args in
+    let small : Bytes (args .a .now) = λ i. omega (arith, at-shared-slice-known .shared-slice-known .given i) in
+    let small′ : Bytes (args .b .now) = λ i. omega (arith, c .before .shared-slice-known2 .given i) in
+    first-type (args .a .now) (args .b .now) (entry .pre) small small′
 
--- src/lib.rt:41:44
-lone-shape-requires-2 : tie.Need-lone-shape-requires-2
-lone-shape-requires-2 c κs =
+shape-at-requires-2 : tie.Need-shape-at-requires-2
+shape-at-requires-2 c κs =
     let entry = c .before .before .before .before in
-    let good = both-passed (lone (entry .args .a .now)) (lone (entry .args .b .now)) (entry .pre) in
-    search needs
+    let at-shared-slice-known = c .before .before .before in
+    let at-shared-slice-known2 = c .before .before in
+    let args = entry .args in
+    let small : Bytes (args .a .now) = λ i. omega (arith, at-shared-slice-known .shared-slice-known .given i) in
+    let small′ : Bytes (args .b .now) = λ i. omega (arith, at-shared-slice-known2 .shared-slice-known2 .given i) in
+    second-type (args .a .now) (args .b .now) (entry .pre) small small′
 
--- src/lib.rt:41:9
 join-requires : tie.Need-join-requires
 join-requires c κs = search needs
 
--- src/lib.rt:42:5
 write-union-requires : tie.Need-write-union-requires
-write-union-requires c κs =
-    let entry = c .before .before .before .before .before .before .before in
-    entry .pre
+write-union-requires c κs = search needs
 
--- src/lib.rt:37:1
 same-length : tie.Need-same-length
 same-length c = search needs
 
--- src/lib.rt:37:1
 returns : tie.Need-returns
-unfolding joinTypes
 returns c =
     let entry = c .before .before .before .before .before .before .before .before .before .before in
-    let at-lone-shape = c .before .before .before .before .before .before in
-    let at-lone-shape2 = c .before .before .before .before .before in
+    let at-shared-slice-known = c .before .before .before .before .before .before .before .before .before in
+    let at-shared-slice-known2 = c .before .before .before .before .before .before .before .before in
+    let at-shape-at = c .before .before .before .before .before .before in
+    let at-shape-at2 = c .before .before .before .before .before in
     let at-join = c .before .before .before .before in
     let at-write-union = c .before .before in
     let args = entry .args in
-    at-write-union .write-union .ensures ∙ ap (λ o. deliver o (args .result .now)) (sym (by-scalars (lone (args .a .now)) (lone (args .b .now)) (at-lone-shape .lone-shape .ensures) (at-lone-shape2 .lone-shape2 .ensures) (λ t u. accepted (writeTy (joinTypes t u))) (λ k l. accepted (writeTy (ty (shapeFor (at-join .join .result)) (union k l)))) (λ k l. ap (λ s. accepted (writeTy (ty s (union k l)))) (sym (at-join .join .ensures)))))
+    let small : Bytes (args .a .now) = λ i. omega (arith, at-shared-slice-known .shared-slice-known .given i) in
+    let small′ : Bytes (args .b .now) = λ i. omega (arith, at-shared-slice-known2 .shared-slice-known2 .given i) in
+    delivered-as (args .result .now) (at-write-union .write-union .ensures)
+    (joined (args .a .now) (args .b .now) (entry .pre) small small′ (at-shape-at .shape-at .result) (at-shape-at2 .shape-at2 .result) (at-shape-at .shape-at .ensures)
+    (at-shape-at2 .shape-at2 .ensures) (shapeFor (at-join .join .result)) (at-join .join .ensures))
 
 pub join-known-spec : {M : Type 1} → statement M
 join-known-spec =
     tie.close
     (tie.spec
-    lone-shape-requires
-    lone-shape-requires-2
+    shape-at-requires
+    shape-at-requires-2
     join-requires
     write-union-requires
     same-length

@@ -1,11 +1,9 @@
 use native.Mathlib.Omega.{arith}
-use mathlib.Core.Path.{_∙_, ap}
-use mathlib.Core.List.{[], _++_}
-use Rattle.format.specs.Records.{writeShape, writeScalar}
-use Rattle.format.specs.Outcome.{accepted, deliver}
+use Rattle.format.specs.Reader.{Bytes}
+use Rattle.format.specs.Records.{code, writeScalar}
 use Rattle.record.specs.Answers.{shapeFor}
-use Rattle.walk.specs.WholeLaws.{first-good, second-good, has-scalars}
-use Rattle.format.specs.Views.{rest-is}
+use Rattle.known.specs.WholeLaws.{has-scalars}
+use Rattle.scalar.proofs.CallLaws.{delivered-as, first-type, second-type, first-within, second-within}
 use Rattle.join.proofs.Laws.{union-first, union-second, union-box-any, union-any}
 use borrow.Author.Needs.{needs}
 use Rattle.join.proofs.write_union.Statement.{statement}
@@ -13,15 +11,24 @@ use Rattle.join.proofs.write_union.Tie as tie
 use Rattle.join.proofs.write_union.Reads as reads
 use Rattle.join.proofs.write_union.Lts as lts
 
-lone-scalar-requires : tie.Need-lone-scalar-requires
-lone-scalar-requires c κs =
+scalar-at-requires : tie.Need-scalar-at-requires
+scalar-at-requires c κs =
     let entry = c .before .before .before in
-    first-good _ _ (entry .pre)
+    let at-shared-slice-known = c .before .before in
+    let args = entry .args in
+    let small : Bytes (args .a .now) = λ i. omega (arith, at-shared-slice-known .shared-slice-known .given i) in
+    let small′ : Bytes (args .b .now) = λ i. omega (arith, c .before .shared-slice-known2 .given i) in
+    first-type (args .a .now) (args .b .now) (entry .pre) small small′
 
-lone-scalar-requires-2 : tie.Need-lone-scalar-requires-2
-lone-scalar-requires-2 c κs =
+scalar-at-requires-2 : tie.Need-scalar-at-requires-2
+scalar-at-requires-2 c κs =
     let entry = c .before .before .before .before in
-    second-good _ _ (entry .pre)
+    let at-shared-slice-known = c .before .before .before in
+    let at-shared-slice-known2 = c .before .before in
+    let args = entry .args in
+    let small : Bytes (args .a .now) = λ i. omega (arith, at-shared-slice-known .shared-slice-known .given i) in
+    let small′ : Bytes (args .b .now) = λ i. omega (arith, at-shared-slice-known2 .shared-slice-known2 .given i) in
+    second-type (args .a .now) (args .b .now) (entry .pre) small small′
 
 sub-unite : tie.Need-sub-unite
 sub-unite c = search needs
@@ -31,7 +38,10 @@ unite-requires c κs =
     let entry = c .before .before .before .before .before in
     let at-shared-slice-known = c .before .before .before .before in
     let at-shared-slice-known2 = c .before .before .before in
-    has-scalars _ _ (entry .pre) (λ i. omega (arith, at-shared-slice-known .shared-slice-known .given i)) (λ i. omega (arith, at-shared-slice-known2 .shared-slice-known2 .given i)) (c .before .lone-scalar .ensures) (c .lone-scalar2 .ensures)
+    let args = entry .args in
+    let small : Bytes (args .a .now) = λ i. omega (arith, at-shared-slice-known .shared-slice-known .given i) in
+    let small′ : Bytes (args .b .now) = λ i. omega (arith, at-shared-slice-known2 .shared-slice-known2 .given i) in
+    has-scalars (args .a .now) (args .b .now) (entry .pre) small small′ (c .before .scalar-at .ensures) (c .scalar-at2 .ensures)
 
 enum-told : tie.Need-enum-told
 enum-told c = search needs
@@ -40,10 +50,26 @@ slice-aggregate-write-parts : tie.Need-slice-aggregate-write-parts
 slice-aggregate-write-parts c = search needs
 
 sub-write-parts : tie.Need-sub-write-parts
-sub-write-parts c = search needs
+sub-write-parts c =
+    let entry = c .before .before .before .before .before .before .before .before .before in
+    let at-shared-slice-known = c .before .before .before .before .before .before .before .before in
+    let at-shared-slice-known2 = c .before .before .before .before .before .before .before in
+    let at-scalar-at = c .before .before .before .before .before in
+    let args = entry .args in
+    let small : Bytes (args .a .now) = λ i. omega (arith, at-shared-slice-known .shared-slice-known .given i) in
+    let small′ : Bytes (args .b .now) = λ i. omega (arith, at-shared-slice-known2 .shared-slice-known2 .given i) in
+    first-within (args .a .now) (args .b .now) (entry .pre) small small′ (at-scalar-at .scalar-at .ensures)
 
 part-write-parts-start : tie.Need-part-write-parts-start
-part-write-parts-start c = search needs
+part-write-parts-start c =
+    let entry = c .before .before .before .before .before .before .before .before .before in
+    let at-shared-slice-known = c .before .before .before .before .before .before .before .before in
+    let at-shared-slice-known2 = c .before .before .before .before .before .before .before in
+    let at-scalar-at = c .before .before .before .before .before in
+    let args = entry .args in
+    let small : Bytes (args .a .now) = λ i. omega (arith, at-shared-slice-known .shared-slice-known .given i) in
+    let small′ : Bytes (args .b .now) = λ i. omega (arith, at-shared-slice-known2 .shared-slice-known2 .given i) in
+    first-within (args .a .now) (args .b .now) (entry .pre) small small′ (at-scalar-at .scalar-at .ensures)
 
 part-write-parts-end : tie.Need-part-write-parts-end
 part-write-parts-end c = search needs
@@ -58,10 +84,26 @@ slice-aggregate-write-parts-2 : tie.Need-slice-aggregate-write-parts-2
 slice-aggregate-write-parts-2 c = search needs
 
 sub-write-parts-2 : tie.Need-sub-write-parts-2
-sub-write-parts-2 c = search needs
+sub-write-parts-2 c =
+    let entry = c .before .before .before .before .before .before .before .before .before in
+    let at-shared-slice-known = c .before .before .before .before .before .before .before .before in
+    let at-shared-slice-known2 = c .before .before .before .before .before .before .before in
+    let at-scalar-at2 = c .before .before .before .before in
+    let args = entry .args in
+    let small : Bytes (args .a .now) = λ i. omega (arith, at-shared-slice-known .shared-slice-known .given i) in
+    let small′ : Bytes (args .b .now) = λ i. omega (arith, at-shared-slice-known2 .shared-slice-known2 .given i) in
+    second-within (args .a .now) (args .b .now) (entry .pre) small small′ (at-scalar-at2 .scalar-at2 .ensures)
 
 part-write-parts-start-2 : tie.Need-part-write-parts-start-2
-part-write-parts-start-2 c = search needs
+part-write-parts-start-2 c =
+    let entry = c .before .before .before .before .before .before .before .before .before in
+    let at-shared-slice-known = c .before .before .before .before .before .before .before .before in
+    let at-shared-slice-known2 = c .before .before .before .before .before .before .before in
+    let at-scalar-at2 = c .before .before .before .before in
+    let args = entry .args in
+    let small : Bytes (args .a .now) = λ i. omega (arith, at-shared-slice-known .shared-slice-known .given i) in
+    let small′ : Bytes (args .b .now) = λ i. omega (arith, at-shared-slice-known2 .shared-slice-known2 .given i) in
+    second-within (args .a .now) (args .b .now) (entry .pre) small small′ (at-scalar-at2 .scalar-at2 .ensures)
 
 part-write-parts-end-2 : tie.Need-part-write-parts-end-2
 part-write-parts-end-2 c = search needs
@@ -101,17 +143,17 @@ returns c =
     let entry = c .before .before .before .before .before .before .before .before .before .before .before .before .before .before in
     let at-shared-slice-known = c .before .before .before .before .before .before .before .before .before .before .before .before .before in
     let at-shared-slice-known2 = c .before .before .before .before .before .before .before .before .before .before .before .before in
-    let at-lone-scalar = c .before .before .before .before .before .before .before .before .before .before in
-    let at-lone-scalar2 = c .before .before .before .before .before .before .before .before .before in
+    let at-scalar-at = c .before .before .before .before .before .before .before .before .before .before in
+    let at-scalar-at2 = c .before .before .before .before .before .before .before .before .before in
     let at-unite = c .before .before .before .before .before .before .before .before in
     let at-enum-told = c .before .before .before .before .before .before in
     let at-write-parts = c .before .before in
     let args = entry .args in
-    at-write-parts .write-parts .ensures ∙ (ap (λ w. deliver (accepted (writeShape (shapeFor (args .shape)) ++ ([] ++ w))) (args .result .now))
-    (rest-is (args .a .now) (at-lone-scalar .lone-scalar .result))
-    ∙ ap (λ o. deliver o (args .result .now)) (union-first (shapeFor (args .shape)) _ _ (entry .pre) (λ i. omega (arith, at-shared-slice-known .shared-slice-known .given i))
-    (λ i. omega (arith, at-shared-slice-known2 .shared-slice-known2 .given i)) (at-lone-scalar .lone-scalar .ensures) (at-lone-scalar2 .lone-scalar2 .ensures) (at-unite .unite .result)
-    (at-unite .unite .ensures) (at-enum-told .enum-told .given .1)))
+    let small : Bytes (args .a .now) = λ i. omega (arith, at-shared-slice-known .shared-slice-known .given i) in
+    let small′ : Bytes (args .b .now) = λ i. omega (arith, at-shared-slice-known2 .shared-slice-known2 .given i) in
+    delivered-as (args .result .now) (at-write-parts .write-parts .ensures)
+    (union-first (args .a .now) (args .b .now) (entry .pre) small small′ (shapeFor (args .shape)) (at-scalar-at .scalar-at .ensures) (at-scalar-at2 .scalar-at2 .ensures)
+    (at-unite .unite .result) (at-unite .unite .ensures) (at-enum-told .enum-told .given .1))
 
 same-length-2 : tie.Need-same-length-2
 same-length-2 c = search needs
@@ -121,64 +163,66 @@ returns-2 c =
     let entry = c .before .before .before .before .before .before .before .before .before .before .before .before .before .before in
     let at-shared-slice-known = c .before .before .before .before .before .before .before .before .before .before .before .before .before in
     let at-shared-slice-known2 = c .before .before .before .before .before .before .before .before .before .before .before .before in
-    let at-lone-scalar = c .before .before .before .before .before .before .before .before .before .before in
-    let at-lone-scalar2 = c .before .before .before .before .before .before .before .before .before in
+    let at-scalar-at = c .before .before .before .before .before .before .before .before .before .before in
+    let at-scalar-at2 = c .before .before .before .before .before .before .before .before .before in
     let at-unite = c .before .before .before .before .before .before .before .before in
     let at-enum-told2 = c .before .before .before .before .before .before in
     let at-write-parts2 = c .before .before in
     let args = entry .args in
-    at-write-parts2 .write-parts2 .ensures ∙ (ap (λ w. deliver (accepted (writeShape (shapeFor (args .shape)) ++ ([] ++ w))) (args .result .now))
-    (rest-is (args .b .now) (at-lone-scalar2 .lone-scalar2 .result))
-    ∙ ap (λ o. deliver o (args .result .now)) (union-second (shapeFor (args .shape)) _ _ (entry .pre) (λ i. omega (arith, at-shared-slice-known .shared-slice-known .given i))
-    (λ i. omega (arith, at-shared-slice-known2 .shared-slice-known2 .given i)) (at-lone-scalar .lone-scalar .ensures) (at-lone-scalar2 .lone-scalar2 .ensures) (at-unite .unite .result)
-    (at-unite .unite .ensures) (at-enum-told2 .enum-told2 .given .1)))
+    let small : Bytes (args .a .now) = λ i. omega (arith, at-shared-slice-known .shared-slice-known .given i) in
+    let small′ : Bytes (args .b .now) = λ i. omega (arith, at-shared-slice-known2 .shared-slice-known2 .given i) in
+    delivered-as (args .result .now) (at-write-parts2 .write-parts2 .ensures)
+    (union-second (args .a .now) (args .b .now) (entry .pre) small small′ (shapeFor (args .shape)) (at-scalar-at .scalar-at .ensures) (at-scalar-at2 .scalar-at2 .ensures)
+    (at-unite .unite .result) (at-unite .unite .ensures) (at-enum-told2 .enum-told2 .given .1))
 
 same-length-3 : tie.Need-same-length-3
 same-length-3 c = search needs
 
 returns-3 : tie.Need-returns-3
-unfolding writeScalar
+unfolding writeScalar code
 returns-3 c =
     let entry = c .before .before .before .before .before .before .before .before .before .before .before .before .before .before in
     let at-shared-slice-known = c .before .before .before .before .before .before .before .before .before .before .before .before .before in
     let at-shared-slice-known2 = c .before .before .before .before .before .before .before .before .before .before .before .before in
-    let at-lone-scalar = c .before .before .before .before .before .before .before .before .before .before in
-    let at-lone-scalar2 = c .before .before .before .before .before .before .before .before .before in
+    let at-scalar-at = c .before .before .before .before .before .before .before .before .before .before in
+    let at-scalar-at2 = c .before .before .before .before .before .before .before .before .before in
     let at-unite = c .before .before .before .before .before .before .before .before in
     let at-enum-told3 = c .before .before .before .before .before .before in
     let at-write-parts3 = c .before .before in
     let args = entry .args in
-    at-write-parts3 .write-parts3 .ensures ∙ (ap (λ o. deliver o (args .result .now))
-    (union-box-any (shapeFor (args .shape)) _ _ (entry .pre) (λ i. omega (arith, at-shared-slice-known .shared-slice-known .given i))
-    (λ i. omega (arith, at-shared-slice-known2 .shared-slice-known2 .given i)) (at-lone-scalar .lone-scalar .ensures) (at-lone-scalar2 .lone-scalar2 .ensures) (at-unite .unite .result)
-    (at-unite .unite .ensures) (at-enum-told3 .enum-told3 .given .1)))
+    let small : Bytes (args .a .now) = λ i. omega (arith, at-shared-slice-known .shared-slice-known .given i) in
+    let small′ : Bytes (args .b .now) = λ i. omega (arith, at-shared-slice-known2 .shared-slice-known2 .given i) in
+    delivered-as (args .result .now) (at-write-parts3 .write-parts3 .ensures)
+    (union-box-any (args .a .now) (args .b .now) (entry .pre) small small′ (shapeFor (args .shape)) (at-scalar-at .scalar-at .ensures) (at-scalar-at2 .scalar-at2 .ensures)
+    (at-unite .unite .result) (at-unite .unite .ensures) (at-enum-told3 .enum-told3 .given .1))
 
 same-length-4 : tie.Need-same-length-4
 same-length-4 c = search needs
 
 returns-4 : tie.Need-returns-4
-unfolding writeScalar
+unfolding writeScalar code
 returns-4 c =
     let entry = c .before .before .before .before .before .before .before .before .before .before .before .before .before .before in
     let at-shared-slice-known = c .before .before .before .before .before .before .before .before .before .before .before .before .before in
     let at-shared-slice-known2 = c .before .before .before .before .before .before .before .before .before .before .before .before in
-    let at-lone-scalar = c .before .before .before .before .before .before .before .before .before .before in
-    let at-lone-scalar2 = c .before .before .before .before .before .before .before .before .before in
+    let at-scalar-at = c .before .before .before .before .before .before .before .before .before .before in
+    let at-scalar-at2 = c .before .before .before .before .before .before .before .before .before in
     let at-unite = c .before .before .before .before .before .before .before .before in
     let at-enum-told4 = c .before .before .before .before .before .before in
     let at-write-parts4 = c .before .before in
     let args = entry .args in
-    at-write-parts4 .write-parts4 .ensures ∙ (ap (λ o. deliver o (args .result .now))
-    (union-any (shapeFor (args .shape)) _ _ (entry .pre) (λ i. omega (arith, at-shared-slice-known .shared-slice-known .given i))
-    (λ i. omega (arith, at-shared-slice-known2 .shared-slice-known2 .given i)) (at-lone-scalar .lone-scalar .ensures) (at-lone-scalar2 .lone-scalar2 .ensures) (at-unite .unite .result)
-    (at-unite .unite .ensures) (at-enum-told4 .enum-told4 .given .1)))
+    let small : Bytes (args .a .now) = λ i. omega (arith, at-shared-slice-known .shared-slice-known .given i) in
+    let small′ : Bytes (args .b .now) = λ i. omega (arith, at-shared-slice-known2 .shared-slice-known2 .given i) in
+    delivered-as (args .result .now) (at-write-parts4 .write-parts4 .ensures)
+    (union-any (args .a .now) (args .b .now) (entry .pre) small small′ (shapeFor (args .shape)) (at-scalar-at .scalar-at .ensures) (at-scalar-at2 .scalar-at2 .ensures)
+    (at-unite .unite .result) (at-unite .unite .ensures) (at-enum-told4 .enum-told4 .given .1))
 
 pub write-union-spec : {M : Type 1} → statement M
 write-union-spec =
     tie.close
     (tie.spec
-    lone-scalar-requires
-    lone-scalar-requires-2
+    scalar-at-requires
+    scalar-at-requires-2
     sub-unite
     unite-requires
     enum-told

@@ -36,7 +36,8 @@ returns-3 c =
     let at-superset-codes2 = c .before .before .before .before in
     let at-if2 = c .before .before .before in
     let at-stream-or-box = c .before .before in
-    c .stream-or-box2 .ensures ∙ sym (compatible-both _ _ (at-superset-codes .superset-codes .ensures) (at-if1 .if1 .left) (at-superset-codes2 .superset-codes2 .ensures) (at-if2 .if2 .left) (at-stream-or-box .stream-or-box .ensures) (c .before .if3 .taken))
+    c .stream-or-box2 .ensures ∙ sym (compatible-both _ _ (at-superset-codes .superset-codes .ensures) (at-if1 .if1 .left) (at-superset-codes2 .superset-codes2 .ensures)
+    (at-if2 .if2 .left) (at-stream-or-box .stream-or-box .ensures) (c .before .if3 .taken))
 
 returns-4 : tie.Need-returns-4
 returns-4 c =

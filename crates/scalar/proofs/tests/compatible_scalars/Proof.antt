@@ -2,20 +2,30 @@ use mathlib.Core.Bool.{true}
 use mathlib.Core.Path.{sym, ap, _∙_}
 use native.Mathlib.Omega.{arith}
 use Rattle.model.specs.Types.{scalarOf}
+use Rattle.format.specs.Reader.{Bytes}
 use Rattle.format.specs.Outcome.{accepted, lone, mapped}
 use Rattle.rules.specs.Scalars.{compatibleScalars}
 use Rattle.record.specs.Answers.{loneOf}
-use Rattle.record.proofs.LoneLaws.{both-refused}
-use Rattle.walk.specs.WholeLaws.{first-good, second-good, kind-there}
-use Rattle.scalar.proofs.CallLaws.{compatible-is}
+use Rattle.record.proofs.LoneLaws.{both-refused, both-read}
+use Rattle.scalar.proofs.CallLaws.{first-type, second-type, first-scalar, second-scalar, compatible-is}
 use borrow.Author.Needs.{needs}
 use Rattle.scalar.proofs.tests.compatible_scalars.Statement.{statement}
 use Rattle.scalar.proofs.tests.compatible_scalars.Tie as tie
 use Rattle.scalar.proofs.tests.compatible_scalars.Reads as reads
 use Rattle.scalar.proofs.tests.compatible_scalars.Lts as lts
+use Rattle.known.proofs.kind_at.Reads as kind-at-reads
+use Rattle.known.proofs.scalar_at.Reads as scalar-at-reads
+use Rattle.lent.proofs.tell.Reads as tell-reads
+use Rattle.record.proofs.read_two.Reads as read-two-reads
+use Rattle.record.proofs.whichever.Reads as whichever-reads
+use Rattle.scalar.proofs.kinds.compatible_codes.Reads as compatible-codes-reads
+use Rattle.writer.proofs.as_tested.Reads as as-tested-reads
 
-read-both-requires : tie.Need-read-both-requires
-read-both-requires c κs = search needs
+read-two-requires : tie.Need-read-two-requires
+read-two-requires c κs = search needs
+
+whichever-requires : tie.Need-whichever-requires
+whichever-requires c κs = search needs
 
 enum-told : tie.Need-enum-told
 enum-told c = search needs
@@ -28,35 +38,72 @@ as-tested-requires c κs = search needs
 
 returns : tie.Need-returns
 returns c =
-    let entry = c .before .before .before .before .before .before in
-    let at-read-both = c .before .before .before in
+    let entry = c .before .before .before .before .before .before .before in
+    let at-read-two = c .before .before .before .before in
+    let at-whichever = c .before .before .before in
     let args = entry .args in
+    let read = both-read (lone (args .a .now)) (lone (args .b .now)) (at-read-two .read-two .result) (at-read-two .read-two .ensures) (at-whichever .whichever .result) (at-whichever .whichever .ensures) in
     let told = ap loneOf (c .before .enum-told2 .given .1) in
-    c .as-tested .ensures ∙ (ap (mapped (λ _. true)) told ∙ sym (both-refused (lone (args .a .now)) (lone (args .b .now)) (λ t u. accepted (compatibleScalars (scalarOf t) (scalarOf u))) (sym (at-read-both .read-both .ensures) ∙ told)))
+    let stopped = both-refused (lone (args .a .now)) (lone (args .b .now)) (λ t u. accepted (compatibleScalars (scalarOf t) (scalarOf u))) (sym read ∙ told) in
+    c .as-tested .ensures ∙ (ap (mapped (λ _. true)) told ∙ sym stopped)
 
-lone-scalar-requires : tie.Need-lone-scalar-requires
-lone-scalar-requires c κs =
-    let at-read-both = c .before .before in
-    first-good _ _ (sym (at-read-both .read-both .ensures) ∙ ap loneOf (c .enum-told .given .1))
+scalar-at-requires : tie.Need-scalar-at-requires
+scalar-at-requires c κs =
+    let entry = c .before .before .before .before .before .before in
+    let at-shared-slice-known = c .before .before .before .before .before in
+    let at-shared-slice-known2 = c .before .before .before .before in
+    let at-read-two = c .before .before .before in
+    let at-whichever = c .before .before in
+    let args = entry .args in
+    let small : Bytes (args .a .now) = λ i. omega (arith, at-shared-slice-known .shared-slice-known .given i) in
+    let small′ : Bytes (args .b .now) = λ i. omega (arith, at-shared-slice-known2 .shared-slice-known2 .given i) in
+    let read = both-read (lone (args .a .now)) (lone (args .b .now)) (at-read-two .read-two .result) (at-read-two .read-two .ensures) (at-whichever .whichever .result) (at-whichever .whichever .ensures) in
+    let good = sym read ∙ ap loneOf (c .enum-told .given .1) in
+    first-type (args .a .now) (args .b .now) good small small′
 
 kind-at-requires : tie.Need-kind-at-requires
 kind-at-requires c κs =
-    let at-shared-slice-known = c .before .before .before .before .before in
-    let at-read-both = c .before .before .before in
-    kind-there _ (λ i. omega (arith, at-shared-slice-known .shared-slice-known .given i)) (first-good _ _ (sym (at-read-both .read-both .ensures) ∙ ap loneOf (c .before .enum-told .given .1))) (c .lone-scalar .ensures)
+    let entry = c .before .before .before .before .before .before .before in
+    let at-shared-slice-known = c .before .before .before .before .before .before in
+    let at-shared-slice-known2 = c .before .before .before .before .before in
+    let at-read-two = c .before .before .before .before in
+    let at-whichever = c .before .before .before in
+    let args = entry .args in
+    let small : Bytes (args .a .now) = λ i. omega (arith, at-shared-slice-known .shared-slice-known .given i) in
+    let small′ : Bytes (args .b .now) = λ i. omega (arith, at-shared-slice-known2 .shared-slice-known2 .given i) in
+    let read = both-read (lone (args .a .now)) (lone (args .b .now)) (at-read-two .read-two .result) (at-read-two .read-two .ensures) (at-whichever .whichever .result) (at-whichever .whichever .ensures) in
+    let good = sym read ∙ ap loneOf (c .before .enum-told .given .1) in
+    first-scalar (args .a .now) (args .b .now) good small small′ (c .scalar-at .ensures)
 
-lone-scalar-requires-2 : tie.Need-lone-scalar-requires-2
-lone-scalar-requires-2 c κs =
-    let at-read-both = c .before .before .before .before in
+scalar-at-requires-2 : tie.Need-scalar-at-requires-2
+scalar-at-requires-2 c κs =
+    let entry = c .before .before .before .before .before .before .before .before in
+    let at-shared-slice-known = c .before .before .before .before .before .before .before in
+    let at-shared-slice-known2 = c .before .before .before .before .before .before in
+    let at-read-two = c .before .before .before .before .before in
+    let at-whichever = c .before .before .before .before in
     let at-enum-told = c .before .before in
-    second-good _ _ (sym (at-read-both .read-both .ensures) ∙ ap loneOf (at-enum-told .enum-told .given .1))
+    let args = entry .args in
+    let small : Bytes (args .a .now) = λ i. omega (arith, at-shared-slice-known .shared-slice-known .given i) in
+    let small′ : Bytes (args .b .now) = λ i. omega (arith, at-shared-slice-known2 .shared-slice-known2 .given i) in
+    let read = both-read (lone (args .a .now)) (lone (args .b .now)) (at-read-two .read-two .result) (at-read-two .read-two .ensures) (at-whichever .whichever .result) (at-whichever .whichever .ensures) in
+    let good = sym read ∙ ap loneOf (at-enum-told .enum-told .given .1) in
+    second-type (args .a .now) (args .b .now) good small small′
 
 kind-at-requires-2 : tie.Need-kind-at-requires-2
 kind-at-requires-2 c κs =
-    let at-shared-slice-known2 = c .before .before .before .before .before .before in
-    let at-read-both = c .before .before .before .before .before in
+    let entry = c .before .before .before .before .before .before .before .before .before in
+    let at-shared-slice-known = c .before .before .before .before .before .before .before .before in
+    let at-shared-slice-known2 = c .before .before .before .before .before .before .before in
+    let at-read-two = c .before .before .before .before .before .before in
+    let at-whichever = c .before .before .before .before .before in
     let at-enum-told = c .before .before .before in
-    kind-there _ (λ i. omega (arith, at-shared-slice-known2 .shared-slice-known2 .given i)) (second-good _ _ (sym (at-read-both .read-both .ensures) ∙ ap loneOf (at-enum-told .enum-told .given .1))) (c .lone-scalar2 .ensures)
+    let args = entry .args in
+    let small : Bytes (args .a .now) = λ i. omega (arith, at-shared-slice-known .shared-slice-known .given i) in
+    let small′ : Bytes (args .b .now) = λ i. omega (arith, at-shared-slice-known2 .shared-slice-known2 .given i) in
+    let read = both-read (lone (args .a .now)) (lone (args .b .now)) (at-read-two .read-two .result) (at-read-two .read-two .ensures) (at-whichever .whichever .result) (at-whichever .whichever .ensures) in
+    let good = sym read ∙ ap loneOf (at-enum-told .enum-told .given .1) in
+    second-scalar (args .a .now) (args .b .now) good small small′ (c .scalar-at2 .ensures)
 
 compatible-codes-requires : tie.Need-compatible-codes-requires
 compatible-codes-requires c κs = search needs
@@ -66,30 +113,37 @@ tell-requires c κs = search needs
 
 returns-2 : tie.Need-returns-2
 returns-2 c =
-    let at-shared-slice-known = c .before .before .before .before .before .before .before .before .before .before in
-    let at-shared-slice-known2 = c .before .before .before .before .before .before .before .before .before in
-    let at-read-both = c .before .before .before .before .before .before .before .before in
+    let entry = c .before .before .before .before .before .before .before .before .before .before .before .before in
+    let at-shared-slice-known = c .before .before .before .before .before .before .before .before .before .before .before in
+    let at-shared-slice-known2 = c .before .before .before .before .before .before .before .before .before .before in
+    let at-read-two = c .before .before .before .before .before .before .before .before .before in
+    let at-whichever = c .before .before .before .before .before .before .before .before in
     let at-enum-told = c .before .before .before .before .before .before in
-    let at-lone-scalar = c .before .before .before .before .before in
+    let at-scalar-at = c .before .before .before .before .before in
     let at-kind-at = c .before .before .before .before in
-    let at-lone-scalar2 = c .before .before .before in
+    let at-scalar-at2 = c .before .before .before in
     let at-kind-at2 = c .before .before in
-    c .tell .ensures ∙ compatible-is _ _ (sym (at-read-both .read-both .ensures) ∙ ap loneOf (at-enum-told .enum-told .given .1))
-    (λ i. omega (arith, at-shared-slice-known .shared-slice-known .given i)) (λ i. omega (arith, at-shared-slice-known2 .shared-slice-known2 .given i)) (at-lone-scalar .lone-scalar .ensures)
-    (at-lone-scalar2 .lone-scalar2 .ensures) (c .before .compatible-codes .ensures) (at-kind-at .kind-at .ensures .0) (at-kind-at2 .kind-at2 .ensures .0)
+    let args = entry .args in
+    let small : Bytes (args .a .now) = λ i. omega (arith, at-shared-slice-known .shared-slice-known .given i) in
+    let small′ : Bytes (args .b .now) = λ i. omega (arith, at-shared-slice-known2 .shared-slice-known2 .given i) in
+    let read = both-read (lone (args .a .now)) (lone (args .b .now)) (at-read-two .read-two .result) (at-read-two .read-two .ensures) (at-whichever .whichever .result) (at-whichever .whichever .ensures) in
+    let good = sym read ∙ ap loneOf (at-enum-told .enum-told .given .1) in
+    c .tell .ensures ∙ compatible-is (args .a .now) (args .b .now) good small small′ (at-scalar-at .scalar-at .ensures) (at-scalar-at2 .scalar-at2 .ensures)
+    (at-kind-at .kind-at .ensures) (at-kind-at2 .kind-at2 .ensures) (c .before .compatible-codes .ensures)
 
 pub compatible-scalars-spec : {M : Type 1} → statement M
 compatible-scalars-spec =
     tie.close
     (tie.spec
-    read-both-requires
+    read-two-requires
+    whichever-requires
     enum-told
     enum-told-2
     as-tested-requires
     returns
-    lone-scalar-requires
+    scalar-at-requires
     kind-at-requires
-    lone-scalar-requires-2
+    scalar-at-requires-2
     kind-at-requires-2
     compatible-codes-requires
     tell-requires

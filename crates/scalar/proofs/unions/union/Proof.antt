@@ -1,23 +1,26 @@
 use mathlib.Core.Path.{sym, ap, _∙_}
 use native.Mathlib.Omega.{arith}
 use Rattle.model.specs.Types.{scalarOf}
+use Rattle.format.specs.Reader.{Bytes}
 use Rattle.format.specs.Records.{writeScalar}
-use Rattle.format.specs.Outcome.{accepted, lone, deliver}
-use Rattle.lent.specs.Delivers.{deliver-handed}
+use Rattle.format.specs.Outcome.{accepted, lone}
 use Rattle.rules.specs.Scalars.{union}
+use Rattle.lent.specs.Delivers.{deliver-handed}
 use Rattle.record.specs.Answers.{loneOf}
-use Rattle.record.proofs.LoneLaws.{both-refused}
-use Rattle.walk.specs.WholeLaws.{first-good, second-good, has-scalars}
-use Rattle.format.specs.Views.{rest-is}
-use Rattle.scalar.proofs.CallLaws.{union-first, union-second, union-box-any, union-any}
+use Rattle.record.proofs.LoneLaws.{both-refused, both-read}
+use Rattle.known.specs.WholeLaws.{has-scalars}
+use Rattle.scalar.proofs.CallLaws.{delivered-as, first-type, second-type, first-within, second-within, union-first, union-second, union-box-any, union-any}
 use borrow.Author.Needs.{needs}
 use Rattle.scalar.proofs.unions.union.Statement.{statement}
 use Rattle.scalar.proofs.unions.union.Tie as tie
 use Rattle.scalar.proofs.unions.union.Reads as reads
 use Rattle.scalar.proofs.unions.union.Lts as lts
 
-read-both-requires : tie.Need-read-both-requires
-read-both-requires c κs = search needs
+read-two-requires : tie.Need-read-two-requires
+read-two-requires c κs = search needs
+
+whichever-requires : tie.Need-whichever-requires
+whichever-requires c κs = search needs
 
 enum-told : tie.Need-enum-told
 enum-told c = search needs
@@ -30,42 +33,95 @@ as-written-requires c κs = search needs
 
 returns : tie.Need-returns
 returns c =
-    let entry = c .before .before .before .before .before .before .before in
-    let at-read-both = c .before .before .before in
+    let entry = c .before .before .before .before .before .before .before .before in
+    let at-read-two = c .before .before .before .before in
+    let at-whichever = c .before .before .before in
     let args = entry .args in
+    let read = both-read (lone (args .a .now)) (lone (args .b .now)) (at-read-two .read-two .result) (at-read-two .read-two .ensures) (at-whichever .whichever .result) (at-whichever .whichever .ensures) in
     let told = ap loneOf (c .before .enum-told2 .given .1) in
-    deliver-handed _ (c .as-written .result) (c .as-written .ensures ∙ told) (both-refused (lone (args .a .now)) (lone (args .b .now)) (λ t u. accepted (writeScalar (union (scalarOf t) (scalarOf u)))) (sym (at-read-both .read-both .ensures) ∙ told))
+    let stopped = both-refused (lone (args .a .now)) (lone (args .b .now)) (λ t u. accepted (writeScalar (union (scalarOf t) (scalarOf u)))) (sym read ∙ told) in
+    deliver-handed _ (c .as-written .result) (c .as-written .ensures ∙ told) stopped
 
-lone-scalar-requires : tie.Need-lone-scalar-requires
-lone-scalar-requires c κs =
-    let at-read-both = c .before .before in
-    first-good _ _ (sym (at-read-both .read-both .ensures) ∙ ap loneOf (c .enum-told .given .1))
+scalar-at-requires : tie.Need-scalar-at-requires
+scalar-at-requires c κs =
+    let entry = c .before .before .before .before .before .before .before in
+    let at-shared-slice-known = c .before .before .before .before .before .before in
+    let at-shared-slice-known2 = c .before .before .before .before .before in
+    let at-read-two = c .before .before .before in
+    let at-whichever = c .before .before in
+    let args = entry .args in
+    let small : Bytes (args .a .now) = λ i. omega (arith, at-shared-slice-known .shared-slice-known .given i) in
+    let small′ : Bytes (args .b .now) = λ i. omega (arith, at-shared-slice-known2 .shared-slice-known2 .given i) in
+    let read = both-read (lone (args .a .now)) (lone (args .b .now)) (at-read-two .read-two .result) (at-read-two .read-two .ensures) (at-whichever .whichever .result) (at-whichever .whichever .ensures) in
+    let good = sym read ∙ ap loneOf (c .enum-told .given .1) in
+    first-type (args .a .now) (args .b .now) good small small′
 
-lone-scalar-requires-2 : tie.Need-lone-scalar-requires-2
-lone-scalar-requires-2 c κs =
-    let at-read-both = c .before .before .before in
-    second-good _ _ (sym (at-read-both .read-both .ensures) ∙ ap loneOf (c .before .enum-told .given .1))
+scalar-at-requires-2 : tie.Need-scalar-at-requires-2
+scalar-at-requires-2 c κs =
+    let entry = c .before .before .before .before .before .before .before .before in
+    let at-shared-slice-known = c .before .before .before .before .before .before .before in
+    let at-shared-slice-known2 = c .before .before .before .before .before .before in
+    let at-read-two = c .before .before .before .before in
+    let at-whichever = c .before .before .before in
+    let args = entry .args in
+    let small : Bytes (args .a .now) = λ i. omega (arith, at-shared-slice-known .shared-slice-known .given i) in
+    let small′ : Bytes (args .b .now) = λ i. omega (arith, at-shared-slice-known2 .shared-slice-known2 .given i) in
+    let read = both-read (lone (args .a .now)) (lone (args .b .now)) (at-read-two .read-two .result) (at-read-two .read-two .ensures) (at-whichever .whichever .result) (at-whichever .whichever .ensures) in
+    let good = sym read ∙ ap loneOf (c .before .enum-told .given .1) in
+    second-type (args .a .now) (args .b .now) good small small′
 
 sub-unite : tie.Need-sub-unite
 sub-unite c = search needs
 
 unite-requires : tie.Need-unite-requires
 unite-requires c κs =
-    let at-shared-slice-known = c .before .before .before .before .before .before .before in
-    let at-shared-slice-known2 = c .before .before .before .before .before .before in
-    let at-read-both = c .before .before .before .before in
+    let entry = c .before .before .before .before .before .before .before .before .before in
+    let at-shared-slice-known = c .before .before .before .before .before .before .before .before in
+    let at-shared-slice-known2 = c .before .before .before .before .before .before .before in
+    let at-read-two = c .before .before .before .before .before in
+    let at-whichever = c .before .before .before .before in
     let at-enum-told = c .before .before in
-    has-scalars _ _ (sym (at-read-both .read-both .ensures) ∙ ap loneOf (at-enum-told .enum-told .given .1)) (λ i. omega (arith, at-shared-slice-known .shared-slice-known .given i))
-    (λ i. omega (arith, at-shared-slice-known2 .shared-slice-known2 .given i)) (c .before .lone-scalar .ensures) (c .lone-scalar2 .ensures)
+    let args = entry .args in
+    let small : Bytes (args .a .now) = λ i. omega (arith, at-shared-slice-known .shared-slice-known .given i) in
+    let small′ : Bytes (args .b .now) = λ i. omega (arith, at-shared-slice-known2 .shared-slice-known2 .given i) in
+    let read = both-read (lone (args .a .now)) (lone (args .b .now)) (at-read-two .read-two .result) (at-read-two .read-two .ensures) (at-whichever .whichever .result) (at-whichever .whichever .ensures) in
+    let good = sym read ∙ ap loneOf (at-enum-told .enum-told .given .1) in
+    has-scalars (args .a .now) (args .b .now) good small small′ (c .before .scalar-at .ensures) (c .scalar-at2 .ensures)
 
 enum-told-3 : tie.Need-enum-told-3
 enum-told-3 c = search needs
 
 sub-hand-over : tie.Need-sub-hand-over
-sub-hand-over c = search needs
+sub-hand-over c =
+    let entry = c .before .before .before .before .before .before .before .before .before .before .before .before in
+    let at-shared-slice-known = c .before .before .before .before .before .before .before .before .before .before .before in
+    let at-shared-slice-known2 = c .before .before .before .before .before .before .before .before .before .before in
+    let at-read-two = c .before .before .before .before .before .before .before .before in
+    let at-whichever = c .before .before .before .before .before .before .before in
+    let at-enum-told = c .before .before .before .before .before in
+    let at-scalar-at = c .before .before .before .before in
+    let args = entry .args in
+    let small : Bytes (args .a .now) = λ i. omega (arith, at-shared-slice-known .shared-slice-known .given i) in
+    let small′ : Bytes (args .b .now) = λ i. omega (arith, at-shared-slice-known2 .shared-slice-known2 .given i) in
+    let read = both-read (lone (args .a .now)) (lone (args .b .now)) (at-read-two .read-two .result) (at-read-two .read-two .ensures) (at-whichever .whichever .result) (at-whichever .whichever .ensures) in
+    let good = sym read ∙ ap loneOf (at-enum-told .enum-told .given .1) in
+    first-within (args .a .now) (args .b .now) good small small′ (at-scalar-at .scalar-at .ensures)
 
 part-hand-over-start : tie.Need-part-hand-over-start
-part-hand-over-start c = search needs
+part-hand-over-start c =
+    let entry = c .before .before .before .before .before .before .before .before .before .before .before .before in
+    let at-shared-slice-known = c .before .before .before .before .before .before .before .before .before .before .before in
+    let at-shared-slice-known2 = c .before .before .before .before .before .before .before .before .before .before in
+    let at-read-two = c .before .before .before .before .before .before .before .before in
+    let at-whichever = c .before .before .before .before .before .before .before in
+    let at-enum-told = c .before .before .before .before .before in
+    let at-scalar-at = c .before .before .before .before in
+    let args = entry .args in
+    let small : Bytes (args .a .now) = λ i. omega (arith, at-shared-slice-known .shared-slice-known .given i) in
+    let small′ : Bytes (args .b .now) = λ i. omega (arith, at-shared-slice-known2 .shared-slice-known2 .given i) in
+    let read = both-read (lone (args .a .now)) (lone (args .b .now)) (at-read-two .read-two .result) (at-read-two .read-two .ensures) (at-whichever .whichever .result) (at-whichever .whichever .ensures) in
+    let good = sym read ∙ ap loneOf (at-enum-told .enum-told .given .1) in
+    first-within (args .a .now) (args .b .now) good small small′ (at-scalar-at .scalar-at .ensures)
 
 part-hand-over-end : tie.Need-part-hand-over-end
 part-hand-over-end c = search needs
@@ -77,10 +133,36 @@ enum-told-4 : tie.Need-enum-told-4
 enum-told-4 c = search needs
 
 sub-hand-over-2 : tie.Need-sub-hand-over-2
-sub-hand-over-2 c = search needs
+sub-hand-over-2 c =
+    let entry = c .before .before .before .before .before .before .before .before .before .before .before .before in
+    let at-shared-slice-known = c .before .before .before .before .before .before .before .before .before .before .before in
+    let at-shared-slice-known2 = c .before .before .before .before .before .before .before .before .before .before in
+    let at-read-two = c .before .before .before .before .before .before .before .before in
+    let at-whichever = c .before .before .before .before .before .before .before in
+    let at-enum-told = c .before .before .before .before .before in
+    let at-scalar-at2 = c .before .before .before in
+    let args = entry .args in
+    let small : Bytes (args .a .now) = λ i. omega (arith, at-shared-slice-known .shared-slice-known .given i) in
+    let small′ : Bytes (args .b .now) = λ i. omega (arith, at-shared-slice-known2 .shared-slice-known2 .given i) in
+    let read = both-read (lone (args .a .now)) (lone (args .b .now)) (at-read-two .read-two .result) (at-read-two .read-two .ensures) (at-whichever .whichever .result) (at-whichever .whichever .ensures) in
+    let good = sym read ∙ ap loneOf (at-enum-told .enum-told .given .1) in
+    second-within (args .a .now) (args .b .now) good small small′ (at-scalar-at2 .scalar-at2 .ensures)
 
 part-hand-over-start-2 : tie.Need-part-hand-over-start-2
-part-hand-over-start-2 c = search needs
+part-hand-over-start-2 c =
+    let entry = c .before .before .before .before .before .before .before .before .before .before .before .before in
+    let at-shared-slice-known = c .before .before .before .before .before .before .before .before .before .before .before in
+    let at-shared-slice-known2 = c .before .before .before .before .before .before .before .before .before .before in
+    let at-read-two = c .before .before .before .before .before .before .before .before in
+    let at-whichever = c .before .before .before .before .before .before .before in
+    let at-enum-told = c .before .before .before .before .before in
+    let at-scalar-at2 = c .before .before .before in
+    let args = entry .args in
+    let small : Bytes (args .a .now) = λ i. omega (arith, at-shared-slice-known .shared-slice-known .given i) in
+    let small′ : Bytes (args .b .now) = λ i. omega (arith, at-shared-slice-known2 .shared-slice-known2 .given i) in
+    let read = both-read (lone (args .a .now)) (lone (args .b .now)) (at-read-two .read-two .result) (at-read-two .read-two .ensures) (at-whichever .whichever .result) (at-whichever .whichever .ensures) in
+    let good = sym read ∙ ap loneOf (at-enum-told .enum-told .given .1) in
+    second-within (args .a .now) (args .b .now) good small small′ (at-scalar-at2 .scalar-at2 .ensures)
 
 part-hand-over-end-2 : tie.Need-part-hand-over-end-2
 part-hand-over-end-2 c = search needs
@@ -105,94 +187,109 @@ same-length c = search needs
 
 returns-2 : tie.Need-returns-2
 returns-2 c =
-    let entry = c .before .before .before .before .before .before .before .before .before .before .before .before .before .before .before .before in
-    let at-shared-slice-known = c .before .before .before .before .before .before .before .before .before .before .before .before .before .before .before in
-    let at-shared-slice-known2 = c .before .before .before .before .before .before .before .before .before .before .before .before .before .before in
-    let at-read-both = c .before .before .before .before .before .before .before .before .before .before .before .before in
+    let entry = c .before .before .before .before .before .before .before .before .before .before .before .before .before .before .before .before .before in
+    let at-shared-slice-known = c .before .before .before .before .before .before .before .before .before .before .before .before .before .before .before .before in
+    let at-shared-slice-known2 = c .before .before .before .before .before .before .before .before .before .before .before .before .before .before .before in
+    let at-read-two = c .before .before .before .before .before .before .before .before .before .before .before .before .before in
+    let at-whichever = c .before .before .before .before .before .before .before .before .before .before .before .before in
     let at-enum-told = c .before .before .before .before .before .before .before .before .before .before in
-    let at-lone-scalar = c .before .before .before .before .before .before .before .before .before in
-    let at-lone-scalar2 = c .before .before .before .before .before .before .before .before in
+    let at-scalar-at = c .before .before .before .before .before .before .before .before .before in
+    let at-scalar-at2 = c .before .before .before .before .before .before .before .before in
     let at-unite = c .before .before .before .before .before .before .before in
     let at-enum-told3 = c .before .before .before .before .before in
     let at-hand-over = c .before .before in
     let args = entry .args in
-    at-hand-over .hand-over .ensures ∙ (ap (λ w. deliver (accepted w) (args .result .now)) (rest-is (args .a .now) (at-lone-scalar .lone-scalar .result))
-    ∙ ap (λ o. deliver o (args .result .now)) (union-first _ _ (sym (at-read-both .read-both .ensures) ∙ ap loneOf (at-enum-told .enum-told .given .1))
-    (λ i. omega (arith, at-shared-slice-known .shared-slice-known .given i)) (λ i. omega (arith, at-shared-slice-known2 .shared-slice-known2 .given i)) (at-lone-scalar .lone-scalar .ensures)
-    (at-lone-scalar2 .lone-scalar2 .ensures) (at-unite .unite .result) (at-unite .unite .ensures) (at-enum-told3 .enum-told3 .given .1)))
+    let small : Bytes (args .a .now) = λ i. omega (arith, at-shared-slice-known .shared-slice-known .given i) in
+    let small′ : Bytes (args .b .now) = λ i. omega (arith, at-shared-slice-known2 .shared-slice-known2 .given i) in
+    let read = both-read (lone (args .a .now)) (lone (args .b .now)) (at-read-two .read-two .result) (at-read-two .read-two .ensures) (at-whichever .whichever .result) (at-whichever .whichever .ensures) in
+    let good = sym read ∙ ap loneOf (at-enum-told .enum-told .given .1) in
+    delivered-as (args .result .now) (at-hand-over .hand-over .ensures)
+    (union-first (args .a .now) (args .b .now) good small small′ (at-scalar-at .scalar-at .ensures) (at-scalar-at2 .scalar-at2 .ensures) (at-unite .unite .result) (at-unite .unite .ensures) (at-enum-told3 .enum-told3 .given .1))
 
 same-length-2 : tie.Need-same-length-2
 same-length-2 c = search needs
 
 returns-3 : tie.Need-returns-3
 returns-3 c =
-    let entry = c .before .before .before .before .before .before .before .before .before .before .before .before .before .before .before .before in
-    let at-shared-slice-known = c .before .before .before .before .before .before .before .before .before .before .before .before .before .before .before in
-    let at-shared-slice-known2 = c .before .before .before .before .before .before .before .before .before .before .before .before .before .before in
-    let at-read-both = c .before .before .before .before .before .before .before .before .before .before .before .before in
+    let entry = c .before .before .before .before .before .before .before .before .before .before .before .before .before .before .before .before .before in
+    let at-shared-slice-known = c .before .before .before .before .before .before .before .before .before .before .before .before .before .before .before .before in
+    let at-shared-slice-known2 = c .before .before .before .before .before .before .before .before .before .before .before .before .before .before .before in
+    let at-read-two = c .before .before .before .before .before .before .before .before .before .before .before .before .before in
+    let at-whichever = c .before .before .before .before .before .before .before .before .before .before .before .before in
     let at-enum-told = c .before .before .before .before .before .before .before .before .before .before in
-    let at-lone-scalar = c .before .before .before .before .before .before .before .before .before in
-    let at-lone-scalar2 = c .before .before .before .before .before .before .before .before in
+    let at-scalar-at = c .before .before .before .before .before .before .before .before .before in
+    let at-scalar-at2 = c .before .before .before .before .before .before .before .before in
     let at-unite = c .before .before .before .before .before .before .before in
     let at-enum-told4 = c .before .before .before .before .before in
     let at-hand-over2 = c .before .before in
     let args = entry .args in
-    at-hand-over2 .hand-over2 .ensures ∙ (ap (λ w. deliver (accepted w) (args .result .now)) (rest-is (args .b .now) (at-lone-scalar2 .lone-scalar2 .result))
-    ∙ ap (λ o. deliver o (args .result .now)) (union-second _ _ (sym (at-read-both .read-both .ensures) ∙ ap loneOf (at-enum-told .enum-told .given .1))
-    (λ i. omega (arith, at-shared-slice-known .shared-slice-known .given i)) (λ i. omega (arith, at-shared-slice-known2 .shared-slice-known2 .given i)) (at-lone-scalar .lone-scalar .ensures)
-    (at-lone-scalar2 .lone-scalar2 .ensures) (at-unite .unite .result) (at-unite .unite .ensures) (at-enum-told4 .enum-told4 .given .1)))
+    let small : Bytes (args .a .now) = λ i. omega (arith, at-shared-slice-known .shared-slice-known .given i) in
+    let small′ : Bytes (args .b .now) = λ i. omega (arith, at-shared-slice-known2 .shared-slice-known2 .given i) in
+    let read = both-read (lone (args .a .now)) (lone (args .b .now)) (at-read-two .read-two .result) (at-read-two .read-two .ensures) (at-whichever .whichever .result) (at-whichever .whichever .ensures) in
+    let good = sym read ∙ ap loneOf (at-enum-told .enum-told .given .1) in
+    delivered-as (args .result .now) (at-hand-over2 .hand-over2 .ensures)
+    (union-second (args .a .now) (args .b .now) good small small′ (at-scalar-at .scalar-at .ensures) (at-scalar-at2 .scalar-at2 .ensures) (at-unite .unite .result) (at-unite .unite .ensures) (at-enum-told4 .enum-told4 .given .1))
 
 same-length-3 : tie.Need-same-length-3
 same-length-3 c = search needs
 
 returns-4 : tie.Need-returns-4
 returns-4 c =
-    let entry = c .before .before .before .before .before .before .before .before .before .before .before .before .before .before .before in
-    let at-shared-slice-known = c .before .before .before .before .before .before .before .before .before .before .before .before .before .before in
-    let at-shared-slice-known2 = c .before .before .before .before .before .before .before .before .before .before .before .before .before in
-    let at-read-both = c .before .before .before .before .before .before .before .before .before .before .before in
+    let entry = c .before .before .before .before .before .before .before .before .before .before .before .before .before .before .before .before in
+    let at-shared-slice-known = c .before .before .before .before .before .before .before .before .before .before .before .before .before .before .before in
+    let at-shared-slice-known2 = c .before .before .before .before .before .before .before .before .before .before .before .before .before .before in
+    let at-read-two = c .before .before .before .before .before .before .before .before .before .before .before .before in
+    let at-whichever = c .before .before .before .before .before .before .before .before .before .before .before in
     let at-enum-told = c .before .before .before .before .before .before .before .before .before in
-    let at-lone-scalar = c .before .before .before .before .before .before .before .before in
-    let at-lone-scalar2 = c .before .before .before .before .before .before .before in
+    let at-scalar-at = c .before .before .before .before .before .before .before .before in
+    let at-scalar-at2 = c .before .before .before .before .before .before .before in
     let at-unite = c .before .before .before .before .before .before in
     let at-enum-told5 = c .before .before .before .before in
     let at-hand-box-any = c .before .before in
-    at-hand-box-any .hand-box-any .ensures ∙ ap (λ o. deliver o (entry .args .result .now))
-    (union-box-any _ _ (sym (at-read-both .read-both .ensures) ∙ ap loneOf (at-enum-told .enum-told .given .1)) (λ i. omega (arith, at-shared-slice-known .shared-slice-known .given i))
-    (λ i. omega (arith, at-shared-slice-known2 .shared-slice-known2 .given i)) (at-lone-scalar .lone-scalar .ensures) (at-lone-scalar2 .lone-scalar2 .ensures) (at-unite .unite .result)
-    (at-unite .unite .ensures) (at-enum-told5 .enum-told5 .given .1))
+    let args = entry .args in
+    let small : Bytes (args .a .now) = λ i. omega (arith, at-shared-slice-known .shared-slice-known .given i) in
+    let small′ : Bytes (args .b .now) = λ i. omega (arith, at-shared-slice-known2 .shared-slice-known2 .given i) in
+    let read = both-read (lone (args .a .now)) (lone (args .b .now)) (at-read-two .read-two .result) (at-read-two .read-two .ensures) (at-whichever .whichever .result) (at-whichever .whichever .ensures) in
+    let good = sym read ∙ ap loneOf (at-enum-told .enum-told .given .1) in
+    delivered-as (args .result .now) (at-hand-box-any .hand-box-any .ensures)
+    (union-box-any (args .a .now) (args .b .now) good small small′ (at-scalar-at .scalar-at .ensures) (at-scalar-at2 .scalar-at2 .ensures) (at-unite .unite .result) (at-unite .unite .ensures) (at-enum-told5 .enum-told5 .given .1))
 
 same-length-4 : tie.Need-same-length-4
 same-length-4 c = search needs
 
 returns-5 : tie.Need-returns-5
 returns-5 c =
-    let entry = c .before .before .before .before .before .before .before .before .before .before .before .before .before .before .before in
-    let at-shared-slice-known = c .before .before .before .before .before .before .before .before .before .before .before .before .before .before in
-    let at-shared-slice-known2 = c .before .before .before .before .before .before .before .before .before .before .before .before .before in
-    let at-read-both = c .before .before .before .before .before .before .before .before .before .before .before in
+    let entry = c .before .before .before .before .before .before .before .before .before .before .before .before .before .before .before .before in
+    let at-shared-slice-known = c .before .before .before .before .before .before .before .before .before .before .before .before .before .before .before in
+    let at-shared-slice-known2 = c .before .before .before .before .before .before .before .before .before .before .before .before .before .before in
+    let at-read-two = c .before .before .before .before .before .before .before .before .before .before .before .before in
+    let at-whichever = c .before .before .before .before .before .before .before .before .before .before .before in
     let at-enum-told = c .before .before .before .before .before .before .before .before .before in
-    let at-lone-scalar = c .before .before .before .before .before .before .before .before in
-    let at-lone-scalar2 = c .before .before .before .before .before .before .before in
+    let at-scalar-at = c .before .before .before .before .before .before .before .before in
+    let at-scalar-at2 = c .before .before .before .before .before .before .before in
     let at-unite = c .before .before .before .before .before .before in
     let at-enum-told6 = c .before .before .before .before in
     let at-hand-any = c .before .before in
-    at-hand-any .hand-any .ensures ∙ ap (λ o. deliver o (entry .args .result .now))
-    (union-any _ _ (sym (at-read-both .read-both .ensures) ∙ ap loneOf (at-enum-told .enum-told .given .1)) (λ i. omega (arith, at-shared-slice-known .shared-slice-known .given i))
-    (λ i. omega (arith, at-shared-slice-known2 .shared-slice-known2 .given i)) (at-lone-scalar .lone-scalar .ensures) (at-lone-scalar2 .lone-scalar2 .ensures) (at-unite .unite .result)
-    (at-unite .unite .ensures) (at-enum-told6 .enum-told6 .given .1))
+    let args = entry .args in
+    let small : Bytes (args .a .now) = λ i. omega (arith, at-shared-slice-known .shared-slice-known .given i) in
+    let small′ : Bytes (args .b .now) = λ i. omega (arith, at-shared-slice-known2 .shared-slice-known2 .given i) in
+    let read = both-read (lone (args .a .now)) (lone (args .b .now)) (at-read-two .read-two .result) (at-read-two .read-two .ensures) (at-whichever .whichever .result) (at-whichever .whichever .ensures) in
+    let good = sym read ∙ ap loneOf (at-enum-told .enum-told .given .1) in
+    delivered-as (args .result .now) (at-hand-any .hand-any .ensures)
+    (union-any (args .a .now) (args .b .now) good small small′ (at-scalar-at .scalar-at .ensures) (at-scalar-at2 .scalar-at2 .ensures) (at-unite .unite .result) (at-unite .unite .ensures) (at-enum-told6 .enum-told6 .given .1))
 
 pub union-spec : {M : Type 1} → statement M
 union-spec =
     tie.close
     (tie.spec
-    read-both-requires
+    read-two-requires
+    whichever-requires
     enum-told
     enum-told-2
     as-written-requires
     returns
-    lone-scalar-requires
-    lone-scalar-requires-2
+    scalar-at-requires
+    scalar-at-requires-2
     sub-unite
     unite-requires
     enum-told-3

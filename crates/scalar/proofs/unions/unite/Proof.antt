@@ -1,84 +1,100 @@
-use mathlib.Core.Path.{sym, _∙_}
-use native.Mathlib.Omega.{arith}
-use mathlib.Core.Logic.{⊎-elim}
-use Rattle.rules.specs.Views.{kind-within}
-use Rattle.walk.specs.AtLaws.{has-content, all-within}
-use Rattle.scalar.proofs.BoxLaws.{clash, all-united, by-wider}
+use Rattle.scalar.proofs.BoxLaws.{content-there, kinds-unite, box-unites, all-united}
 use borrow.Author.Needs.{needs}
 use Rattle.scalar.proofs.unions.unite.Statement.{statement}
 use Rattle.scalar.proofs.unions.unite.Tie as tie
 use Rattle.scalar.proofs.unions.unite.Reads as reads
 use Rattle.scalar.proofs.unions.unite.Lts as lts
-use Rattle.scalar.proofs.unions.unite_contents.Reads as unite-contents-reads
-use Rattle.scalar.proofs.unions.widen.Reads as widen-reads
-use Rattle.walk.proofs.is_all.Reads as is-all-reads
-use Rattle.walk.proofs.kind_at.Reads as kind-at-reads
 
-is-all-requires : tie.Need-is-all-requires
-is-all-requires c κs = search needs
+inner-at-requires : tie.Need-inner-at-requires
+inner-at-requires c κs =
+    let entry = c .before .before in
+    let args = entry .args in
+    (args .depth, entry .pre .0)
 
-is-all-requires-2 : tie.Need-is-all-requires-2
-is-all-requires-2 c κs = search needs
+enum-known-content : tie.Need-enum-known-content
+enum-known-content c = search needs
 
-add-unite-contents : tie.Need-add-unite-contents
-add-unite-contents c =
+inner-at-requires-2 : tie.Need-inner-at-requires-2
+inner-at-requires-2 c κs =
     let entry = c .before .before .before .before .before .before in
-    let at-is-all = c .before .before .before in
-    let at-if1 = c .before .before in
-    omega (arith, all-within _ _ _ (entry .pre .0) (sym (at-is-all .is-all .ensures _ _ (entry .pre .0 .there)) ∙ at-if1 .if1 .taken))
+    let args = entry .args in
+    (args .depth, entry .pre .1)
 
-add-unite-contents-2 : tie.Need-add-unite-contents-2
-add-unite-contents-2 c =
-    let entry = c .before .before .before .before .before .before in
-    omega (arith, all-within _ _ _ (entry .pre .1) (sym (c .before .is-all2 .ensures _ _ (entry .pre .1 .there)) ∙ c .if2 .taken))
+enum-known-other : tie.Need-enum-known-other
+enum-known-other c = search needs
 
 unite-contents-requires : tie.Need-unite-contents-requires
 unite-contents-requires c κs =
-    let entry = c .before .before .before .before .before .before in
-    let at-is-all = c .before .before .before in
-    let at-if1 = c .before .before in
-    (has-content _ _ _ (entry .pre .0) (sym (at-is-all .is-all .ensures _ _ (entry .pre .0 .there)) ∙ at-if1 .if1 .taken), has-content _ _ _ (entry .pre .1) (sym (c .before .is-all2 .ensures _ _ (entry .pre .1 .there)) ∙ c .if2 .taken))
+    let entry = c .before .before .before .before .before .before .before .before .before .before in
+    let at-inner-at = c .before .before .before .before .before .before .before in
+    let at-content = c .before .before .before .before .before in
+    let at-inner-at2 = c .before .before .before in
+    let args = entry .args in
+    let first = content-there (args .a .now) (args .i) (args .depth) (at-inner-at .inner-at .ensures) (entry .pre .0 .there) (at-content .content .given .1) in
+    let second = content-there (args .b .now) (args .j) (args .depth) (at-inner-at2 .inner-at2 .ensures) (entry .pre .1 .there) (c .before .other .given .1) in
+    (first, second)
 
-returns : tie.Need-returns
-returns c =
-    let at-is-all = c .before .before .before .before in
-    let at-if1 = c .before .before .before in
-    let at-is-all2 = c .before .before in
-    λ k l h g.
-    all-united _ _ _ _ _ k l h g (sym (at-is-all .is-all .ensures _ k h) ∙ at-if1 .if1 .taken) (sym (at-is-all2 .is-all2 .ensures _ l g) ∙ c .before .if2 .taken) (c .unite-contents .result) (c .unite-contents .ensures)
-
-kind-at-requires : tie.Need-kind-at-requires
-kind-at-requires c κs =
-    let entry = c .before .before .before .before in
-    kind-within _ _ (entry .pre .0 .scalar) (entry .pre .0 .there .stands)
-
-kind-at-requires-2 : tie.Need-kind-at-requires-2
-kind-at-requires-2 c κs =
-    let entry = c .before .before .before .before .before in
-    kind-within _ _ (entry .pre .1 .scalar) (entry .pre .1 .there .stands)
+enum-known-code : tie.Need-enum-known-code
+enum-known-code c = search needs
 
 widen-requires : tie.Need-widen-requires
 widen-requires c κs = search needs
 
+enum-known-code-2 : tie.Need-enum-known-code-2
+enum-known-code-2 c = search needs
+
+kind-at-requires : tie.Need-kind-at-requires
+kind-at-requires c κs =
+    let entry = c .before .before .before .before .before .before in
+    let args = entry .args in
+    (args .depth, entry .pre .1)
+
+widen-requires-2 : tie.Need-widen-requires-2
+widen-requires-2 c κs = search needs
+
+returns : tie.Need-returns
+returns c =
+    let entry = c .before .before .before .before .before .before .before .before .before .before .before in
+    let at-inner-at = c .before .before .before .before .before .before .before .before in
+    let at-content = c .before .before .before .before .before .before in
+    let at-inner-at2 = c .before .before .before .before in
+    let at-other = c .before .before in
+    let args = entry .args in
+    all-united (args .a .now) (args .i) (args .b .now) (args .j) (args .depth) (at-inner-at .inner-at .ensures) (at-inner-at2 .inner-at2 .ensures)
+    (at-content .content .given .1) (at-other .other .given .1) (c .unite-contents .result) (c .unite-contents .ensures)
+
 returns-2 : tie.Need-returns-2
 returns-2 c =
-    let at-is-all = c .before .before .before .before in
-    let at-if1 = c .before .before .before in
-    let at-kind-at = c .before .before in
-    λ k l h g.
-    by-wider _ _ _ _ _ k l h g (λ e f. ⊎-elim (λ w. clash (w .1 .ensures _ l g) f (w .2 .left)) (λ w. clash (at-is-all .is-all .ensures _ k h) e (w .left)) (at-if1 .if1 .came)) (at-kind-at .kind-at .ensures .0) (c .before .kind-at2 .ensures .0) (c .widen .result) (c .widen .ensures)
+    let entry = c .before .before .before .before .before .before .before .before .before .before .before in
+    let at-inner-at = c .before .before .before .before .before .before .before .before in
+    let at-content = c .before .before .before .before .before .before in
+    let at-inner-at2 = c .before .before .before .before in
+    let at-code = c .before .before in
+    let args = entry .args in
+    box-unites (args .a .now) (args .i) (args .b .now) (args .j) (args .depth) (at-inner-at .inner-at .ensures) (at-inner-at2 .inner-at2 .ensures) (at-content .content .given .1) (at-code .code .given .1) (c .widen .result) (c .widen .ensures)
+
+returns-3 : tie.Need-returns-3
+returns-3 c =
+    let entry = c .before .before .before .before .before .before .before .before in
+    let at-inner-at = c .before .before .before .before .before in
+    let at-code2 = c .before .before .before in
+    let args = entry .args in
+    kinds-unite (args .a .now) (args .i) (args .b .now) (args .j) (args .depth) (at-inner-at .inner-at .ensures) (at-code2 .code2 .given .1) (c .before .kind-at .ensures) (c .widen2 .result) (c .widen2 .ensures)
 
 pub unite-spec : {M : Type 1} → statement M
 unite-spec =
     tie.close
     (tie.spec
-    is-all-requires
-    is-all-requires-2
-    add-unite-contents
-    add-unite-contents-2
+    inner-at-requires
+    enum-known-content
+    inner-at-requires-2
+    enum-known-other
     unite-contents-requires
-    returns
-    kind-at-requires
-    kind-at-requires-2
+    enum-known-code
     widen-requires
-    returns-2)
+    enum-known-code-2
+    kind-at-requires
+    widen-requires-2
+    returns
+    returns-2
+    returns-3)

@@ -6,7 +6,8 @@ use Rattle.format.specs.Outcome.{lone, mapped}
 use Rattle.record.specs.Answers.{loneOf}
 use Rattle.record.proofs.LoneLaws.{passed-refused}
 use Rattle.ty.specs.Calls.{given}
-use Rattle.ty.proofs.PartLaws.{type-known, lone-shape, scalar-known, inside, the-all}
+use Rattle.known.specs.WholeLaws.{whole-shape}
+use Rattle.ty.proofs.PartLaws.{type-known, scalar-known, inside, the-all}
 use Rattle.ty.proofs.ContentLaws.{rest-short, lone-short}
 use Rattle.ty.proofs.ListingLaws.{offer-is, boxes-refused, boxes-plain, boxes-any, boxes-all, name-within, boxes-def}
 use borrow.Author.Needs.{needs}
@@ -210,7 +211,7 @@ returns-3 c =
     let small : Bytes (args .ty .now) = λ i. omega (arith, at-shared-slice-known .shared-slice-known .given i) in
     let good = sym (at-read-lone .read-lone .ensures) ∙ ap loneOf (at-enum-told .enum-told .given .1) in
     let held = inside (args .ty .now) small good (at-scalar-at .scalar-at .ensures) (at-look .look .ensures) (at-enum-told4 .enum-told4 .given .1) in
-    let shaped = lone-shape (args .ty .now) small good (at-shape-at .shape-at .ensures) in
+    let shaped = whole-shape (args .ty .now) small good (at-shape-at .shape-at .result) (at-shape-at .shape-at .ensures) in
     offer-is (c .offer2 .result) (at-write-copies .write-copies .result) (c .offer2 .ensures) (at-write-copies .write-copies .ensures)
     ∙ sym (boxes-any (args .result .now) (args .ty .now) shaped (at-row-count .row-count .ensures) held)
 
@@ -233,7 +234,7 @@ returns-4 c =
     let small : Bytes (args .ty .now) = λ i. omega (arith, at-shared-slice-known .shared-slice-known .given i) in
     let good = sym (at-read-lone .read-lone .ensures) ∙ ap loneOf (at-enum-told .enum-told .given .1) in
     let held = inside (args .ty .now) small good (at-scalar-at .scalar-at .ensures) (at-look .look .ensures) (at-held .held .given .1) in
-    let shaped = lone-shape (args .ty .now) small good (at-shape-at .shape-at .ensures) in
+    let shaped = whole-shape (args .ty .now) small good (at-shape-at .shape-at .result) (at-shape-at .shape-at .ensures) in
     offer-is (c .offer3 .result) (at-write-copies2 .write-copies2 .result) (c .offer3 .ensures) (at-write-copies2 .write-copies2 .ensures)
     ∙ sym (boxes-all (args .result .now) (args .ty .now) shaped (at-row-count .row-count .ensures) (the-all held))
 

@@ -1,7 +1,8 @@
 use mathlib.Core.Path.{sym, _∙_}
 use native.Mathlib.Omega.{arith}
 use Rattle.format.specs.Reader.{Bytes}
-use Rattle.ty.proofs.PartLaws.{delivers, type-known, lone-shape, scalar-known, inside, the-def}
+use Rattle.known.specs.WholeLaws.{whole-shape}
+use Rattle.ty.proofs.PartLaws.{delivers, type-known, scalar-known, inside, the-def}
 use Rattle.ty.proofs.RowLaws.{row-ranked, row-kept, row-taken}
 use borrow.Author.Needs.{needs}
 use Rattle.ty.proofs.rows.row_known.Statement.{statement}
@@ -39,7 +40,7 @@ returns c =
     let at-keep-scalar = c .before .before in
     let args = entry .args in
     let small : Bytes (args .ty .now) = λ i. omega (arith, at-shared-slice-known .shared-slice-known .given i) in
-    let shaped = lone-shape (args .ty .now) small (entry .pre) (at-shape-at .shape-at .ensures) in
+    let shaped = whole-shape (args .ty .now) small (entry .pre) (at-shape-at .shape-at .result) (at-shape-at .shape-at .ensures) in
     delivers (args .result .now) (at-keep-scalar .keep-scalar .ensures)
     (row-ranked (args .ty .now) shaped (at-into-row .into-row .ensures) (args .which) (λ e. at-if1 .if1 .taken (at-rank .rank .ensures .0 ∙ e)))
 
@@ -108,7 +109,7 @@ returns-2 c =
     let args = entry .args in
     let small : Bytes (args .ty .now) = λ i. omega (arith, at-shared-slice-known .shared-slice-known .given i) in
     let held = inside (args .ty .now) small (entry .pre) (at-scalar-at .scalar-at .ensures) (at-look .look .ensures) (at-enum-told .enum-told .given .1) in
-    let shaped = lone-shape (args .ty .now) small (entry .pre) (at-shape-at .shape-at .ensures) in
+    let shaped = whole-shape (args .ty .now) small (entry .pre) (at-shape-at .shape-at .result) (at-shape-at .shape-at .ensures) in
     delivers (args .result .now) (at-keep-scalar2 .keep-scalar2 .ensures) (row-kept (args .ty .now) shaped (at-into-row .into-row .ensures) (args .which) held tt)
 
 same-length-3 : tie.Need-same-length-3
@@ -127,7 +128,7 @@ returns-3 c =
     let args = entry .args in
     let small : Bytes (args .ty .now) = λ i. omega (arith, at-shared-slice-known .shared-slice-known .given i) in
     let held = inside (args .ty .now) small (entry .pre) (at-scalar-at .scalar-at .ensures) (at-look .look .ensures) (at-enum-told2 .enum-told2 .given .1) in
-    let shaped = lone-shape (args .ty .now) small (entry .pre) (at-shape-at .shape-at .ensures) in
+    let shaped = whole-shape (args .ty .now) small (entry .pre) (at-shape-at .shape-at .result) (at-shape-at .shape-at .ensures) in
     delivers (args .result .now) (at-keep-scalar3 .keep-scalar3 .ensures) (row-kept (args .ty .now) shaped (at-into-row .into-row .ensures) (args .which) held tt)
 
 same-length-4 : tie.Need-same-length-4
@@ -146,7 +147,7 @@ returns-4 c =
     let args = entry .args in
     let small : Bytes (args .ty .now) = λ i. omega (arith, at-shared-slice-known .shared-slice-known .given i) in
     let held = inside (args .ty .now) small (entry .pre) (at-scalar-at .scalar-at .ensures) (at-look .look .ensures) (at-enum-told3 .enum-told3 .given .1) in
-    let shaped = lone-shape (args .ty .now) small (entry .pre) (at-shape-at .shape-at .ensures) in
+    let shaped = whole-shape (args .ty .now) small (entry .pre) (at-shape-at .shape-at .result) (at-shape-at .shape-at .ensures) in
     delivers (args .result .now) (at-keep-scalar4 .keep-scalar4 .ensures) (row-kept (args .ty .now) shaped (at-into-row .into-row .ensures) (args .which) held tt)
 
 same-length-5 : tie.Need-same-length-5
@@ -167,7 +168,7 @@ returns-5 c =
     let args = entry .args in
     let small : Bytes (args .ty .now) = λ i. omega (arith, at-shared-slice-known .shared-slice-known .given i) in
     let held = inside (args .ty .now) small (entry .pre) (at-scalar-at .scalar-at .ensures) (at-look .look .ensures) (at-held .held .given .1) in
-    let shaped = lone-shape (args .ty .now) small (entry .pre) (at-shape-at .shape-at .ensures) in
+    let shaped = whole-shape (args .ty .now) small (entry .pre) (at-shape-at .shape-at .result) (at-shape-at .shape-at .ensures) in
     delivers (args .result .now) (at-take-field .take-field .ensures)
     (row-taken (args .ty .now) shaped (at-into-row .into-row .ensures) (args .which) (the-def held) (sym (at-rank .rank .ensures .0) ∙ at-if1 .if1 .left))
 

@@ -3,7 +3,7 @@ use Prim.Native.Nat.{ℕ, _-_}
 use mathlib.Core.List.{List, [], _++_}
 use mathlib.Core.Path.{_≡_, refl, sym, _∙_, ap}
 use lib.ListN.{length, take, drop}
-use Rattle.model.specs.Types.{Shape, Scalar, Ty, ty}
+use Rattle.model.specs.Types.{Shape, Scalar, ty}
 use Rattle.format.specs.Reader.{Bytes}
 use Rattle.format.specs.Records.{writeShape, writeScalar, writeTy}
 use Rattle.format.specs.Views.{rest-is}

@@ -9,14 +9,14 @@ use lib.Seq.{length-take-le}
 use Rattle.model.specs.Limits.{maxTypes, maxDepth}
 use Rattle.model.specs.Types.{Shape, Scalar, Fields, noFields, field, fieldCount, Ty, ty, shapeOf, scalarOf, types, inside, among}
 use Rattle.format.specs.Records.{writeShape, writeScalar, writeFields, writeTy}
-use Rattle.format.specs.Suffices.{shapeBytes, boxBytes, shape-suffices, scalar-suffices}
+use Rattle.format.specs.Suffices.{boxBytes, shape-suffices, scalar-suffices}
 use Rattle.format.specs.Views.{Stands, stands-part}
 use Rattle.lent.specs.Over.{over, take-over}
 use Rattle.known.specs.Known.{TypeAt, ScalarAt, HasType, SpanIs}
 use Rattle.known.specs.KnownLaws.{type-within, scalar-behind, behind-ends}
 use Rattle.known.specs.declared.Span.{Span}
 use Rattle.validate.specs.Lists.{nextPlace, ListAt}
-use Rattle.validate.specs.Walk.{typeBytes, Piece, piece, scalarPiece, typePiece, fieldsPiece, CopyIs, Placeable, Going}
+use Rattle.validate.specs.Walk.{typeBytes, piece, scalarPiece, typePiece, fieldsPiece, CopyIs, Placeable, Going}
 use Rattle.validate.specs.declared.Extent.{Extent}
 use Rattle.validate.proofs.ListLaws.{types-are, has, list-first, list-rest}
 
@@ -26,7 +26,8 @@ pub part-long : (s : List ℕ) (start n : ℕ) → start + n ≤ length s → le
 part-long s start n h = length-take-le n (drop start s) (omega (arith, length-drop start s))
 
 -- the bytes w, which stood from `start` to `end`, laid at `to`
-laid-part : {s : List ℕ} {start : ℕ} (w : List ℕ) → Stands s start w → {end : ℕ} → end ≡ start + length w → (out : List ℕ) (to : ℕ) {after : List ℕ} → to + (end - start) ≤ length out → after ≡ over out to (take (end - start) (drop start s)) → take (to + (end - start)) after ≡ take to out ++ w
+laid-part : {s : List ℕ} {start : ℕ} (w : List ℕ) → Stands s start w → {end : ℕ} → end ≡ start + length w → (out : List ℕ) (to : ℕ) {after : List ℕ} → to + (end - start) ≤ length out
+    → after ≡ over out to (take (end - start) (drop start s)) → take (to + (end - start)) after ≡ take to out ++ w
 laid-part {s} {start} w stands {end} e out to {after} room laid =
     let q : end - start ≡ length w = omega (arith, e) in
     let part : take (end - start) (drop start s) ≡ w = rw q (stands-part s start w stands) in
@@ -61,7 +62,8 @@ module _ (s : List ℕ) (at : ℕ) (r : Span) (t : Ty) (h : TypeAt s at maxDepth
   pub type-room : (to : ℕ) {room : ℕ} → to + typeBytes * types t ≤ room → to + (r .end - at) ≤ room
   type-room to l = omega (arith, span .ends, type-long)
 
-  pub type-copied : (out : List ℕ) (to : ℕ) {after : List ℕ} → to + (r .end - at) ≤ length out → after ≡ over out to (take (r .end - at) (drop at s)) → (x : Extent) → x .end ≡ to + (r .end - at) → x .types ≡ r .types → CopyIs x after (typePiece (take to out) t) to
+  pub type-copied : (out : List ℕ) (to : ℕ) {after : List ℕ} → to + (r .end - at) ≤ length out → after ≡ over out to (take (r .end - at) (drop at s)) → (x : Extent)
+      → x .end ≡ to + (r .end - at) → x .types ≡ r .types → CopyIs x after (typePiece (take to out) t) to
   unfolding writeTy
   type-copied out to {after} room laid x e f = go t (h .stands) (span .ends) (span .types) type-long
     where
@@ -81,7 +83,8 @@ module _ (s : List ℕ) (at : ℕ) {start : ℕ} (begins : (d : ℕ) (t : Ty) �
   pub scalar-room : (to : ℕ) {room : ℕ} → to + boxBytes + typeBytes * inside (scalarOf t) ≤ room → to + (r .end - start) ≤ room
   scalar-room to l = omega (arith, scalar-long, scalar-suffices (scalarOf t) (behind .records))
 
-  pub scalar-copied : (out : List ℕ) (to : ℕ) {after : List ℕ} → to + (r .end - start) ≤ length out → after ≡ over out to (take (r .end - start) (drop start s)) → (x : Extent) → x .end ≡ to + (r .end - start) → x .types ≡ r .types - 1 → CopyIs x after (scalarPiece (take to out) (scalarOf t)) (to + boxBytes)
+  pub scalar-copied : (out : List ℕ) (to : ℕ) {after : List ℕ} → to + (r .end - start) ≤ length out → after ≡ over out to (take (r .end - start) (drop start s)) → (x : Extent)
+      → x .end ≡ to + (r .end - start) → x .types ≡ r .types - 1 → CopyIs x after (scalarPiece (take to out) (scalarOf t)) (to + boxBytes)
   scalar-copied out to {after} room laid x e f =
       let bytes = laid-part (writeScalar (scalarOf t)) (behind .stands) scalar-long out to room laid in
       let many : x .types ≡ inside (scalarOf t) = omega (arith, f, span .types, types-are t) in

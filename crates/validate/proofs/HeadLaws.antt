@@ -1,13 +1,11 @@
 -- Heads of records, laid behind what stood before.
 use Prim.Native.Nat.{ℕ, suc, _+_, _-_, _≤_}
 use native.Mathlib.Omega.{arith}
-use native.Mathlib.Numerals.{unary-clauses}
 use mathlib.Core.List.{List, [], _∷_, _++_, append-assoc}
 use mathlib.Core.Option.{Option}
-use mathlib.Core.Path.{_≡_, refl, sym, _∙_, ap}
+use mathlib.Core.Path.{_≡_, _∙_, ap}
 use lib.ListN.{length, set, take, drop, length-append}
-use lib.Seq.{sets, sets-eq}
-use Rattle.model.specs.Limits.{maxName}
+use lib.Seq.{sets-eq}
 use Rattle.format.specs.Records.{boxStart, countOf, listOf}
 use Rattle.format.specs.Suffices.{boxBytes, name-most}
 use Rattle.format.specs.Views.{stands-within, stands-part}
@@ -21,15 +19,10 @@ head-behind before head {to} {r} {after} room h =
     let l : to + length head ≤ length before = omega (arith, h .ends, h .short) in
     ap (λ n. take n after) (h .ends) ∙ ap (take (to + length head)) (h .laid) ∙ take-over before to head l
 
--- ---- a box's head
+-- ---- a box's head, as it is written
 
-six-stores : (out : List ℕ) (to form : ℕ) → to + 6 ≤ length out → set (set (set (set (set (set out to 0x53) (to + 1) 0x43) (to + 2) 8) (to + 3) 0x42) (to + 4) 0x58) (to + 5) form ≡ over out to (boxStart form)
-six-stores out to form room =
-    let stores : set (set (set (set (set (set out to 0x53) (to + 1) 0x43) (to + 2) 8) (to + 3) 0x42) (to + 4) 0x58) (to + 5) form ≡ sets out to (boxStart form) = simp unary-clauses in
-    stores ∙ sets-eq (boxStart form) out to room
-
-pub box-laid : (out : List ℕ) (to form : ℕ) {after : List ℕ} → to + boxBytes ≤ length out → after ≡ set (set (set (set (set (set out to 0x53) (to + 1) 0x43) (to + 2) 8) (to + 3) 0x42) (to + 4) 0x58) (to + 5) form → HeadIs to (boxStart form) out (to + 6) after
-box-laid out to form room e = record { ends = refl; short = omega arith; laid = e ∙ six-stores out to form (omega arith) }
+pub box-laid : (form : ℕ) {out : List ℕ} {to r : ℕ} {after : List ℕ} → (r ≡ to + length (boxStart form)) × (after ≡ over out to (boxStart form)) → HeadIs to (boxStart form) out r after
+box-laid form h = record { ends = h .0; short = omega (arith, h .0); laid = h .1 }
 
 -- ---- a Def's head
 

@@ -3,14 +3,14 @@ use Prim.Native.Nat.{ℕ, zero, suc, _+_, _-_, _≤_, _<_}
 use native.Mathlib.Omega.{arith}
 use mathlib.Core.Bool.{Bool, true, false, cond}
 use mathlib.Core.List.{List}
-use mathlib.Core.Path.{_≡_, refl, sym, _∙_, ap}
+use mathlib.Core.Path.{_≡_, refl, _∙_, ap}
 use Rattle.model.specs.Limits.{maxTypes, maxDepth}
 use Rattle.model.specs.Types.{Shape, Scalar, Fields, noFields, field, fieldCount, Ty, ty, scalarOf, types, inside, among}
 use Rattle.rules.specs.Types.{copies}
 use Rattle.known.specs.Known.{TypeAt, HasType, SpanIs}
 use Rattle.known.specs.KnownLaws.{first-field, rest-fields}
 use Rattle.known.specs.declared.Span.{Span}
-use Rattle.validate.specs.Lists.{nextPlace, ListAt, Countable, Counting}
+use Rattle.validate.specs.Lists.{nextPlace, ListAt, Counting}
 
 pub has : {s : List ℕ} {at : ℕ} {t : Ty} → TypeAt s at maxDepth t → HasType s at maxDepth
 has {t = t} h = record { type = t; there = h }

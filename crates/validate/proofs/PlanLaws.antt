@@ -4,7 +4,7 @@ use native.Mathlib.Nat.{mul-le-mul}
 use native.Mathlib.Numerals.{add-one}
 use native.Mathlib.Omega.{arith}
 use mathlib.Core.Bool.{Bool, true, false, not, _&&_, cond}
-use mathlib.Core.List.{List, [], _∷_, _++_}
+use mathlib.Core.List.{List, [], _∷_}
 use mathlib.Core.Option.{Option, none, some}
 use mathlib.Core.Path.{_≡_, refl, sym, _∙_, ap}
 use lib.ListN.{length, getD}
@@ -21,7 +21,7 @@ use Rattle.record.specs.declared.DynShape.{DynShape}
 use Rattle.record.proofs.ByValue.{size-at}
 use Rattle.rules.specs.Order.{codeOf}
 use Rattle.rules.specs.Scalars.{supersetCodes, supersetOf}
-use Rattle.rules.specs.Shapes.{anyShape, isAny}
+use Rattle.rules.specs.Shapes.{isAny}
 use Rattle.rules.specs.Types.{anyTy, whollyAny, copies}
 use Rattle.rules.specs.FieldsLaws.{copies-count}
 use Rattle.validation.specs.CheckShape.{unsided, checkShape}
@@ -36,10 +36,8 @@ use Rattle.known.specs.declared.Span.{Span}
 use Rattle.known.specs.declared.View.{View}
 use Rattle.known.specs.declared.View.the-variants.{Plain, BoxAny, BoxAll, BoxDef}
 use Rattle.validate.specs.Lists.{ListAt}
-use Rattle.validate.specs.Plans.{Pair, scalarAfter, anyBytes, InsideIs, PairsAre, Plans, Planned, Viewed, HasView, NotAny, AllAgainst, DefAgainst, asNamed, asCopies, Copying}
+use Rattle.validate.specs.Plans.{Pair, scalarAfter, anyBytes, InsideIs, PairsAre, Viewed, HasView, NotAny, AllAgainst, DefAgainst, asNamed, asCopies, Copying}
 use Rattle.validate.specs.declared.Items.{Items}
-use Rattle.validate.specs.declared.Plan.{Plan}
-use Rattle.validate.specs.declared.Plan.the-variants.{Pairs}
 use Rattle.validate.proofs.ListLaws.{has, list-copies}
 
 -- the depth of what a type's scalar holds
@@ -62,7 +60,8 @@ module _ {s : List ℕ} {p name fields count : ℕ} {has : Bool} {k : Scalar} (x
 -- ---- views
 
 -- a view of a type's scalar, which begins at `place`
-pub view-of : {s : List ℕ} {at place : ℕ} → ((d : ℕ) (t : Ty) → TypeAt s at d t → place ≡ at + length (writeShape (shapeOf t))) → {v : View} → ((d : ℕ) (k : Scalar) → ScalarAt s place d k → Seen s place d k v) → (t : Ty) → TypeAt s at maxDepth t → Viewed s (scalarOf t) v
+pub view-of : {s : List ℕ} {at place : ℕ} → ((d : ℕ) (t : Ty) → TypeAt s at d t → place ≡ at + length (writeShape (shapeOf t))) → {v : View}
+    → ((d : ℕ) (k : Scalar) → ScalarAt s place d k → Seen s place d k v) → (t : Ty) → TypeAt s at maxDepth t → Viewed s (scalarOf t) v
 view-of {s} {at} {place} begins seen t h = record { place = place; seen = seen within (scalarOf t) (scalar-behind s at begins maxDepth t h) }
 
 module _ {s : List ℕ} {k : Scalar} {v : View} (x : Viewed s k v) where
@@ -359,7 +358,8 @@ module _ {s : List ℕ} {i : ℕ} {t : List ℕ} {j o a : ℕ} (w : Pair s i t j
       unfolding asBox named onDef supersetOf codeOf code
       titled-plain {d = d} y h = named-is ∙ rw (y .is, y .coded) (go (ne-eqb d 9 h))
         where
-          go : eqb d 9 ≡ false → (named (limited o a) title (fieldsFor (w .type-shape) ct) (cond (eqb d 9) boxAny (plain (y .kind))) >>= defOn o a (x .held) (some title)) ≡ cond (supersetCodes boxCode d) (accepted (plain (y .kind))) (refused wrongScalar 0)
+          go : eqb d 9 ≡ false
+              → (named (limited o a) title (fieldsFor (w .type-shape) ct) (cond (eqb d 9) boxAny (plain (y .kind))) >>= defOn o a (x .held) (some title)) ≡ cond (supersetCodes boxCode d) (accepted (plain (y .kind))) (refused wrongScalar 0)
           go q = rw (q, ← y .coded)
 
       titled-own : {p n f m : ℕ} {b : Bool} (y : SeenDef t p within (w .type-scalar) n b f m) → b ≡ true → PairsOf (items fl ct true) (items f m true) false n false
@@ -452,7 +452,8 @@ module _ {s : List ℕ} {i : ℕ} {t : List ℕ} {j o a : ℕ} (w : Pair s i t j
 
     -- what is copied n times
     module _ {n : ℕ} (number : n ≡ fieldsFor (w .type-shape) ct) where
-      made-of : (u : Ty) → ((title : List ℕ) → known .def .label ≡ some title → asNamed o a (w .type-shape) (w .type-scalar) title ct ≡ asCopies o a (w .type-shape) title ct u) → {many deep other : ℕ} (fresh : Bool) → TypeAt (cond fresh anyBytes t) other maxDepth u → many ≡ types u → deep ≡ depth u → Copying w n many deep other fresh nm fl ct
+      made-of : (u : Ty) → ((title : List ℕ) → known .def .label ≡ some title → asNamed o a (w .type-shape) (w .type-scalar) title ct ≡ asCopies o a (w .type-shape) title ct u)
+          → {many deep other : ℕ} (fresh : Bool) → TypeAt (cond fresh anyBytes t) other maxDepth u → many ≡ types u → deep ≡ depth u → Copying w n many deep other fresh nm fl ct
       made-of u is fresh there wide high = record {
         not-any = known .not-any;
         place = known .place;

@@ -4,11 +4,11 @@ use native.Mathlib.Omega.{arith}
 use native.Mathlib.Numerals.{add-one}
 use mathlib.Core.Bool.{Bool, true, false, cond}
 use mathlib.Core.List.{List, [], _∷_, _++_, append-assoc, append-nil}
-use mathlib.Core.Option.{Option, none, some}
+use mathlib.Core.Option.{Option}
 use mathlib.Core.Path.{_≡_, refl, sym, _∙_, ap}
 use lib.ListN.{length, take}
-use Rattle.model.specs.Limits.{maxFields, maxTypes, maxDepth}
-use Rattle.model.specs.Types.{Shape, Scalar, boxDef, Fields, noFields, field, Ty, ty, shapeOf, scalarOf, boxOf, fieldOf, fieldCount, inside, among, types}
+use Rattle.model.specs.Limits.{maxTypes, maxDepth}
+use Rattle.model.specs.Types.{Shape, Scalar, boxDef, Fields, noFields, field, Ty, ty, shapeOf, boxOf, fieldOf, fieldCount, inside, among, types}
 use Rattle.format.specs.Records.{boxStart, countOf, listOf, writeShape, writeScalar, writeFields}
 use Rattle.format.specs.Suffices.{shapeBytes, boxBytes}
 use Rattle.format.specs.Outcome.{Outcome, accepted, refused, mapped}
@@ -27,7 +27,6 @@ use Rattle.validate.specs.Answers.{clashOf, checkedOf}
 use Rattle.validate.specs.Lists.{nextPlace, ListAt, Countable}
 use Rattle.validate.specs.Plans.{Pair, scalarAfter, shapeAfter, typeAfter, TwoLists, fieldsAfter, anyBytes, InsideIs, PairsAre, Planned}
 use Rattle.validate.specs.Walk.{typeBytes, Piece, piece, validatedOf, scalarPiece, typePiece, fieldsPiece, Roomy, TypeDone, ScalarDone, FieldsDone, CopyIs, HeadIs, Copyable, Listable, defHead}
-use Rattle.validate.specs.declared.Clash.{Clash}
 use Rattle.validate.specs.declared.Clash.the-variants.{Clear, Numbered}
 use Rattle.validate.specs.declared.Extent.{Extent}
 use Rattle.validate.specs.declared.Items.{Items}
@@ -100,7 +99,8 @@ checked-merged : (r : ShapeChecked) {o : Outcome Shape} → checkedOf r ≡ o �
 checked-merged r e h = sym e ∙ ap (λ c. refusedBy (clashOf c) (shapeFor (r .shape))) h
 
 -- the shapes of two types, by value
-pub shapes-checked : {s : List ℕ} {i : ℕ} {t : List ℕ} {j o a : ℕ} (w : Pair s i t j o a) (side : Side) (x y : DynShape) (c : ShapeChecked) → checkedOf c ≡ checkShape side (shapeFor x) (shapeFor y) → ((d : ℕ) (u : Ty) → TypeAt s i d u → shapeFor x ≡ shapeOf u) → ((d : ℕ) (u : Ty) → TypeAt t j d u → shapeFor y ≡ shapeOf u) → checkedOf c ≡ shapeAfter side w
+pub shapes-checked : {s : List ℕ} {i : ℕ} {t : List ℕ} {j o a : ℕ} (w : Pair s i t j o a) (side : Side) (x y : DynShape) (c : ShapeChecked)
+    → checkedOf c ≡ checkShape side (shapeFor x) (shapeFor y) → ((d : ℕ) (u : Ty) → TypeAt s i d u → shapeFor x ≡ shapeOf u) → ((d : ℕ) (u : Ty) → TypeAt t j d u → shapeFor y ≡ shapeOf u) → checkedOf c ≡ shapeAfter side w
 shapes-checked w side x y c checked first second =
     checked
     ∙ ap (λ p. checkShape side p (shapeFor y)) (first maxDepth (ty (w .spec-shape) (w .spec-scalar)) (w .spec-there))
@@ -170,7 +170,7 @@ unfolding writeScalar inside
 pairs-wrote before label count (accepted h) same =
     let c : fieldCount h ≡ count = same h refl in
     let n : 0 + among h ≡ among h = omega arith in
-    let tail : boxStart 2 ++ ((countOf label ∷ listOf label) ++ (count ∷ [])) ++ writeFields h ≡ writeScalar (boxDef label h) = rw c (ap (λ l. boxStart 2 ++ (countOf label ∷ l)) (append-assoc (listOf label) (count ∷ []) (writeFields h))) in
+    let tail : defHead label count ++ writeFields h ≡ writeScalar (boxDef label h) = rw c (ap (λ l. boxStart 2 ++ (countOf label ∷ l)) (append-assoc (listOf label) (count ∷ []) (writeFields h))) in
     let b : (before ++ defHead label count) ++ writeFields h ≡ before ++ writeScalar (boxDef label h) = append-assoc before (defHead label count) (writeFields h) ∙ ap (λ l. before ++ l) tail in
     ap (λ l. accepted (piece l (0 + among h))) b ∙ ap (λ m. accepted (piece (before ++ writeScalar (boxDef label h)) m)) n
 pairs-wrote before label count (refused k p) same = refl
@@ -270,7 +270,8 @@ pub record Firsts (s t : List ℕ) (i j before above : ℕ) (f g : Fields) (move
   pub type-list : ListAt steps t (nextPlace steps j (ty q l)) g′
   pub limits : fieldsLimited before above (field q l g′) ≡ true
 
-module _ {s : List ℕ} {moves : Bool} {t : List ℕ} {steps : Bool} {others above : ℕ} {goal : Outcome Piece} {to i j todo left before rest : ℕ} {so-far : List ℕ} {end : ℕ} (c : Pacing s moves t steps others above goal to i j todo left before rest so-far end) where
+module _ {s : List ℕ} {moves : Bool} {t : List ℕ} {steps : Bool} {others above : ℕ} {goal : Outcome Piece} {to i j todo left before rest : ℕ} {so-far : List ℕ} {end : ℕ}
+    (c : Pacing s moves t steps others above goal to i j todo left before rest so-far end) where
   -- a bound on the types
   pub pacing-few : before + rest ≤ maxTypes
   pacing-few = omega (arith, c .number, fieldsLimited-true before above (c .lists .type-fields) (c .lists .limits) .0)
@@ -409,7 +410,8 @@ no-fields : (f : Fields) → fieldCount f ≡ 0 → f ≡ noFields
 no-fields noFields e = refl
 no-fields (field p k f) e = absurd (omega arith)
 
-module _ {s : List ℕ} {moves : Bool} {t : List ℕ} {steps : Bool} {others above : ℕ} {goal : Outcome Piece} {to i j todo left before rest : ℕ} (out : List ℕ) {end : ℕ} (c : Pacing s moves t steps others above goal to i j todo left before rest (take end out) end) where
+module _ {s : List ℕ} {moves : Bool} {t : List ℕ} {steps : Bool} {others above : ℕ} {goal : Outcome Piece} {to i j todo left before rest : ℕ} (out : List ℕ) {end : ℕ}
+    (c : Pacing s moves t steps others above goal to i j todo left before rest (take end out) end) where
   abbrev own : Fields
   own = c .lists .type-fields
 
@@ -507,7 +509,9 @@ module _ {s : List ℕ} {i : ℕ} {t : List ℕ} {j o a : ℕ} (w : Pair s i t j
         (h .0 ∙ ap (λ c. mapped (typePiece c) u) b ∙ inside-wrote (take to d) u ∙ ap (mapped (scalarPiece (take to d))) (sym (v .is)), roomy-more r start (to + boxBytes) (box .short) (h .1))
 
     -- the fields f and g that became the Def's
-    pairs-done : (label : Option (List ℕ)) (count : ℕ) (f g : Fields) → fieldCount g ≡ count → HeadIs to (defHead label count) d start d′ → scalarAfter w ≡ mapped (boxDef label) (checkFields f (fieldsLimited (o + 1) (a + 1)) g) → (validatedOf r out ≡ mapped (fieldsPiece (take start d′) 0) (checkFields f (fieldsLimited (o + 1) (a + 1)) g)) × Roomy r start → ScalarDone w to d r out
+    pairs-done : (label : Option (List ℕ)) (count : ℕ) (f g : Fields) → fieldCount g ≡ count → HeadIs to (defHead label count) d start d′
+        → scalarAfter w ≡ mapped (boxDef label) (checkFields f (fieldsLimited (o + 1) (a + 1)) g)
+        → (validatedOf r out ≡ mapped (fieldsPiece (take start d′) 0) (checkFields f (fieldsLimited (o + 1) (a + 1)) g)) × Roomy r start → ScalarDone w to d r out
     pairs-done label count f g c head is h =
         let b : take start d′ ≡ take to d ++ defHead label count = head-behind d (defHead label count) (omega arith) head in
         let u : Outcome Fields = checkFields f (fieldsLimited (o + 1) (a + 1)) g in

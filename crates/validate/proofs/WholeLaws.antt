@@ -76,7 +76,8 @@ module _ (u : Outcome Ty) {r : Validated} (out : List ℕ) (wrote : validatedOf 
       go (refused k p) q = let a : k ≡ m = cc in let b : p ≡ 0 = cc in rw (a, b)
 
 -- its types are few, so that it ends inside the buffer
-type-few : {s : List ℕ} {i : ℕ} {t : List ℕ} {j o a : ℕ} (w : Pair s i t j o a) (oh : Outcome Shape) (out before : List ℕ) (e : ℕ) {n : ℕ} → accepted (piece (take e out) n) ≡ mapped (typePiece before) (inTurn (scalarAfter w) oh) → n ≤ maxTypes
+type-few : {s : List ℕ} {i : ℕ} {t : List ℕ} {j o a : ℕ} (w : Pair s i t j o a) (oh : Outcome Shape) (out before : List ℕ) (e : ℕ) {n : ℕ}
+    → accepted (piece (take e out) n) ≡ mapped (typePiece before) (inTurn (scalarAfter w) oh) → n ≤ maxTypes
 type-few {s} {i} {t} {j} {o} {a} w oh out before e {n} h = go (scalarAfter w) oh refl h
   where
     go : (os : Outcome Scalar) (oh : Outcome Shape) → scalarAfter w ≡ os → accepted (piece (take e out) n) ≡ mapped (typePiece before) (inTurn os oh) → n ≤ maxTypes
@@ -127,7 +128,8 @@ module _ (q : Shape) (before : List ℕ) (b : before ≡ writeShape q) (x : Outc
       go (refused k p) c = let a : k ≡ m = cc in let b : p ≡ 0 = cc in rw (a, b)
 
 -- the type's shape o, of n bytes, was laid at the front of d, which gave d′
-module _ {s t : List ℕ} (v : Lones s t) (o : DynShape) (shaped : (d : ℕ) (u : Ty) → TypeAt t 0 d u → shapeFor o ≡ shapeOf u) {n : ℕ} (long : n ≡ length (writeShape (shapeFor o))) (short : n ≤ shapeBytes) (d d′ : List ℕ) (full : length d ≡ maxBytes) (laid : d′ ≡ over d 0 (writeShape (shapeFor o))) where
+module _ {s t : List ℕ} (v : Lones s t) (o : DynShape) (shaped : (d : ℕ) (u : Ty) → TypeAt t 0 d u → shapeFor o ≡ shapeOf u) {n : ℕ} (long : n ≡ length (writeShape (shapeFor o)))
+    (short : n ≤ shapeBytes) (d d′ : List ℕ) (full : length d ≡ maxBytes) (laid : d′ ≡ over d 0 (writeShape (shapeFor o))) where
   -- what the call comes to
   abbrev pub scalarCheck : Outcome (List ℕ)
   scalarCheck = both (λ a b. mapped writeTy (checkScalarOnly a b)) (lone s) (lone t)

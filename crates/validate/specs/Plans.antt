@@ -5,11 +5,12 @@ use mathlib.Core.List.{List, [], _∷_}
 use mathlib.Core.Option.{Option, some}
 use mathlib.Core.Path.{_≡_}
 use Rattle.model.specs.Limits.{maxFields, maxDepth}
-use Rattle.model.specs.Types.{Shape, Scalar, boxDef, Fields, fieldCount, Ty, ty, boxOf, types, depth}
+use Rattle.model.specs.Refusals.{wrongScalar}
+use Rattle.model.specs.Types.{Shape, Scalar, boxDef, Fields, fieldCount, Ty, ty, scalarOf, boxOf, types, depth}
 use Rattle.format.specs.Outcome.{Outcome, accepted, refused, mapped}
 use Rattle.rules.specs.Types.{whollyAny}
 use Rattle.validation.specs.CheckShape.{Side, unsided, checkShape}
-use Rattle.validation.specs.AsFields.{fieldsFor, asBox, named, copied}
+use Rattle.validation.specs.AsFields.{measured, fieldsFor, asBox, named, copied}
 use Rattle.validation.specs.CheckScalar.{inTurn, checkScalar, checkFields}
 use Rattle.validation.specs.MeasureLaws.{limited, fieldsLimited}
 use Rattle.known.specs.Known.{TypeAt, NameAt, Seen, SeenAll, SeenDef}
@@ -133,6 +134,14 @@ module _ {s : List ℕ} {i : ℕ} {t : List ℕ} {j o a : ℕ} (w : Pair s i t j
     pub there : TypeAt (cond fresh anyBytes t) other maxDepth copy
     pub wide : many ≡ types copy
     pub high : deep ≡ depth copy
+
+-- A plan where the spec must be a superset, and one where the spec's scalar, of the type at i, is taken.
+abbrev pub PlannedKeep : Bool → Plan → Type 0
+PlannedKeep over r = (s t : List ℕ) (o a : ℕ) (x : Outcome Scalar) (k l : Scalar) → x ≡ cond over (accepted l) (refused wrongScalar 0) → Plans s t o a x k l r
+
+abbrev pub PlannedTake : List ℕ → ℕ → ℕ → ℕ → Plan → Type 0
+PlannedTake s i o a r =
+    (t : List ℕ) (x : Outcome Scalar) (u : Ty) (l : Scalar) → TypeAt s i maxDepth u → x ≡ measured (limited o a) (scalarOf u) → Plans s t o a x (scalarOf u) l r
 
 -- A plan for whatever pair is so known.
 abbrev pub PlannedAll : List ℕ → ℕ → ℕ → View → ℕ → ℕ → Plan → Type 0

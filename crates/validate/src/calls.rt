@@ -11,7 +11,8 @@ use lent::Written;
 use lent::hand_over;
 use limits::MAX_BYTES;
 use record::Lone;
-use record::read_both;
+use record::read_two;
+use record::whichever;
 use ty::write_parts;
 use writer::as_written;
 use writer::put_shape;
@@ -31,7 +32,7 @@ ghost use Rattle.validate.specs.Answers.{sideOf};
 pub fn check_shape(side: Side, spec: &[u8], ty: &[u8], result: &mut [u8]) -> Written
     ensures { λ r. ⌜ delivered r (now (result .exit)) ≡ deliver (both (λ s t. mapped writeTy (checkShapeOnly (sideOf side) s t)) (lone (now (spec .entry))) (lone (now (ty .entry)))) (now (result .entry)) ⌝ }
 {
-    let read = read_both(spec, ty);
+    let read = whichever(read_two(spec, ty));
     let Lone::Accepted = read else {
         return as_written(read);
     };
@@ -52,7 +53,7 @@ pub fn check_shape(side: Side, spec: &[u8], ty: &[u8], result: &mut [u8]) -> Wri
 pub fn validate(side: Side, spec: &[u8], ty: &[u8], result: &mut [u8]) -> Written
     ensures { λ r. ⌜ delivered r (now (result .exit)) ≡ deliver (both (λ s t. mapped writeTy (validate (sideOf side) s t)) (lone (now (spec .entry))) (lone (now (ty .entry)))) (now (result .entry)) ⌝ }
 {
-    let read = read_both(spec, ty);
+    let read = whichever(read_two(spec, ty));
     let Lone::Accepted = read else {
         return as_written(read);
     };
@@ -80,7 +81,7 @@ pub fn validate_known(side: Side, spec: &[u8], ty: &[u8], out: &mut [u8]) -> Wri
 pub fn check_scalar(spec: &[u8], ty: &[u8], result: &mut [u8]) -> Written
     ensures { λ r. ⌜ delivered r (now (result .exit)) ≡ deliver (both (λ s t. mapped writeTy (checkScalarOnly s t)) (lone (now (spec .entry))) (lone (now (ty .entry)))) (now (result .entry)) ⌝ }
 {
-    let read = read_both(spec, ty);
+    let read = whichever(read_two(spec, ty));
     let Lone::Accepted = read else {
         return as_written(read);
     };

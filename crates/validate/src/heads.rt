@@ -1,36 +1,18 @@
-// Heads of records, written to a buffer from a place on: each answers the place after it.
+// The head of a Def's record, written to a buffer from a place on. Answers the place after it.
 use known::name_at;
 use lent::lay;
-use limits::BOX;
 use limits::BOX_DEF;
-use limits::marks;
-ghost use mathlib.Core.Path.{_≡_};
+use writer::put_box;
 ghost use mathlib.Core.Bool.{cond};
 ghost use mathlib.Core.List.{List};
 ghost use mathlib.Core.Option.{Option};
-ghost use Prim.Native.Nat.{ℕ, _+_, _≤_, _<_};
+ghost use Prim.Native.Nat.{ℕ, _+_, _≤_};
 ghost use lib.ListN.{length};
-ghost use Rattle.format.specs.Records.{boxStart};
 ghost use Rattle.format.specs.Suffices.{boxBytes};
 ghost use Rattle.known.specs.Known.{NameAt, HasName};
-ghost use Rattle.lent.specs.Over.{over};
 ghost use Rattle.validate.specs.Walk.{defHead, HeadIs};
 
-// A box's record up to its form.
-pub fn put_box(out: &mut [u8], to: usize, form: u64) -> usize
-    requires { ⌜ (to + boxBytes ≤ length (now out)) × (form < 256) ⌝ }
-    ensures { λ r. ⌜ HeadIs to (boxStart form) (now (out .entry)) r (now (out .exit)) ⌝ }
-{
-    out[to] = marks::SCALAR.first;
-    out[to + 1] = marks::SCALAR.second;
-    out[to + 2] = BOX as u8;
-    out[to + 3] = marks::BOX.first;
-    out[to + 4] = marks::BOX.second;
-    out[to + 5] = form as u8;
-    to + 6
-}
-
-// A Def's head: its box, the name that stands at `name`, and the count of its fields.
+// Its box, the name that stands at `name`, and the count of its fields.
 pub fn put_def(s: &[u8], name: usize, count: u8, out: &mut [u8], to: usize) -> usize
     requires { ⌜ HasName (now s) name × (to + boxBytes ≤ length (now out)) ⌝ }
     ensures { λ r. ⌜ ((label : Option (List ℕ)) → NameAt (now (s .entry)) name label → HeadIs to (defHead label count) (now (out .entry)) r (now (out .exit))) ⌝ }

@@ -19,21 +19,19 @@ use record::DynShape;
 use scalar::superset_codes;
 use writer::size_count;
 ghost use mathlib.Core.Path.{_≡_};
-ghost use mathlib.Core.Bool.{true, false, cond};
+ghost use mathlib.Core.Bool.{true, false};
 ghost use mathlib.Core.List.{List};
 ghost use Prim.Native.Nat.{ℕ, _+_, _≤_, _<_};
 ghost use Rattle.model.specs.Limits.{maxTypes, maxDepth};
-ghost use Rattle.model.specs.Refusals.{wrongScalar};
 ghost use Rattle.model.specs.Types.{Shape, Scalar, Ty, ty, scalarOf};
-ghost use Rattle.format.specs.Outcome.{Outcome, accepted, refused};
 ghost use Rattle.record.specs.Answers.{shapeFor};
 ghost use Rattle.rules.specs.Order.{codeOf};
 ghost use Rattle.rules.specs.Shapes.{isAny};
 ghost use Rattle.rules.specs.Types.{whollyAny};
-ghost use Rattle.validation.specs.AsFields.{measured, fieldsFor};
+ghost use Rattle.validation.specs.AsFields.{fieldsFor};
 ghost use Rattle.validation.specs.MeasureLaws.{limited};
 ghost use Rattle.known.specs.Known.{TypeAt, HasType};
-ghost use Rattle.validate.specs.Plans.{Viewed, HasView, Pair, Plans, Planned, PlannedAll, PlannedDef, PlannedCopies, PlannedNamed};
+ghost use Rattle.validate.specs.Plans.{Viewed, HasView, Pair, Planned, PlannedKeep, PlannedTake, PlannedAll, PlannedDef, PlannedCopies, PlannedNamed};
 ghost use Rattle.validate.specs.declared.Plan.the-variants.{Pairs};
 
 // The code of a scalar.
@@ -77,7 +75,7 @@ fn limited_at(s: &[u8], at: usize, others: u64, above: u64) -> bool
 
 // The type keeps its scalar if the spec is a superset.
 fn keep_if(over: bool) -> Plan
-    ensures { λ r. ⌜ ((s t : List ℕ) (o a : ℕ) (x : Outcome Scalar) (k l : Scalar) → x ≡ cond over (accepted l) (refused wrongScalar 0) → Plans s t o a x k l r) ⌝ }
+    ensures { λ r. ⌜ PlannedKeep over r ⌝ }
 {
     if over {
         return Plan::Keep;
@@ -90,7 +88,7 @@ fn keep_if(over: bool) -> Plan
 // The spec's scalar is taken if the whole keeps to the limits with it.
 fn take_if(spec: &[u8], i: usize, others: u64, above: u64) -> Plan
     requires { ⌜ HasType (now spec) i maxDepth × (others ≤ maxTypes) × (above ≤ maxDepth) ⌝ }
-    ensures { λ r. ⌜ ((t : List ℕ) (x : Outcome Scalar) (u : Ty) (l : Scalar) → TypeAt (now (spec .entry)) i maxDepth u → x ≡ measured (limited others above) (scalarOf u) → Plans (now (spec .entry)) t others above x (scalarOf u) l r) ⌝ }
+    ensures { λ r. ⌜ PlannedTake (now (spec .entry)) i others above r ⌝ }
 {
     if limited_at(spec, i, others, above) {
         return Plan::Take;

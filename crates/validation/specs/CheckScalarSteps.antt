@@ -100,14 +100,14 @@ field-next o a k t l x g h e = field-done o a t l x g h (checkScalar-keeps k (li
 -- whatever validates the field, and the fields after it
 module _ (content : Content) (keeping : Keeping content) (q : Outcome Shape) (rest : (Fields → Bool) → Outcome Fields) where
   -- what is left to do once a field is validated: by the whole type, and by the two numbers
-  abbrev onward : (Fields → Bool) → Ty → Outcome Fields
-  onward keeps r = rest (λ h. keeps (fieldOf r h)) >>= λ h. accepted (fieldOf r h)
+  abbrev wholeRest : (Fields → Bool) → Ty → Outcome Fields
+  wholeRest keeps r = rest (λ h. keeps (fieldOf r h)) >>= λ h. accepted (fieldOf r h)
 
-  abbrev counted : ℕ → ℕ → Ty → Outcome Fields
-  counted o a r = rest (fieldsLimited (o + types r) a) >>= λ h. accepted (fieldOf r h)
+  abbrev countedRest : ℕ → ℕ → Ty → Outcome Fields
+  countedRest o a r = rest (fieldsLimited (o + types r) a) >>= λ h. accepted (fieldOf r h)
 
-  onward-counted : (o a : ℕ) (v : Shape) (x : Scalar) → a + suc (below x) ≤ maxDepth → onward (fieldsLimited o a) (ty v x) ≡ counted o a (ty v x)
-  onward-counted o a v x h = ap (λ c. rest c >>= λ h. accepted (field v x h)) (rest-limited o a v x h)
+  rest-counted : (o a : ℕ) (v : Shape) (x : Scalar) → a + suc (below x) ≤ maxDepth → wholeRest (fieldsLimited o a) (ty v x) ≡ countedRest o a (ty v x)
+  rest-counted o a v x h = ap (λ c. rest c >>= λ h. accepted (field v x h)) (rest-limited o a v x h)
 
   -- the field, measured by the whole type and by the two numbers
   module _ (o a : ℕ) (t : Shape) (l : Scalar) (g : Fields) where
@@ -117,19 +117,19 @@ module _ (content : Content) (keeping : Keeping content) (q : Outcome Shape) (re
     abbrev numbers : Outcome Ty
     numbers = inTurn (content (limited (o + among g) a) t l) q
 
-    field-step : fieldsLimited o a (field t l g) ≡ true → (whole >>= onward (fieldsLimited o a)) ≡ (numbers >>= counted o a)
+    field-step : fieldsLimited o a (field t l g) ≡ true → (whole >>= wholeRest (fieldsLimited o a)) ≡ (numbers >>= countedRest o a)
     unfolding deepest
     field-step h =
         let r = fieldsLimited-true o a (field t l g) h in
         let d : a + deepest g ≤ maxDepth = omega (arith, r .1) in
         rw (field-limited o a t g d) (go numbers refl)
       where
-        go : (u : Outcome Ty) → numbers ≡ u → (u >>= onward (fieldsLimited o a)) ≡ (u >>= counted o a)
+        go : (u : Outcome Ty) → numbers ≡ u → (u >>= wholeRest (fieldsLimited o a)) ≡ (u >>= countedRest o a)
         go (accepted (ty v x)) e =
             inTurn-accepted (content (limited (o + among g) a) t l) q e λ y w e₁ e₂ z.
             let i : y ≡ x = cc in
             let kept = keeping (limited (o + among g) a) (limited-counts (o + among g) a) t l y (field-begun o a t l g h) e₁ in
-            onward-counted o a v x (limited-true (o + among g) a x (rw i at kept) .1)
+            rest-counted o a v x (limited-true (o + among g) a x (rw i at kept) .1)
         go (refused n p) e = refl
 
 -- a field at hand, by the two numbers, and the fields after it

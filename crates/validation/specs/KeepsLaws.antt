@@ -15,7 +15,7 @@ use Rattle.rules.specs.Types.{anyTy, copies}
 use Rattle.validation.specs.CheckShape.{unsided, checkShape}
 use Rattle.validation.specs.AsFields.{measured, fieldsFor, asBox, copied, orName, named, asFields}
 use Rattle.validation.specs.CheckScalar.{superset, Content, Contents, eachField, onAll, onDef, checkScalar, checkFields}
-use Rattle.validation.specs.OutcomeLaws.{held, measured-accepted, superset-accepted, any-accepted, then-accepted, mapped-accepted, box-accepted, field-accepted}
+use Rattle.validation.specs.OutcomeLaws.{was-true, measured-accepted, superset-accepted, any-accepted, then-accepted, mapped-accepted, box-accepted, field-accepted}
 
 -- ---- a measure goes by count and depth
 
@@ -55,7 +55,7 @@ reshaped-field keeps c s t x g = c (field s x g) (field t x g) refl refl
 copied-keeps : (keeps : Scalar → Bool) (name : List ℕ) (n : ℕ) (t : Ty) (x : Scalar) → copied keeps name n t ≡ accepted x → keeps x ≡ true
 unfolding copied
 copied-keeps keeps name n t x e =
-    held (leb n maxFields) (measured keeps (boxDef (some name) (copies n t))) tooMany 0 e λ _ e₁.
+    was-true (leb n maxFields) (measured keeps (boxDef (some name) (copies n t))) tooMany 0 e λ _ e₁.
     measured-accepted keeps (boxDef (some name) (copies n t)) e₁ λ h w.
     rw (← w) h
 

@@ -42,15 +42,15 @@ both-true true b h = (refl, h)
 both-true false b h = (cc, cc)
 
 -- one that had to be true
-pub held {κ} : {A : Type 0} {C : Type κ} (t : Bool) (r : Outcome A) (n p : ℕ) {a : A} → cond t r (refused n p) ≡ accepted a → (t ≡ true → r ≡ accepted a → C) → C
-held true r n p e k = k refl e
-held false r n p e k = let z : _≡_ {A = ℕ} 0 1 = cc in absurd (omega arith)
+pub was-true {κ} : {A : Type 0} {C : Type κ} (t : Bool) (r : Outcome A) (n p : ℕ) {a : A} → cond t r (refused n p) ≡ accepted a → (t ≡ true → r ≡ accepted a → C) → C
+was-true true r n p e k = k refl e
+was-true false r n p e k = let z : _≡_ {A = ℕ} 0 1 = cc in absurd (omega arith)
 
 pub measured-accepted {κ} : {C : Type κ} (keeps : Scalar → Bool) (k : Scalar) {x : Scalar} → measured keeps k ≡ accepted x → (keeps k ≡ true → k ≡ x → C) → C
-measured-accepted keeps k e c = held (keeps k) (accepted k) tooMany 0 e λ h w. c h cc
+measured-accepted keeps k e c = was-true (keeps k) (accepted k) tooMany 0 e λ h w. c h cc
 
 pub superset-accepted {κ} : {C : Type κ} (k l : Scalar) {x : Scalar} → superset k l ≡ accepted x → (supersetOf k l ≡ true → l ≡ x → C) → C
-superset-accepted k l e c = held (supersetOf k l) (accepted l) wrongScalar 0 e λ h w. c h cc
+superset-accepted k l e c = was-true (supersetOf k l) (accepted l) wrongScalar 0 e λ h w. c h cc
 
 -- a wholly Any type took the scalar, or it was not one
 module _ (keeps : Scalar → Bool) (k : Scalar) (t : Shape) (l : Scalar) (rest : Outcome Scalar) {x : Scalar} (e : unlessAny keeps k t l rest ≡ accepted x) where

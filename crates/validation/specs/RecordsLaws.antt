@@ -20,14 +20,14 @@ use Rattle.validation.specs.CheckShape.{unsided, checkShape}
 use Rattle.validation.specs.AsFields.{measured, fieldsFor, asBox, copied, orName, named, asFields}
 use Rattle.validation.specs.CheckScalar.{superset, Content, Contents, eachField, onAll, onDef, checkScalar, checkFields}
 use Rattle.validation.specs.CheckShapeLaws.{checkShape-within}
-use Rattle.validation.specs.OutcomeLaws.{held, measured-accepted, superset-accepted, any-accepted, then-accepted, mapped-accepted, box-accepted, field-accepted}
+use Rattle.validation.specs.OutcomeLaws.{was-true, measured-accepted, superset-accepted, any-accepted, then-accepted, mapped-accepted, box-accepted, field-accepted}
 
 -- ---- `as_mut_fields`
 
 copied-records : (keeps : Scalar → Bool) (name : List ℕ) (n : ℕ) (t : Ty) (x : Scalar) → NameWithin name → RecordsWithin t → copied keeps name n t ≡ accepted x → ScalarWithin x
 unfolding copied
 copied-records keeps name n t x h j e =
-    held (leb n maxFields) (measured keeps (boxDef (some name) (copies n t))) tooMany 0 e λ l e₁.
+    was-true (leb n maxFields) (measured keeps (boxDef (some name) (copies n t))) tooMany 0 e λ l e₁.
     measured-accepted keeps (boxDef (some name) (copies n t)) e₁ λ _ w.
     rw (← w) (h, omega (arith, copies-count n t, leb-true n maxFields l), copies-within n t j)
 

@@ -1,31 +1,34 @@
+use native.Mathlib.Omega.{arith}
+use mathlib.Core.Path.{sym, ap, _∙_}
+use borrow.Author.Needs.{needs}
+use Rattle.known.specs.WholeLaws.{scalar-inside, second-good}
+use Rattle.record.proofs.LoneLaws.{both-read, both-refused}
+use Rattle.record.specs.Answers.{loneOf}
+use Rattle.lent.specs.Delivers.{deliver-refused, deliver-handed}
+use Rattle.format.specs.Outcome.{lone, deliver}
+use Rattle.model.specs.Limits.{maxDepth}
+use Rattle.validate.specs.Answers.{sideOf}
 use Rattle.validate.proofs.CallLaws.{shape-clash, shape-merged}
 use Rattle.validate.proofs.WholeLaws.{lones}
 use Rattle.validate.proofs.WalkLaws.{shapes-checked}
 use Rattle.validate.proofs.ListLaws.{has}
-use Rattle.validate.specs.Answers.{sideOf}
-use Rattle.known.specs.WholeLaws.{scalar-inside, second-good}
-use Rattle.record.proofs.LoneLaws.{both-refused}
-use Rattle.record.specs.Answers.{loneOf, shapeFor}
-use Rattle.lent.specs.Delivers.{deliver-refused, deliver-handed}
-use Rattle.format.specs.Outcome.{lone, deliver}
-use Rattle.model.specs.Limits.{maxDepth}
-use mathlib.Core.List.{[]}
-use mathlib.Core.Path.{_≡_, refl, sym, ap, _∙_}
-use native.Mathlib.Omega.{arith}
-use borrow.Author.Needs.{needs}
 use Rattle.validate.proofs.calls.check_shape.Statement.{statement}
 use Rattle.validate.proofs.calls.check_shape.Tie as tie
 use Rattle.validate.proofs.calls.check_shape.Reads as reads
 use Rattle.validate.proofs.calls.check_shape.Lts as lts
 use Rattle.known.proofs.scalar_at.Reads as scalar-at-reads
 use Rattle.known.proofs.shape_at.Reads as shape-at-reads
-use Rattle.record.proofs.read_both.Reads as read-both-reads
+use Rattle.record.proofs.read_two.Reads as read-two-reads
+use Rattle.record.proofs.whichever.Reads as whichever-reads
 use Rattle.ty.proofs.write_parts.Reads as write-parts-reads
 use Rattle.validate.proofs.shapes.check_shapes.Reads as check-shapes-reads
 use Rattle.writer.proofs.as_written.Reads as as-written-reads
 
-read-both-requires : tie.Need-read-both-requires
-read-both-requires c κs = search needs
+read-two-requires : tie.Need-read-two-requires
+read-two-requires c κs = search needs
+
+whichever-requires : tie.Need-whichever-requires
+whichever-requires c κs = search needs
 
 enum-told : tie.Need-enum-told
 enum-told c = search needs
@@ -38,33 +41,39 @@ as-written-requires c κs = search needs
 
 returns : tie.Need-returns
 returns c =
-    let entry = c .before .before .before .before .before .before .before in
-    let at-read-both = c .before .before .before in
+    let entry = c .before .before .before .before .before .before .before .before in
+    let at-read-two = c .before .before .before .before in
+    let at-whichever = c .before .before .before in
     let args = entry .args in
+    let read = both-read (lone (args .spec .now)) (lone (args .ty .now)) (at-read-two .read-two .result) (at-read-two .read-two .ensures) (at-whichever .whichever .result) (at-whichever .whichever .ensures) in
     let told = ap loneOf (c .before .enum-told2 .given .1) in
-    let no = both-refused (lone (args .spec .now)) (lone (args .ty .now)) _ (sym (at-read-both .read-both .ensures) ∙ told) in
+    let no = both-refused (lone (args .spec .now)) (lone (args .ty .now)) _ (sym read ∙ told) in
     deliver-handed _ (c .as-written .result) (c .as-written .ensures ∙ told) no
 
 shape-at-requires : tie.Need-shape-at-requires
 shape-at-requires c κs =
-    let entry = c .before .before .before .before .before .before in
-    let at-shared-slice-known = c .before .before .before .before .before in
-    let at-shared-slice-known2 = c .before .before .before .before in
-    let at-read-both = c .before .before in
+    let entry = c .before .before .before .before .before .before .before in
+    let at-shared-slice-known = c .before .before .before .before .before .before in
+    let at-shared-slice-known2 = c .before .before .before .before .before in
+    let at-read-two = c .before .before .before in
+    let at-whichever = c .before .before in
     let args = entry .args in
+    let read = both-read (lone (args .spec .now)) (lone (args .ty .now)) (at-read-two .read-two .result) (at-read-two .read-two .ensures) (at-whichever .whichever .result) (at-whichever .whichever .ensures) in
     let both = lones (args .spec .now) (args .ty .now) (λ i. omega (arith, at-shared-slice-known .shared-slice-known .given i)) (λ i. omega (arith, at-shared-slice-known2 .shared-slice-known2 .given i))
-    (sym (at-read-both .read-both .ensures) ∙ ap loneOf (c .enum-told .given .1)) in
+    (sym read ∙ ap loneOf (c .enum-told .given .1)) in
     (maxDepth, has (both .pair .spec-there))
 
 shape-at-requires-2 : tie.Need-shape-at-requires-2
 shape-at-requires-2 c κs =
-    let entry = c .before .before .before .before .before .before .before in
-    let at-shared-slice-known = c .before .before .before .before .before .before in
-    let at-shared-slice-known2 = c .before .before .before .before .before in
-    let at-read-both = c .before .before .before in
+    let entry = c .before .before .before .before .before .before .before .before in
+    let at-shared-slice-known = c .before .before .before .before .before .before .before in
+    let at-shared-slice-known2 = c .before .before .before .before .before .before in
+    let at-read-two = c .before .before .before .before in
+    let at-whichever = c .before .before .before in
     let args = entry .args in
+    let read = both-read (lone (args .spec .now)) (lone (args .ty .now)) (at-read-two .read-two .result) (at-read-two .read-two .ensures) (at-whichever .whichever .result) (at-whichever .whichever .ensures) in
     let both = lones (args .spec .now) (args .ty .now) (λ i. omega (arith, at-shared-slice-known .shared-slice-known .given i)) (λ i. omega (arith, at-shared-slice-known2 .shared-slice-known2 .given i))
-    (sym (at-read-both .read-both .ensures) ∙ ap loneOf (c .before .enum-told .given .1)) in
+    (sym read ∙ ap loneOf (c .before .enum-told .given .1)) in
     (maxDepth, has (both .pair .type-there))
 
 check-shapes-requires : tie.Need-check-shapes-requires
@@ -75,14 +84,16 @@ enum-told-3 c = search needs
 
 scalar-at-requires : tie.Need-scalar-at-requires
 scalar-at-requires c κs =
-    let entry = c .before .before .before .before .before .before .before .before .before .before .before .before in
-    let at-shared-slice-known = c .before .before .before .before .before .before .before .before .before .before .before in
-    let at-shared-slice-known2 = c .before .before .before .before .before .before .before .before .before .before in
-    let at-read-both = c .before .before .before .before .before .before .before .before in
+    let entry = c .before .before .before .before .before .before .before .before .before .before .before .before .before in
+    let at-shared-slice-known = c .before .before .before .before .before .before .before .before .before .before .before .before in
+    let at-shared-slice-known2 = c .before .before .before .before .before .before .before .before .before .before .before in
+    let at-read-two = c .before .before .before .before .before .before .before .before .before in
+    let at-whichever = c .before .before .before .before .before .before .before .before in
     let at-enum-told = c .before .before .before .before .before .before in
     let args = entry .args in
+    let read = both-read (lone (args .spec .now)) (lone (args .ty .now)) (at-read-two .read-two .result) (at-read-two .read-two .ensures) (at-whichever .whichever .result) (at-whichever .whichever .ensures) in
     let both = lones (args .spec .now) (args .ty .now) (λ i. omega (arith, at-shared-slice-known .shared-slice-known .given i)) (λ i. omega (arith, at-shared-slice-known2 .shared-slice-known2 .given i))
-    (sym (at-read-both .read-both .ensures) ∙ ap loneOf (at-enum-told .enum-told .given .1)) in
+    (sym read ∙ ap loneOf (at-enum-told .enum-told .given .1)) in
     (maxDepth, has (both .pair .type-there))
 
 slice-aggregate-write-parts : tie.Need-slice-aggregate-write-parts
@@ -90,23 +101,27 @@ slice-aggregate-write-parts c = search needs
 
 sub-write-parts : tie.Need-sub-write-parts
 sub-write-parts c =
-    let entry = c .before .before .before .before .before .before .before .before .before .before .before .before .before .before in
-    let at-shared-slice-known2 = c .before .before .before .before .before .before .before .before .before .before .before .before in
-    let at-read-both = c .before .before .before .before .before .before .before .before .before .before in
+    let entry = c .before .before .before .before .before .before .before .before .before .before .before .before .before .before .before in
+    let at-shared-slice-known2 = c .before .before .before .before .before .before .before .before .before .before .before .before .before in
+    let at-read-two = c .before .before .before .before .before .before .before .before .before .before .before in
+    let at-whichever = c .before .before .before .before .before .before .before .before .before .before in
     let at-enum-told = c .before .before .before .before .before .before .before .before in
     let args = entry .args in
+    let read = both-read (lone (args .spec .now)) (lone (args .ty .now)) (at-read-two .read-two .result) (at-read-two .read-two .ensures) (at-whichever .whichever .result) (at-whichever .whichever .ensures) in
     scalar-inside (args .ty .now) (λ i. omega (arith, at-shared-slice-known2 .shared-slice-known2 .given i)) (c .before .scalar-at .ensures)
-    (second-good (args .spec .now) (args .ty .now) (sym (at-read-both .read-both .ensures) ∙ ap loneOf (at-enum-told .enum-told .given .1)))
+    (second-good (args .spec .now) (args .ty .now) (sym read ∙ ap loneOf (at-enum-told .enum-told .given .1)))
 
 part-write-parts-start : tie.Need-part-write-parts-start
 part-write-parts-start c =
-    let entry = c .before .before .before .before .before .before .before .before .before .before .before .before .before .before in
-    let at-shared-slice-known2 = c .before .before .before .before .before .before .before .before .before .before .before .before in
-    let at-read-both = c .before .before .before .before .before .before .before .before .before .before in
+    let entry = c .before .before .before .before .before .before .before .before .before .before .before .before .before .before .before in
+    let at-shared-slice-known2 = c .before .before .before .before .before .before .before .before .before .before .before .before .before in
+    let at-read-two = c .before .before .before .before .before .before .before .before .before .before .before in
+    let at-whichever = c .before .before .before .before .before .before .before .before .before .before in
     let at-enum-told = c .before .before .before .before .before .before .before .before in
     let args = entry .args in
+    let read = both-read (lone (args .spec .now)) (lone (args .ty .now)) (at-read-two .read-two .result) (at-read-two .read-two .ensures) (at-whichever .whichever .result) (at-whichever .whichever .ensures) in
     scalar-inside (args .ty .now) (λ i. omega (arith, at-shared-slice-known2 .shared-slice-known2 .given i)) (c .before .scalar-at .ensures)
-    (second-good (args .spec .now) (args .ty .now) (sym (at-read-both .read-both .ensures) ∙ ap loneOf (at-enum-told .enum-told .given .1)))
+    (second-good (args .spec .now) (args .ty .now) (sym read ∙ ap loneOf (at-enum-told .enum-told .given .1)))
 
 part-write-parts-end : tie.Need-part-write-parts-end
 part-write-parts-end c = search needs
@@ -122,10 +137,11 @@ same-length c = search needs
 
 returns-2 : tie.Need-returns-2
 returns-2 c =
-    let entry = c .before .before .before .before .before .before .before .before .before .before .before .before .before .before .before .before .before .before .before in
-    let at-shared-slice-known = c .before .before .before .before .before .before .before .before .before .before .before .before .before .before .before .before .before .before in
-    let at-shared-slice-known2 = c .before .before .before .before .before .before .before .before .before .before .before .before .before .before .before .before .before in
-    let at-read-both = c .before .before .before .before .before .before .before .before .before .before .before .before .before .before .before in
+    let entry = c .before .before .before .before .before .before .before .before .before .before .before .before .before .before .before .before .before .before .before .before in
+    let at-shared-slice-known = c .before .before .before .before .before .before .before .before .before .before .before .before .before .before .before .before .before .before .before in
+    let at-shared-slice-known2 = c .before .before .before .before .before .before .before .before .before .before .before .before .before .before .before .before .before .before in
+    let at-read-two = c .before .before .before .before .before .before .before .before .before .before .before .before .before .before .before .before in
+    let at-whichever = c .before .before .before .before .before .before .before .before .before .before .before .before .before .before .before in
     let at-enum-told = c .before .before .before .before .before .before .before .before .before .before .before .before .before in
     let at-shape-at = c .before .before .before .before .before .before .before .before .before .before .before .before in
     let at-shape-at2 = c .before .before .before .before .before .before .before .before .before .before .before in
@@ -134,26 +150,30 @@ returns-2 c =
     let at-scalar-at = c .before .before .before .before .before .before in
     let at-write-parts = c .before .before in
     let args = entry .args in
+    let read = both-read (lone (args .spec .now)) (lone (args .ty .now)) (at-read-two .read-two .result) (at-read-two .read-two .ensures) (at-whichever .whichever .result) (at-whichever .whichever .ensures) in
     let both = lones (args .spec .now) (args .ty .now) (λ i. omega (arith, at-shared-slice-known .shared-slice-known .given i)) (λ i. omega (arith, at-shared-slice-known2 .shared-slice-known2 .given i))
-    (sym (at-read-both .read-both .ensures) ∙ ap loneOf (at-enum-told .enum-told .given .1)) in
+    (sym read ∙ ap loneOf (at-enum-told .enum-told .given .1)) in
     let checked = shapes-checked (both .pair) (sideOf (args .side)) (at-shape-at .shape-at .result) (at-shape-at2 .shape-at2 .result) (at-check-shapes .check-shapes .result)
     (at-check-shapes .check-shapes .ensures) (at-shape-at .shape-at .ensures) (at-shape-at2 .shape-at2 .ensures) in
-    let is = shape-merged both (sideOf (args .side)) (at-check-shapes .check-shapes .result) checked (λ i. omega (arith, at-shared-slice-known2 .shared-slice-known2 .given i)) (at-scalar-at .scalar-at .ensures) (at-enum-told3 .enum-told3 .given .1) in
+    let is = shape-merged both (sideOf (args .side)) (at-check-shapes .check-shapes .result) checked
+    (λ i. omega (arith, at-shared-slice-known2 .shared-slice-known2 .given i)) (at-scalar-at .scalar-at .ensures) (at-enum-told3 .enum-told3 .given .1) in
     at-write-parts .write-parts .ensures ∙ ap (λ o. deliver o (args .result .now)) (sym is)
 
 returns-3 : tie.Need-returns-3
 returns-3 c =
-    let entry = c .before .before .before .before .before .before .before .before .before .before .before .before in
-    let at-shared-slice-known = c .before .before .before .before .before .before .before .before .before .before .before in
-    let at-shared-slice-known2 = c .before .before .before .before .before .before .before .before .before .before in
-    let at-read-both = c .before .before .before .before .before .before .before .before in
+    let entry = c .before .before .before .before .before .before .before .before .before .before .before .before .before in
+    let at-shared-slice-known = c .before .before .before .before .before .before .before .before .before .before .before .before in
+    let at-shared-slice-known2 = c .before .before .before .before .before .before .before .before .before .before .before in
+    let at-read-two = c .before .before .before .before .before .before .before .before .before in
+    let at-whichever = c .before .before .before .before .before .before .before .before in
     let at-enum-told = c .before .before .before .before .before .before in
     let at-shape-at = c .before .before .before .before .before in
     let at-shape-at2 = c .before .before .before .before in
     let at-check-shapes = c .before .before .before in
     let args = entry .args in
+    let read = both-read (lone (args .spec .now)) (lone (args .ty .now)) (at-read-two .read-two .result) (at-read-two .read-two .ensures) (at-whichever .whichever .result) (at-whichever .whichever .ensures) in
     let both = lones (args .spec .now) (args .ty .now) (λ i. omega (arith, at-shared-slice-known .shared-slice-known .given i)) (λ i. omega (arith, at-shared-slice-known2 .shared-slice-known2 .given i))
-    (sym (at-read-both .read-both .ensures) ∙ ap loneOf (at-enum-told .enum-told .given .1)) in
+    (sym read ∙ ap loneOf (at-enum-told .enum-told .given .1)) in
     let checked = shapes-checked (both .pair) (sideOf (args .side)) (at-shape-at .shape-at .result) (at-shape-at2 .shape-at2 .result) (at-check-shapes .check-shapes .result)
     (at-check-shapes .check-shapes .ensures) (at-shape-at .shape-at .ensures) (at-shape-at2 .shape-at2 .ensures) in
     sym (deliver-refused _ (shape-clash both (sideOf (args .side)) (at-check-shapes .check-shapes .result) checked (c .before .clash .given .1)))
@@ -162,7 +182,8 @@ pub check-shape-spec : {M : Type 1} → statement M
 check-shape-spec =
     tie.close
     (tie.spec
-    read-both-requires
+    read-two-requires
+    whichever-requires
     enum-told
     enum-told-2
     as-written-requires

@@ -1,8 +1,7 @@
-use Rattle.validate.proofs.WholeLaws.{lones, validate-done, validate-not, validate-ends}
-use Rattle.validate.specs.Answers.{sideOf}
-use mathlib.Core.Path.{_≡_, refl, sym, ap, _∙_}
 use native.Mathlib.Omega.{arith}
 use borrow.Author.Needs.{needs}
+use Rattle.validate.specs.Answers.{sideOf}
+use Rattle.validate.proofs.WholeLaws.{lones, validate-done, validate-not, validate-ends}
 use Rattle.validate.proofs.calls.validate_known.Statement.{statement}
 use Rattle.validate.proofs.calls.validate_known.Tie as tie
 use Rattle.validate.proofs.calls.validate_known.Reads as reads

@@ -1,11 +1,11 @@
-use Rattle.validate.proofs.CopyLaws.{going-start, going-has, going-room, going-next, going-few, going-end}
+use native.Mathlib.Omega.{arith}
+use mathlib.Core.Path.{_≡_, refl, _∙_}
+use lib.ListN.{length, take}
+use borrow.Author.Needs.{needs}
+use Rattle.model.specs.Types.{Fields, fieldCount}
 use Rattle.validate.specs.Walk.{Going}
 use Rattle.validate.specs.Lists.{ListAt}
-use Rattle.model.specs.Types.{Fields, fieldCount}
-use lib.ListN.{length, take}
-use mathlib.Core.Path.{_≡_, refl, sym, ap, _∙_}
-use native.Mathlib.Omega.{arith}
-use borrow.Author.Needs.{needs}
+use Rattle.validate.proofs.CopyLaws.{going-start, going-has, going-room, going-next, going-few, going-end}
 use Rattle.validate.proofs.copies.copy_fields.Statement.{statement}
 use Rattle.validate.proofs.copies.copy_fields.Tie as tie
 use Rattle.validate.proofs.copies.copy_fields.Reads as reads
@@ -45,7 +45,8 @@ add-types c =
     let at-loop = c .before .before .before .before .before .before .before in
     let at-loop-test = c .before .before .before .before .before .before in
     let at-copy-type = c .before .before .before .before in
-    let few = going-few (at-loop .loop .inv .1 (entry .pre .fields) (entry .pre .there) (entry .pre .counted)) (at-loop-test .loop-test .taken) (at-copy-type .copy-type .last .1 .1 .0) (at-copy-type .copy-type .result) (at-copy-type .copy-type .ensures) (entry .pre .few) in
+    let few = going-few (at-loop .loop .inv .1 (entry .pre .fields) (entry .pre .there) (entry .pre .counted)) (at-loop-test .loop-test .taken)
+    (at-copy-type .copy-type .last .1 .1 .0) (at-copy-type .copy-type .result) (at-copy-type .copy-type .ensures) (entry .pre .few) in
     omega (arith, few)
 
 sub-left : tie.Need-sub-left Inv-loop μ-loop

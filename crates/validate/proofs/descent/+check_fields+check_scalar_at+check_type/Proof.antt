@@ -1,21 +1,22 @@
-use Rattle.validate.proofs.WalkLaws.{shapes-checked, shape-room, scalar-room, scalar-few, pair-refused, pair-clash, pair-done}
-use Rattle.validate.proofs.WalkLaws.{plan-refuse, plan-keep, plan-take, plan-inside, plan-pairs, keep-copyable, take-copyable, head-room, held-room, refused-done, copied-done, inside-done, fresh-lists, own-lists, fresh-done, own-done}
-use Rattle.validate.proofs.WalkLaws.{Pacing, pacing-start, lists-countable, pacing-few, pacing-ahead, first-spec, first-type, rest-enough, pacing-pair, pair-room, pacing-stop, types-few, pacing-next, pacing-ended, pacing-listable, tail-few, pacing-rest}
-use Rattle.validate.proofs.PlanLaws.{some-left, pair-bounds, typeTy, specTy}
-use Rattle.validate.proofs.ListLaws.{has}
+use Prim.Native.Nat.{ℕ, _<_, _+_, _-_, _*_}
+use native.Mathlib.Omega.{arith}
+use mathlib.Core.Path.{_≡_, refl, _∙_}
+use lib.ListN.{length, take}
+use borrow.Author.Needs.{needs}
+use borrow.Fn.Kinds.{In}
+use borrow.Fn.PlainCycle.{Measures, is, falls, and}
+use Rattle.format.specs.Outcome.{mapped}
+use Rattle.model.specs.Limits.{maxDepth}
 use Rattle.validate.specs.Walk.{fieldsPiece}
 use Rattle.validate.specs.Plans.{TwoLists, fieldsAfter}
 use Rattle.validate.specs.Answers.{sideOf}
-use Rattle.format.specs.Outcome.{mapped}
-use Rattle.model.specs.Limits.{maxDepth}
-use lib.ListN.{length, take}
-use mathlib.Core.Bool.{cond}
-use mathlib.Core.Path.{_≡_, refl, sym, ap, _∙_}
-use native.Mathlib.Omega.{arith}
-use borrow.Author.Needs.{needs}
-use Prim.Native.Nat.{ℕ, _<_, _+_, _-_, _*_}
-use borrow.Fn.Kinds.{In}
-use borrow.Fn.PlainCycle.{Measures, is, falls, and}
+use Rattle.validate.proofs.WalkLaws.{pacing-stop, types-few, pacing-next, pacing-ended, pacing-listable, tail-few, pacing-rest}
+use Rattle.validate.proofs.WalkLaws.{Pacing, pacing-start, lists-countable, pacing-few, pacing-ahead, first-spec, first-type, rest-enough, pacing-pair, pair-room}
+use Rattle.validate.proofs.HeadLaws.{box-laid}
+use Rattle.validate.proofs.WalkLaws.{shapes-checked, shape-room, scalar-room, scalar-few, pair-refused, pair-clash, pair-done}
+use Rattle.validate.proofs.WalkLaws.{plan-refuse, plan-keep, plan-take, plan-inside, plan-pairs, keep-copyable, take-copyable, head-room, held-room, refused-done, copied-done, inside-done, fresh-lists, own-lists, fresh-done, own-done}
+use Rattle.validate.proofs.PlanLaws.{some-left, pair-bounds, typeTy, specTy}
+use Rattle.validate.proofs.ListLaws.{has}
 use Rattle.validate.proofs.descent.check_fields.Reads as check-fields
 use Rattle.validate.proofs.descent.check_fields.Kinds as check-fields-kinds
 use Rattle.validate.proofs.descent.+check_fields+check_scalar_at+check_type.Lts-check_fields as check-fields-lts
@@ -30,7 +31,7 @@ use Rattle.known.proofs.span_at.Reads as span-at-reads
 use Rattle.validate.proofs.copies.copy_fields.Reads as copy-fields-reads
 use Rattle.validate.proofs.copies.copy_scalar.Reads as copy-scalar-reads
 use Rattle.validate.proofs.descent.done.Reads as done-reads
-use Rattle.validate.proofs.heads.put_box.Reads as put-box-reads
+use Rattle.writer.proofs.put_box.Reads as put-box-reads
 use Rattle.validate.proofs.heads.put_name.Reads as put-name-reads
 use Rattle.validate.proofs.lists.next_place.Reads as next-place-reads
 use Rattle.validate.proofs.lists.next_type.Reads as next-type-reads
@@ -269,8 +270,13 @@ check-fields-check-type-requires t c κs =
     let at-loop-test = c .before .before .before .before in
     let at-if1 = c .before .before .before in
     let at-span-at = c .before .before in
-    let now = at-loop .loop .inv .1 (entry .pre .1 .0) in
-    (omega (arith, entry .pre .0), (pacing-pair now (at-loop-test .loop-test .taken) (at-if1 .if1 .left) (at-span-at .span-at .ensures), pair-room now (at-loop-test .loop-test .taken) (at-if1 .if1 .left) (at-span-at .span-at .ensures) (omega (arith, entry .pre .1 .1, at-loop .loop .inv .0))))
+    let now = at-loop .loop .inv .1 (entry .pre .1 .0) in (
+      omega (arith, entry .pre .0),
+      (
+        pacing-pair now (at-loop-test .loop-test .taken) (at-if1 .if1 .left) (at-span-at .span-at .ensures),
+        pair-room now (at-loop-test .loop-test .taken) (at-if1 .if1 .left) (at-span-at .span-at .ensures) (omega (arith, entry .pre .1 .1, at-loop .loop .inv .0)),
+      ),
+    )
 
 check-fields-enum-known-w : (t : ℕ) → check-fields-lts.Need-enum-known-w (
   types-in-reads.Asked,
@@ -786,7 +792,7 @@ check-scalar-at-put-box-requires : (t : ℕ) → check-scalar-at-lts.Need-put-bo
 check-scalar-at-put-box-requires t c κs =
     let entry = c .before .before .before .before .before .before .before .before in
     let args = entry .args in
-    (head-room (entry .pre .1 .0) (args .to) (entry .pre .1 .1), omega arith)
+    (omega (arith, head-room (entry .pre .1 .0) (args .to) (entry .pre .1 .1)), omega arith)
 
 check-scalar-at-add-check-type : (t : ℕ) → check-scalar-at-lts.Need-add-check-type (
   plan-scalar-reads.Asked,
@@ -854,7 +860,8 @@ check-scalar-at-check-type-requires t c κs =
     let args = entry .args in
     let left = some-left (args .others) (args .above) (entry .pre .1 .0 .type-scalar) (entry .pre .1 .0 .limits) in
     let v = plan-inside (entry .pre .1 .0) (at-plan-scalar .plan-scalar .result) (at-plan-scalar .plan-scalar .ensures (entry .pre .1 .0)) (at-plan2 .plan2 .given .1) in
-    (omega (arith, entry .pre .0, left .1), (v .inner, held-room (entry .pre .1 .0) (args .to) (args .out .now) (entry .pre .1 .1) (at-put-box .put-box .result) (at-put-box .put-box .last .0) (at-put-box .put-box .ensures .short) (at-put-box .put-box .kept .0)))
+    let head = box-laid 1 (at-put-box .put-box .ensures) in
+    (omega (arith, entry .pre .0, left .1), (v .inner, held-room (entry .pre .1 .0) (args .to) (args .out .now) (entry .pre .1 .1) (at-put-box .put-box .result) (at-put-box .put-box .last .0) (head .short) (at-put-box .put-box .kept .0)))
 
 check-scalar-at-enum-known-plan-3 : (t : ℕ) → check-scalar-at-lts.Need-enum-known-plan-3 (
   plan-scalar-reads.Asked,
@@ -1008,7 +1015,8 @@ check-scalar-at-check-fields-requires t c κs =
     let left = some-left (args .others) (args .above) (entry .pre .1 .0 .type-scalar) (entry .pre .1 .0 .limits) in
     let v = plan-pairs (entry .pre .1 .0) (at-plan-scalar .plan-scalar .result) (at-plan-scalar .plan-scalar .ensures (entry .pre .1 .0)) (at-plan3 .plan3 .given .1) in
     let head = at-put-name .put-name .ensures (v .label) (v .titled) in
-    let room = held-room (entry .pre .1 .0) (args .to) (args .out .now) (entry .pre .1 .1) (at-put-name .put-name .result) (at-put-name .put-name .last .1 .1 .1 .1 .1 .0) (head .short) (at-put-name .put-name .kept .1 .1 .1 .1 .1 .0) in
+    let room = held-room (entry .pre .1 .0) (args .to) (args .out .now) (entry .pre .1 .1)
+    (at-put-name .put-name .result) (at-put-name .put-name .last .1 .1 .1 .1 .1 .0) (head .short) (at-put-name .put-name .kept .1 .1 .1 .1 .1 .0) in
     (omega (arith, entry .pre .0, left .1), (fresh-lists (args .ty .now) _ (v .inner) (at-if1 .if1 .taken), room))
 
 check-scalar-at-same-length : (t : ℕ) → check-scalar-at-lts.Need-same-length (
@@ -1060,7 +1068,8 @@ check-scalar-at-returns t c =
     let v = plan-pairs w (at-plan-scalar .plan-scalar .result) (at-plan-scalar .plan-scalar .ensures w) (at-plan3 .plan3 .given .1) in
     let head = at-put-name .put-name .ensures (v .label) (v .titled) in
     let done = at-check-fields .check-fields .ensures (fresh-lists (args .ty .now) _ (v .inner) (at-if1 .if1 .taken)) in
-    fresh-done w (args .to) (args .out .now) (entry .pre .1 .1) (at-put-name .put-name .result) (at-put-name .put-name .last .1 .1 .1 .1 .1 .0) (at-check-fields .check-fields .result) (at-check-fields .check-fields .last .1 .1 .1 .1 .1 .1 .0) v head (at-if1 .if1 .taken) done
+    fresh-done w (args .to) (args .out .now) (entry .pre .1 .1)
+    (at-put-name .put-name .result) (at-put-name .put-name .last .1 .1 .1 .1 .1 .0) (at-check-fields .check-fields .result) (at-check-fields .check-fields .last .1 .1 .1 .1 .1 .1 .0) v head (at-if1 .if1 .taken) done
 
 check-scalar-at-add-check-fields-3 : (t : ℕ) → check-scalar-at-lts.Need-add-check-fields-3 (
   plan-scalar-reads.Asked,
@@ -1130,7 +1139,8 @@ check-scalar-at-check-fields-requires-2 t c κs =
     let left = some-left (args .others) (args .above) (entry .pre .1 .0 .type-scalar) (entry .pre .1 .0 .limits) in
     let v = plan-pairs (entry .pre .1 .0) (at-plan-scalar .plan-scalar .result) (at-plan-scalar .plan-scalar .ensures (entry .pre .1 .0)) (at-plan3 .plan3 .given .1) in
     let head = at-put-name .put-name .ensures (v .label) (v .titled) in
-    let room = held-room (entry .pre .1 .0) (args .to) (args .out .now) (entry .pre .1 .1) (at-put-name .put-name .result) (at-put-name .put-name .last .1 .1 .1 .1 .1 .0) (head .short) (at-put-name .put-name .kept .1 .1 .1 .1 .1 .0) in
+    let room = held-room (entry .pre .1 .0) (args .to) (args .out .now) (entry .pre .1 .1)
+    (at-put-name .put-name .result) (at-put-name .put-name .last .1 .1 .1 .1 .1 .0) (head .short) (at-put-name .put-name .kept .1 .1 .1 .1 .1 .0) in
     (omega (arith, entry .pre .0, left .1), (own-lists (args .ty .now) _ (v .inner) (c .before .if1 .left), room))
 
 check-scalar-at-returns-2 : (t : ℕ) → check-scalar-at-lts.Need-returns-2 (
@@ -1196,8 +1206,10 @@ check-scalar-at-returns-3 t c =
     let at-copy-scalar = c .before .before .before in
     let args = entry .args in
     λ w.
+    let is = plan-keep w (at-plan-scalar .plan-scalar .result) (at-plan-scalar .plan-scalar .ensures w) (at-enum-told .enum-told .given .1) in
     let copied = at-copy-scalar .copy-scalar .ensures (typeTy w) (w .type-there) in
-    copied-done w (args .to) (args .out .now) (at-copy-scalar .copy-scalar .last .1 .1 .0) (at-copy-scalar .copy-scalar .result) (c .done .ensures) (w .type-scalar) (plan-keep w (at-plan-scalar .plan-scalar .result) (at-plan-scalar .plan-scalar .ensures w) (at-enum-told .enum-told .given .1)) copied
+    copied-done w (args .to) (args .out .now)
+    (at-copy-scalar .copy-scalar .last .1 .1 .0) (at-copy-scalar .copy-scalar .result) (c .done .ensures) (w .type-scalar) is copied
 
 check-scalar-at-same-length-3 : (t : ℕ) → check-scalar-at-lts.Need-same-length-3 (
   plan-scalar-reads.Asked,
@@ -1240,8 +1252,10 @@ check-scalar-at-returns-4 t c =
     let at-copy-scalar2 = c .before .before .before in
     let args = entry .args in
     λ w.
+    let is = plan-take w (at-plan-scalar .plan-scalar .result) (at-plan-scalar .plan-scalar .ensures w) (at-enum-told2 .enum-told2 .given .1) in
     let copied = at-copy-scalar2 .copy-scalar2 .ensures (specTy w) (w .spec-there) in
-    copied-done w (args .to) (args .out .now) (at-copy-scalar2 .copy-scalar2 .last .1 .1 .0) (at-copy-scalar2 .copy-scalar2 .result) (c .done2 .ensures) (w .spec-scalar) (plan-take w (at-plan-scalar .plan-scalar .result) (at-plan-scalar .plan-scalar .ensures w) (at-enum-told2 .enum-told2 .given .1)) copied
+    copied-done w (args .to) (args .out .now)
+    (at-copy-scalar2 .copy-scalar2 .last .1 .1 .0) (at-copy-scalar2 .copy-scalar2 .result) (c .done2 .ensures) (w .spec-scalar) is copied
 
 check-scalar-at-same-length-4 : (t : ℕ) → check-scalar-at-lts.Need-same-length-4 (
   plan-scalar-reads.Asked,
@@ -1289,7 +1303,8 @@ check-scalar-at-returns-5 t c =
     let args = entry .args in
     λ w.
     let v = plan-inside w (at-plan-scalar .plan-scalar .result) (at-plan-scalar .plan-scalar .ensures w) (at-plan2 .plan2 .given .1) in
-    inside-done w (args .to) (args .out .now) (entry .pre .1 .1) (at-put-box .put-box .result) (at-put-box .put-box .last .0) (at-check-type .check-type .result) (at-check-type .check-type .last .1 .1 .1 .1 .1 .1 .1 .0) v (at-put-box .put-box .ensures) (at-check-type .check-type .ensures (v .inner))
+    inside-done w (args .to) (args .out .now) (entry .pre .1 .1) (at-put-box .put-box .result) (at-put-box .put-box .last .0) (at-check-type .check-type .result) (at-check-type .check-type .last .1 .1 .1 .1 .1 .1 .1 .0) v
+    (box-laid 1 (at-put-box .put-box .ensures)) (at-check-type .check-type .ensures (v .inner))
 
 check-scalar-at-same-length-5 : (t : ℕ) → check-scalar-at-lts.Need-same-length-5 (
   plan-scalar-reads.Asked,
@@ -1340,7 +1355,8 @@ check-scalar-at-returns-6 t c =
     let v = plan-pairs w (at-plan-scalar .plan-scalar .result) (at-plan-scalar .plan-scalar .ensures w) (at-plan3 .plan3 .given .1) in
     let head = at-put-name .put-name .ensures (v .label) (v .titled) in
     let done = at-check-fields2 .check-fields2 .ensures (own-lists (args .ty .now) _ (v .inner) (at-if1 .if1 .left)) in
-    own-done w (args .to) (args .out .now) (entry .pre .1 .1) (at-put-name .put-name .result) (at-put-name .put-name .last .1 .1 .1 .1 .1 .0) (at-check-fields2 .check-fields2 .result) (at-check-fields2 .check-fields2 .last .1 .1 .1 .1 .1 .1 .0) v head (at-if1 .if1 .left) done
+    own-done w (args .to) (args .out .now) (entry .pre .1 .1)
+    (at-put-name .put-name .result) (at-put-name .put-name .last .1 .1 .1 .1 .1 .0) (at-check-fields2 .check-fields2 .result) (at-check-fields2 .check-fields2 .last .1 .1 .1 .1 .1 .1 .0) v head (at-if1 .if1 .left) done
 
 check-type-shape-at-requires : (t : ℕ) → check-type-lts.Need-shape-at-requires (
   shape-at-reads.Asked,
@@ -1524,7 +1540,8 @@ check-type-returns t c =
     let at-check-scalar-at = c .before .before .before .before in
     let args = entry .args in
     λ w.
-    let checked = shapes-checked w (sideOf (args .side)) (at-shape-at .shape-at .result) (at-shape-at2 .shape-at2 .result) (at-check-shapes .check-shapes .result) (at-check-shapes .check-shapes .ensures) (at-shape-at .shape-at .ensures) (at-shape-at2 .shape-at2 .ensures) in
+    let checked = shapes-checked w (sideOf (args .side)) (at-shape-at .shape-at .result) (at-shape-at2 .shape-at2 .result)
+    (at-check-shapes .check-shapes .result) (at-check-shapes .check-shapes .ensures) (at-shape-at .shape-at .ensures) (at-shape-at2 .shape-at2 .ensures) in
     pair-refused w (args .to) (args .out .now) (entry .pre .1 .1) (at-shape-length .shape-length .ensures .1) (sideOf (args .side)) (at-check-shapes .check-shapes .result) checked
     (at-put-shape .put-shape .last .0) (at-check-scalar-at .check-scalar-at .result) (at-check-scalar-at .check-scalar-at .last .1 .1 .1 .1 .1 .1 .0) (at-check-scalar-at .check-scalar-at .ensures w) (c .enum-told .given .1)
 
@@ -1559,7 +1576,8 @@ check-type-add-t26 t c =
     let at-put-shape = c .before .before .before .before .before .before .before .before .before .before .before in
     let at-check-scalar-at = c .before .before .before .before .before .before .before in
     let at-w = c .before .before .before in
-    let few = scalar-few (entry .pre .1 .0) _ (at-put-shape .put-shape .last .0) (at-check-scalar-at .check-scalar-at .last .1 .1 .1 .1 .1 .1 .0) (at-check-scalar-at .check-scalar-at .result) (at-w .w .given .1) (at-check-scalar-at .check-scalar-at .ensures (entry .pre .1 .0)) in
+    let few = scalar-few (entry .pre .1 .0) _
+    (at-put-shape .put-shape .last .0) (at-check-scalar-at .check-scalar-at .last .1 .1 .1 .1 .1 .1 .0) (at-check-scalar-at .check-scalar-at .result) (at-w .w .given .1) (at-check-scalar-at .check-scalar-at .ensures (entry .pre .1 .0)) in
     omega (arith, few)
 
 check-type-enum-known-clash : (t : ℕ) → check-type-lts.Need-enum-known-clash (
@@ -1616,7 +1634,8 @@ check-type-returns-2 t c =
     let at-w = c .before .before .before in
     let args = entry .args in
     λ w.
-    let checked = shapes-checked w (sideOf (args .side)) (at-shape-at .shape-at .result) (at-shape-at2 .shape-at2 .result) (at-check-shapes .check-shapes .result) (at-check-shapes .check-shapes .ensures) (at-shape-at .shape-at .ensures) (at-shape-at2 .shape-at2 .ensures) in
+    let checked = shapes-checked w (sideOf (args .side)) (at-shape-at .shape-at .result) (at-shape-at2 .shape-at2 .result)
+    (at-check-shapes .check-shapes .result) (at-check-shapes .check-shapes .ensures) (at-shape-at .shape-at .ensures) (at-shape-at2 .shape-at2 .ensures) in
     pair-done w (args .to) (args .out .now) (entry .pre .1 .1) (at-shape-length .shape-length .ensures .1) (sideOf (args .side)) (at-check-shapes .check-shapes .result) checked
     (at-put-shape .put-shape .last .0) (at-check-scalar-at .check-scalar-at .result) (at-check-scalar-at .check-scalar-at .last .1 .1 .1 .1 .1 .1 .0) (at-check-scalar-at .check-scalar-at .ensures w) (at-w .w .given .1)
     (at-shape-length .shape-length .ensures .0) (at-put-shape .put-shape .ensures .1) (c .enum-told2 .given .1)
@@ -1661,7 +1680,8 @@ check-type-returns-3 t c =
     let at-w = c .before .before .before .before in
     let args = entry .args in
     λ w.
-    let checked = shapes-checked w (sideOf (args .side)) (at-shape-at .shape-at .result) (at-shape-at2 .shape-at2 .result) (at-check-shapes .check-shapes .result) (at-check-shapes .check-shapes .ensures) (at-shape-at .shape-at .ensures) (at-shape-at2 .shape-at2 .ensures) in
+    let checked = shapes-checked w (sideOf (args .side)) (at-shape-at .shape-at .result) (at-shape-at2 .shape-at2 .result)
+    (at-check-shapes .check-shapes .result) (at-check-shapes .check-shapes .ensures) (at-shape-at .shape-at .ensures) (at-shape-at2 .shape-at2 .ensures) in
     pair-clash w (args .to) (args .out .now) (entry .pre .1 .1) (at-shape-length .shape-length .ensures .1) (sideOf (args .side)) (at-check-shapes .check-shapes .result) checked
     (at-put-shape .put-shape .last .0) (at-check-scalar-at .check-scalar-at .result) (at-check-scalar-at .check-scalar-at .last .1 .1 .1 .1 .1 .1 .0) (at-check-scalar-at .check-scalar-at .ensures w) (at-w .w .given .1) (c .before .clash .given .1)
 

@@ -1,9 +1,9 @@
-use borrow.Author.Needs.{needs}
-use mathlib.Core.Path.{_≡_, refl, sym, _∙_}
-use native.Mathlib.Omega.{arith}
 use Prim.Native.Nat.{_-_, _≤_}
+use native.Mathlib.Omega.{arith}
+use mathlib.Core.Path.{_≡_, refl, sym, _∙_}
 use mathlib.Core.List.{reverse}
-use lib.ListN.{drop, length-reverse}
+use lib.ListN.{drop}
+use borrow.Author.Needs.{needs}
 use Rattle.record.specs.Answers.{dimsOf}
 use Rattle.validation.specs.CheckShape.{agree}
 use Rattle.validation.specs.CheckShapeSteps.{agreeEnds-end, agreeEnds-end′}
@@ -72,7 +72,8 @@ returns-2 c =
     let at-size-count2 = c .before .before .before .before .before .before .before in
     let at-loop = c .before .before .before .before .before .before in
     let args = entry .args in
-    sym (at-loop .loop .inv .1 ∙ ends-stop (args .t1) (args .t2) (at-loop .loop .i) (at-size-count .size-count .ensures .0) (at-size-count2 .size-count2 .ensures .0) (omega arith) (omega arith) (c .before .compatible .ensures) (c .if2 .taken))
+    sym (at-loop .loop .inv .1 ∙ ends-stop (args .t1) (args .t2) (at-loop .loop .i) (at-size-count .size-count .ensures .0) (at-size-count2 .size-count2 .ensures .0)
+    (omega arith) (omega arith) (c .before .compatible .ensures) (c .if2 .taken))
 
 add-i : tie.Need-add-i Inv-loop μ-loop
 add-i c = search needs
@@ -86,8 +87,11 @@ loop-again c =
     let at-size-count = c .before .before .before .before .before .before .before .before in
     let at-size-count2 = c .before .before .before .before .before .before .before in
     let at-loop = c .before .before .before .before .before .before in
-    let args = entry .args in
-    (omega arith, at-loop .loop .inv .1 ∙ ends-more (args .t1) (args .t2) (at-loop .loop .i) (at-size-count .size-count .ensures .0) (at-size-count2 .size-count2 .ensures .0) (omega arith) (omega arith) (c .before .compatible .ensures) (c .if2 .left))
+    let args = entry .args in (
+      omega arith,
+      at-loop .loop .inv .1 ∙ ends-more (args .t1) (args .t2) (at-loop .loop .i) (at-size-count .size-count .ensures .0) (at-size-count2 .size-count2 .ensures .0)
+          (omega arith) (omega arith) (c .before .compatible .ensures) (c .if2 .left),
+    )
 
 returns-3 : tie.Need-returns-3 Inv-loop μ-loop
 returns-3 c =

@@ -1,13 +1,11 @@
-use Rattle.record.proofs.ByValue.{size-at}
-use borrow.Author.Needs.{needs}
-use mathlib.Core.Path.{_≡_, refl, sym, _∙_}
-use native.Mathlib.Omega.{arith}
 use Prim.Native.Nat.{_-_, _≤_}
+use native.Mathlib.Omega.{arith}
+use mathlib.Core.Path.{_≡_, refl, sym, _∙_}
 use mathlib.Core.List.{_++_}
-use lib.ListN.{drop, length-append}
+use lib.ListN.{drop}
+use borrow.Author.Needs.{needs}
 use Rattle.record.specs.Answers.{dimsOf}
 use Rattle.validation.specs.CheckShape.{equalDims}
-use Rattle.validation.specs.CheckShapeSteps.{equal-end}
 use Rattle.validate.proofs.DimsLaws.{parts-uneven, parts-more, parts-stop, parts-end}
 use Rattle.validate.proofs.dims.equal_dims.Statement.{statement}
 use Rattle.validate.proofs.dims.equal_dims.Tie as tie
@@ -65,7 +63,8 @@ returns-2 c =
     let at-size-in = c .before .before in
     let args = entry .args in
     sym (at-loop .loop .inv .1
-    ∙ parts-stop (args .a) (args .b) (args .t3) (at-size-count2 .size-count2 .ensures .0) (at-size-count3 .size-count3 .ensures .0) (at-size-count .size-count .ensures .0) (at-if1 .if1 .left) (at-loop .loop .i) (omega arith) (at-size-in .size-in .result) (at-size-in .size-in .ensures) (c .if2 .taken))
+    ∙ parts-stop (args .a) (args .b) (args .t3) (at-size-count2 .size-count2 .ensures .0) (at-size-count3 .size-count3 .ensures .0) (at-size-count .size-count .ensures .0)
+    (at-if1 .if1 .left) (at-loop .loop .i) (omega arith) (at-size-in .size-in .result) (at-size-in .size-in .ensures) (c .if2 .taken))
 
 add-i : tie.Need-add-i Inv-loop μ-loop
 add-i c = search needs
@@ -85,7 +84,8 @@ loop-again c =
     let args = entry .args in (
       omega arith,
       at-loop .loop .inv .1
-          ∙ parts-more (args .a) (args .b) (args .t3) (at-size-count2 .size-count2 .ensures .0) (at-size-count3 .size-count3 .ensures .0) (at-size-count .size-count .ensures .0) (at-if1 .if1 .left) (at-loop .loop .i) (omega arith) (at-size-in .size-in .result) (at-size-in .size-in .ensures) (c .if2 .left),
+          ∙ parts-more (args .a) (args .b) (args .t3) (at-size-count2 .size-count2 .ensures .0) (at-size-count3 .size-count3 .ensures .0) (at-size-count .size-count .ensures .0)
+          (at-if1 .if1 .left) (at-loop .loop .i) (omega arith) (at-size-in .size-in .result) (at-size-in .size-in .ensures) (c .if2 .left),
     )
 
 returns-3 : tie.Need-returns-3 Inv-loop μ-loop
@@ -96,7 +96,8 @@ returns-3 c =
     let at-size-count3 = c .before .before .before in
     let at-if1 = c .before .before in
     let args = entry .args in
-    sym (c .before .loop .inv .1 ∙ parts-end (args .a) (args .b) (args .t3) (at-size-count2 .size-count2 .ensures .0) (at-size-count3 .size-count3 .ensures .0) (at-size-count .size-count .ensures .0) (at-if1 .if1 .left) (c .before .loop .i) (omega arith))
+    sym (c .before .loop .inv .1
+    ∙ parts-end (args .a) (args .b) (args .t3) (at-size-count2 .size-count2 .ensures .0) (at-size-count3 .size-count3 .ensures .0) (at-size-count .size-count .ensures .0) (at-if1 .if1 .left) (c .before .loop .i) (omega arith))
 
 pub equal-dims-spec : {M : Type 1} → statement M
 equal-dims-spec =

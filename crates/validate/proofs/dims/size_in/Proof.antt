@@ -1,6 +1,6 @@
-use Rattle.validate.proofs.DimsLaws.{size-in-first, size-in-second, size-in-neither}
 use native.Mathlib.Omega.{arith}
 use borrow.Author.Needs.{needs}
+use Rattle.validate.proofs.DimsLaws.{size-in-first, size-in-second, size-in-neither}
 use Rattle.validate.proofs.dims.size_in.Statement.{statement}
 use Rattle.validate.proofs.dims.size_in.Tie as tie
 use Rattle.validate.proofs.dims.size_in.Reads as reads

@@ -1,8 +1,7 @@
-use Rattle.validate.specs.Lists.{nextPlace}
+use mathlib.Core.Path.{sym, ap, _∙_}
 use borrow.Author.Tests.{not-true, not-false}
-use mathlib.Core.Path.{_≡_, refl, sym, ap, _∙_}
-use Rattle.model.specs.Limits.{maxDepth}
 use borrow.Author.Needs.{needs}
+use Rattle.validate.specs.Lists.{nextPlace}
 use Rattle.validate.proofs.lists.next_type.Statement.{statement}
 use Rattle.validate.proofs.lists.next_type.Tie as tie
 use Rattle.validate.proofs.lists.next_type.Reads as reads

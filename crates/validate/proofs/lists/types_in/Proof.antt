@@ -1,9 +1,9 @@
-use Rattle.validate.proofs.ListLaws.{count-start, count-has, count-next, count-few, count-end}
-use Rattle.validate.specs.Lists.{ListAt, Counting}
-use Rattle.model.specs.Types.{Fields, fieldCount}
-use mathlib.Core.Path.{_≡_, refl, sym, ap, _∙_}
 use native.Mathlib.Omega.{arith}
+use mathlib.Core.Path.{_≡_}
 use borrow.Author.Needs.{needs}
+use Rattle.model.specs.Types.{Fields, fieldCount}
+use Rattle.validate.specs.Lists.{ListAt, Counting}
+use Rattle.validate.proofs.ListLaws.{count-start, count-has, count-next, count-few, count-end}
 use Rattle.validate.proofs.lists.types_in.Statement.{statement}
 use Rattle.validate.proofs.lists.types_in.Tie as tie
 use Rattle.validate.proofs.lists.types_in.Reads as reads

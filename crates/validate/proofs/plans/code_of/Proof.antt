@@ -1,5 +1,5 @@
-use Rattle.validate.proofs.PlanLaws.{code-plain, code-box-any, code-box-all, code-box-def}
 use borrow.Author.Needs.{needs}
+use Rattle.validate.proofs.PlanLaws.{code-plain, code-box-any, code-box-all, code-box-def}
 use Rattle.validate.proofs.plans.code_of.Statement.{statement}
 use Rattle.validate.proofs.plans.code_of.Tie as tie
 use Rattle.validate.proofs.plans.code_of.Reads as reads

@@ -1,5 +1,5 @@
-use Rattle.validate.proofs.PlanLaws.{fields-open, fields-many, fields-unknown, fields-one}
 use borrow.Author.Needs.{needs}
+use Rattle.validate.proofs.PlanLaws.{fields-open, fields-many, fields-unknown, fields-one}
 use Rattle.validate.proofs.plans.fields_for.Statement.{statement}
 use Rattle.validate.proofs.plans.fields_for.Tie as tie
 use Rattle.validate.proofs.plans.fields_for.Reads as reads

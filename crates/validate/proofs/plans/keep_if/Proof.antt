@@ -1,8 +1,7 @@
+use mathlib.Core.Bool.{cond}
+use mathlib.Core.Path.{ap, _∙_}
 use Rattle.model.specs.Refusals.{wrongScalar}
 use Rattle.format.specs.Outcome.{accepted, refused}
-use mathlib.Core.Bool.{cond}
-use mathlib.Core.Path.{_≡_, refl, sym, ap, _∙_}
-use borrow.Author.Needs.{needs}
 use Rattle.validate.proofs.plans.keep_if.Statement.{statement}
 use Rattle.validate.proofs.plans.keep_if.Tie as tie
 use Rattle.validate.proofs.plans.keep_if.Reads as reads

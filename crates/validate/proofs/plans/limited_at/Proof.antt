@@ -1,6 +1,6 @@
-use Rattle.validate.proofs.PlanLaws.{limited-over, limited-by}
 use native.Mathlib.Omega.{arith}
 use borrow.Author.Needs.{needs}
+use Rattle.validate.proofs.PlanLaws.{limited-over, limited-by}
 use Rattle.validate.proofs.plans.limited_at.Statement.{statement}
 use Rattle.validate.proofs.plans.limited_at.Tie as tie
 use Rattle.validate.proofs.plans.limited_at.Reads as reads

@@ -1,9 +1,9 @@
-use Rattle.validate.proofs.PlanLaws.{too-many-fields, too-many-types, too-deep, no-copies, some-copies, product-small}
-use Rattle.validate.specs.Plans.{Planned}
-use mathlib.Core.Logic.{⊎-elim}
-use mathlib.Core.Path.{_≡_, refl, sym, ap, subst, _∙_}
 use native.Mathlib.Omega.{arith}
+use mathlib.Core.Logic.{⊎-elim}
+use mathlib.Core.Path.{sym, subst}
 use borrow.Author.Needs.{needs}
+use Rattle.validate.specs.Plans.{Planned}
+use Rattle.validate.proofs.PlanLaws.{too-many-fields, too-many-types, too-deep, no-copies, some-copies, product-small}
 use Rattle.validate.proofs.plans.plan_copies.Statement.{statement}
 use Rattle.validate.proofs.plans.plan_copies.Tie as tie
 use Rattle.validate.proofs.plans.plan_copies.Reads as reads

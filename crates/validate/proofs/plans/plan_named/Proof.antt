@@ -1,8 +1,8 @@
-use Rattle.validate.proofs.PlanLaws.{tested, any-coded, not-coded, view-content, content-span, named-plain, named-own, named-given, copies-plain, copies-any, copies-all}
+use mathlib.Core.Path.{sym, ap, subst, _∙_}
+use borrow.Author.Needs.{needs}
 use Rattle.validation.specs.AsFields.{fieldsFor}
 use Rattle.validate.specs.Plans.{scalarAfter, Planned}
-use mathlib.Core.Path.{_≡_, refl, sym, ap, subst, _∙_}
-use borrow.Author.Needs.{needs}
+use Rattle.validate.proofs.PlanLaws.{tested, any-coded, not-coded, view-content, content-span, named-plain, named-own, named-given, copies-plain, copies-any, copies-all}
 use Rattle.validate.proofs.plans.plan_named.Statement.{statement}
 use Rattle.validate.proofs.plans.plan_named.Tie as tie
 use Rattle.validate.proofs.plans.plan_named.Reads as reads

@@ -1,12 +1,11 @@
-use Rattle.validate.proofs.PlanLaws.{tested, within, view-of, as-plain, as-box-any, plan-any, plan-plain, plan-box-any, specTy, typeTy, pair-bounds, wholly, all-against, def-against}
-use Rattle.validate.proofs.ListLaws.{has}
+use Prim.Native.Nat.{_-_}
+use mathlib.Core.Path.{_∙_}
+use borrow.Author.Needs.{needs}
 use Rattle.known.specs.KnownLaws.{has-scalar}
 use Rattle.model.specs.Limits.{maxDepth}
-use Prim.Native.Nat.{_-_}
-use Rattle.validate.specs.Plans.{scalarAfter, Planned}
-use mathlib.Core.Path.{_≡_, refl, sym, ap, subst, _∙_}
-use native.Mathlib.Omega.{arith}
-use borrow.Author.Needs.{needs}
+use Rattle.validate.specs.Plans.{scalarAfter}
+use Rattle.validate.proofs.PlanLaws.{tested, within, view-of, as-plain, as-box-any, plan-any, plan-plain, plan-box-any, specTy, typeTy, pair-bounds, wholly, all-against, def-against}
+use Rattle.validate.proofs.ListLaws.{has}
 use Rattle.validate.proofs.plans.plan_scalar.Statement.{statement}
 use Rattle.validate.proofs.plans.plan_scalar.Tie as tie
 use Rattle.validate.proofs.plans.plan_scalar.Reads as reads

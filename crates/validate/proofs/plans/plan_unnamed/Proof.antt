@@ -1,7 +1,7 @@
-use Rattle.validate.proofs.PlanLaws.{tested, specTy, unnamed-plain, unnamed-any, unnamed-all, unnamed-pairs}
-use Rattle.validate.specs.Plans.{scalarAfter, Planned}
-use mathlib.Core.Path.{_≡_, refl, sym, ap, subst, _∙_}
+use mathlib.Core.Path.{sym, subst}
 use borrow.Author.Needs.{needs}
+use Rattle.validate.specs.Plans.{scalarAfter, Planned}
+use Rattle.validate.proofs.PlanLaws.{tested, specTy, unnamed-plain, unnamed-any, unnamed-all, unnamed-pairs}
 use Rattle.validate.proofs.plans.plan_unnamed.Statement.{statement}
 use Rattle.validate.proofs.plans.plan_unnamed.Tie as tie
 use Rattle.validate.proofs.plans.plan_unnamed.Reads as reads

@@ -1,9 +1,9 @@
+use mathlib.Core.Bool.{cond}
+use mathlib.Core.Path.{sym, ap, _∙_}
+use borrow.Author.Needs.{needs}
 use Rattle.model.specs.Types.{scalarOf}
 use Rattle.model.specs.Refusals.{tooMany}
 use Rattle.format.specs.Outcome.{accepted, refused}
-use mathlib.Core.Bool.{cond}
-use mathlib.Core.Path.{_≡_, refl, sym, ap, _∙_}
-use borrow.Author.Needs.{needs}
 use Rattle.validate.proofs.plans.take_if.Statement.{statement}
 use Rattle.validate.proofs.plans.take_if.Tie as tie
 use Rattle.validate.proofs.plans.take_if.Reads as reads

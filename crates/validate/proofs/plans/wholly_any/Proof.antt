@@ -1,5 +1,5 @@
-use Rattle.validate.proofs.PlanLaws.{not-any, any-by-code}
 use borrow.Author.Needs.{needs}
+use Rattle.validate.proofs.PlanLaws.{not-any, any-by-code}
 use Rattle.validate.proofs.plans.wholly_any.Statement.{statement}
 use Rattle.validate.proofs.plans.wholly_any.Tie as tie
 use Rattle.validate.proofs.plans.wholly_any.Reads as reads

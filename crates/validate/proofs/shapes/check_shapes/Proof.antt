@@ -1,9 +1,9 @@
 use mathlib.Core.Path.{ap, _∙_}
-use Rattle.validate.proofs.ShapesLaws.{clashed, merged}
-use Rattle.validate.specs.Answers.{sideOf}
+use borrow.Author.Needs.{needs}
 use Rattle.rules.specs.Shapes.{mergeFrom}
 use Rattle.record.specs.Answers.{shapeFor}
-use borrow.Author.Needs.{needs}
+use Rattle.validate.specs.Answers.{sideOf}
+use Rattle.validate.proofs.ShapesLaws.{clashed, merged}
 use Rattle.validate.proofs.shapes.check_shapes.Statement.{statement}
 use Rattle.validate.proofs.shapes.check_shapes.Tie as tie
 use Rattle.validate.proofs.shapes.check_shapes.Reads as reads

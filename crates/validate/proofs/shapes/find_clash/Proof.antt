@@ -1,8 +1,8 @@
 use mathlib.Core.Path.{_∙_}
-use Rattle.validate.proofs.ShapesLaws.{excused-spec, excused-type, not-excused}
-use Rattle.validate.specs.Answers.{sideOf}
-use Rattle.record.specs.Answers.{dimsOf, closingFor, shapeFor}
 use borrow.Author.Needs.{needs}
+use Rattle.record.specs.Answers.{dimsOf, closingFor, shapeFor}
+use Rattle.validate.specs.Answers.{sideOf}
+use Rattle.validate.proofs.ShapesLaws.{excused-spec, excused-type, not-excused}
 use Rattle.validate.proofs.shapes.find_clash.Statement.{statement}
 use Rattle.validate.proofs.shapes.find_clash.Tie as tie
 use Rattle.validate.proofs.shapes.find_clash.Reads as reads

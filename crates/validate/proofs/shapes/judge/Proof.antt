@@ -1,5 +1,3 @@
-use mathlib.Core.Path.{sym, ap, _∙_}
-use Rattle.validation.specs.CheckShape.{clash}
 use borrow.Author.Tests.{not-true, not-false}
 use Rattle.validate.proofs.shapes.judge.Statement.{statement}
 use Rattle.validate.proofs.shapes.judge.Tie as tie

@@ -1,8 +1,8 @@
 use mathlib.Core.Path.{sym, ap, _∙_}
-use Rattle.validation.specs.CheckShape as rules
-use Rattle.validate.specs.Answers.{sideOf}
-use Rattle.record.specs.Answers.{dimsOf, shapeFor}
 use borrow.Author.Needs.{needs}
+use Rattle.record.specs.Answers.{dimsOf, shapeFor}
+use Rattle.validate.specs.Answers.{sideOf}
+use Rattle.validation.specs.CheckShape as rules
 use Rattle.validate.proofs.shapes.mismatch.Statement.{statement}
 use Rattle.validate.proofs.shapes.mismatch.Tie as tie
 use Rattle.validate.proofs.shapes.mismatch.Reads as reads

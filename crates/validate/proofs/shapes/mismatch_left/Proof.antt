@@ -1,7 +1,7 @@
 use mathlib.Core.Path.{_∙_}
+use borrow.Author.Needs.{needs}
 use Rattle.record.specs.Answers.{dimsOf}
 use Rattle.validate.proofs.ShapesLaws.{left-closed, left-open}
-use borrow.Author.Needs.{needs}
 use Rattle.validate.proofs.shapes.mismatch_left.Statement.{statement}
 use Rattle.validate.proofs.shapes.mismatch_left.Tie as tie
 use Rattle.validate.proofs.shapes.mismatch_left.Reads as reads

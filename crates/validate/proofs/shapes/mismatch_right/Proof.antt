@@ -1,7 +1,7 @@
 use mathlib.Core.Path.{_∙_}
+use borrow.Author.Needs.{needs}
 use Rattle.record.specs.Answers.{dimsOf}
 use Rattle.validate.proofs.ShapesLaws.{right-closed, right-open}
-use borrow.Author.Needs.{needs}
 use Rattle.validate.proofs.shapes.mismatch_right.Statement.{statement}
 use Rattle.validate.proofs.shapes.mismatch_right.Tie as tie
 use Rattle.validate.proofs.shapes.mismatch_right.Reads as reads

@@ -1,7 +1,7 @@
 use mathlib.Core.Path.{_∙_}
+use borrow.Author.Needs.{needs}
 use Rattle.record.specs.Answers.{dimsOf}
 use Rattle.validate.proofs.ShapesLaws.{unsided-closed, unsided-open}
-use borrow.Author.Needs.{needs}
 use Rattle.validate.proofs.shapes.mismatch_unsided.Statement.{statement}
 use Rattle.validate.proofs.shapes.mismatch_unsided.Tie as tie
 use Rattle.validate.proofs.shapes.mismatch_unsided.Reads as reads

@@ -1,9 +1,9 @@
 use mathlib.Core.Path.{sym, ap, _∙_}
+use borrow.Author.Needs.{needs}
 use Rattle.record.specs.Answers.{shapeFor}
 use Rattle.validation.specs.CheckShape.{sidedShape}
 use Rattle.validate.specs.Answers.{sideOf}
 use Rattle.validate.proofs.ShapesLaws.{sided-not, sided-left, sided-right}
-use borrow.Author.Needs.{needs}
 use Rattle.validate.proofs.shapes.sided_shape.Statement.{statement}
 use Rattle.validate.proofs.shapes.sided_shape.Tie as tie
 use Rattle.validate.proofs.shapes.sided_shape.Reads as reads

@@ -14,7 +14,7 @@ use Rattle.format.specs.Reader.{Bytes}
 use Rattle.format.specs.Outcome.{accepted, refused}
 use Rattle.machine.specs.Steps.{Step, put, row, pervading, join, validating, SheetOf}
 use Rattle.machine.specs.Run.{Answer, gives, refuses}
-use Rattle.machine.specs.Call.{Tally, tally, Called, called, writeTypes, zeroed, atFront, sheetCall}
+use Rattle.machine.specs.Call.{Tally, Called, called, zeroed, leftWith, sheetCall}
 use Rattle.machine.specs.WellFormed.{WellFormed, typesLeft}
 use Rattle.machine.specs.Real.{RealShape, fits, Holds, realPervade, Feeds, realStep, Through}
 use Rattle.machine.specs.Conditions.{NamesNoClosing, FillsNothing, RowsNoOpenDef, JoinsAlike, Along, PutOrPervade, SamePuts}
@@ -45,7 +45,7 @@ pub record IsAccepted (c : Check) : Type 0 where
 -- at the front of the result, and the scratch is zero.
 pub record Leaves (c : Check) (ts : List Ty) : Type 0 where
   pub within : All Within ts
-  pub outcome : answerTo c ≡ called (accepted (tally (length ts) (length (writeTypes ts)))) (atFront (writeTypes ts) (c .result)) (zeroed (c .scratch))
+  pub outcome : answerTo c ≡ leftWith ts (c .result) (zeroed (c .scratch))
 
 -- "mismatch, refusal 8, is answered", at some place.
 pub record Mismatched (c : Check) : Type 0 where

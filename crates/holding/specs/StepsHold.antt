@@ -2,10 +2,10 @@
 -- fits the puts and gets through leaves types that hold the real shapes beside them.
 use Prim.Native.Nat.{ℕ}
 use native.Mathlib.Omega.{arith}
-use mathlib.Core.Bool.{Bool, true, false, cond}
+use mathlib.Core.Bool.{Bool, false, cond}
 use mathlib.Core.List.{List, [], _∷_}
 use mathlib.Core.Option.{Option, none, some}
-use mathlib.Core.Path.{_≡_, refl}
+use mathlib.Core.Path.{_≡_}
 use lib.ListN.{length}
 use lib.Dec.{ltb}
 use Rattle.model.specs.Refusals.{unpervaded}
@@ -20,12 +20,13 @@ use Rattle.validation.specs.ValidateLaws.{validate-shape}
 use Rattle.machine.specs.SheetLimits.{maxStack}
 use Rattle.machine.specs.Steps.{Step, put, row, pervading, join, validating, flagByte, Rule, ofNone, ofOne, ofTwo}
 use Rattle.machine.specs.Run.{Answer, gives, orRefuses, aside, Stack, onto, pervadeTypes, ruleOf, ruled, step, steps}
-use Rattle.machine.specs.Real.{RealShape, fits, Holds, realPervade, JoinSide, Feed, Feeds, realRow, keeps, ontoReal, realRule, realRuled, realStep, goesOn, realRun, FitsPut, FitsPuts}
+use Rattle.machine.specs.Real.{RealShape, fits, Holds, realPervade, JoinSide, Feed, Feeds, realRow, keeps, ontoReal, realRule, realRuled, realStep, realRun, FitsPut, FitsPuts}
 use Rattle.machine.specs.Conditions.{namesClosing, NamesNoClosing, FillsNothing, Alike, JoinsAlike, Along}
 use Rattle.holding.specs.Bare.{Bare}
 use Rattle.holding.specs.PervadeHolds.{pervade-holds}
 use Rattle.holding.specs.RulesHold.{row-holds, join-holds, merge-holds}
 use Rattle.machine.specs.RunLaws.{unfilled, following-gives, orRefuses-gives, aside-gives}
+use Rattle.machine.specs.RealLaws.{cond-some, ontoReal-some, goesOn-some}
 use Rattle.machine.specs.Ruled.{room-gives}
 
 -- ---- types beside real shapes
@@ -41,25 +42,10 @@ AllHold [] (r ∷ rs) = ⊥
 AllHold (t ∷ st) [] = ⊥
 AllHold (t ∷ st) (r ∷ rs) = HoldsBare t r × AllHold st rs
 
--- ---- what an accepted step says
-
 pub bare-of : (s : Shape) → namesClosing s ≡ false → Bare s
 bare-of (shape o none) h = tt
 bare-of (shape o (some [])) h = tt
 bare-of (shape o (some (d ∷ c))) h = let z : _≡_ {A = ℕ} 0 1 = cc in absurd (omega arith)
-
-cond-some : {A C : Type 0} (t : Bool) {a b : A} → cond t (some a) none ≡ some b → (t ≡ true → a ≡ b → C) → C
-cond-some true e k = k refl (cc)
-cond-some false e k = let z : _≡_ {A = ℕ} 0 1 = cc in absurd (omega arith)
-
-ontoReal-some : {C : Type 0} (rs : List RealShape) (o : Option RealShape) {out : List RealShape} → ontoReal rs o ≡ some out → ((r : RealShape) → o ≡ some r → r ∷ rs ≡ out → C) → C
-ontoReal-some rs none e k = let z : _≡_ {A = ℕ} 0 1 = cc in absurd (omega arith)
-ontoReal-some rs (some r) e k = k r refl (cc)
-
-goesOn-some : {C : Type 0} (o : Option (List RealShape)) {f : List RealShape → Option (List RealShape)} {out : List RealShape}
-    → goesOn o f ≡ some out → ((rs : List RealShape) → o ≡ some rs → f rs ≡ some out → C) → C
-goesOn-some none e k = let z : _≡_ {A = ℕ} 0 1 = cc in absurd (omega arith)
-goesOn-some (some rs) e k = k rs refl e
 
 -- ---- a rule beside the real one
 

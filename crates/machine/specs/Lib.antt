@@ -8,6 +8,7 @@ pub mod Real
 pub mod Conditions
 pub mod Examples
 pub mod RunLaws
+pub mod RealLaws
 pub mod Opcodes
 pub mod Ruled
 pub mod SheetSteps

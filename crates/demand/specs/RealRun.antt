@@ -15,12 +15,12 @@ use Rattle.machine.specs.SheetLimits.{maxStack}
 use Rattle.machine.specs.Steps.{Step, put, row, pervading, join, validating, opcodeOf, takes, heightPast, aType, Rule, ofNone, ofOne, ofTwo}
 use Rattle.machine.specs.Run.{gives, Stack, step, steps}
 use Rattle.machine.specs.WellFormed.{WellFormed, heightAfter, typesLeft, Heights}
-use Rattle.machine.specs.Real.{RealShape, fits, realPervade, Feed, Feeds, realRow, keeps, ontoReal, realRule, realRuled, realStep, goesOn, realRun}
+use Rattle.machine.specs.Real.{RealShape, fits, realPervade, Feed, Feeds, realRow, keeps, ontoReal, realRule, realRuleOn, realStep, goesOn, realRun}
 use Rattle.machine.specs.StepsTook.{skim-took}
 use Rattle.machine.specs.RunLaws.{following-gives}
 use Rattle.machine.specs.StepsReads.{step-room}
 use Rattle.machine.specs.SheetWorked.{step-height, step-takes}
-use Rattle.machine.specs.Ruled.{arity, real-takes, lays-one, realRuled-height}
+use Rattle.machine.specs.RuleOn.{arity, real-takes, lays-one, realRuleOn-height}
 use Rattle.machine.specs.Sheets.{left-within}
 use Rattle.demand.specs.Claims.{Check, MakesAccepted, TopsStop, TopUnfit, StopsBecause, RunStopsBecause}
 use Rattle.demand.specs.Calls.{leaves-run}
@@ -40,13 +40,13 @@ onto-stops : (rs : List RealShape) (o : Option RealShape) → ontoReal rs o ≡ 
 onto-stops rs none e = refl
 onto-stops rs (some r) e = let z : _≡_ {A = ℕ} 0 1 = cc in absurd (omega arith)
 
-ruled-stops : (a : Rule RealShape (Option RealShape)) (rs : List RealShape) → arity a ≤ length rs → realRuled a rs ≡ none → Stuck a rs
-ruled-stops (ofNone o) rs h e = onto-stops rs o e
-ruled-stops (ofOne f) [] h e = absurd (omega arith)
-ruled-stops (ofOne f) (r ∷ rs) h e = onto-stops rs (f r) e
-ruled-stops (ofTwo f) [] h e = absurd (omega arith)
-ruled-stops (ofTwo f) (r ∷ []) h e = absurd (omega arith)
-ruled-stops (ofTwo f) (r ∷ q ∷ rs) h e = onto-stops rs (f r q) e
+ruleOn-stops : (a : Rule RealShape (Option RealShape)) (rs : List RealShape) → arity a ≤ length rs → realRuleOn a rs ≡ none → Stuck a rs
+ruleOn-stops (ofNone o) rs h e = onto-stops rs o e
+ruleOn-stops (ofOne f) [] h e = absurd (omega arith)
+ruleOn-stops (ofOne f) (r ∷ rs) h e = onto-stops rs (f r) e
+ruleOn-stops (ofTwo f) [] h e = absurd (omega arith)
+ruleOn-stops (ofTwo f) (r ∷ []) h e = absurd (omega arith)
+ruleOn-stops (ofTwo f) (r ∷ q ∷ rs) h e = onto-stops rs (f r q) e
 
 -- A rule that makes something of everything is never stuck.
 never-one : (g : RealShape → RealShape) (rs : List RealShape) → Stuck (ofOne λ r. some (g r)) rs → ⊥
@@ -81,12 +81,12 @@ rule-stops (validating spec) u rs h = inr (stuck-unfit spec rs h)
 -- "Never lacks a shape": with at least as many real shapes as the step takes, it stops for one of the two reasons alone.
 pub step-stops : (x : Step) (u : Feed x) (rs : List RealShape) → takes (opcodeOf x) ≤ length rs → realStep x u rs ≡ none → StopsBecause x rs
 unfolding realStep
-step-stops x u rs h e = rule-stops x u rs (ruled-stops (realRule x u) rs (rw (real-takes x u) at h) e)
+step-stops x u rs h e = rule-stops x u rs (ruleOn-stops (realRule x u) rs (rw (real-takes x u) at h) e)
 
 -- A step that goes on leaves as many real shapes as it leaves types.
 pub step-many : (x : Step) (u : Feed x) (rs rs₁ : List RealShape) → realStep x u rs ≡ some rs₁ → length rs₁ ≡ heightPast (opcodeOf x) (length rs)
 unfolding realStep
-step-many x u rs rs₁ e = rw (real-takes x u, lays-one (opcodeOf x)) (realRuled-height (realRule x u) rs rs₁ e)
+step-many x u rs rs₁ e = rw (real-takes x u, lays-one (opcodeOf x)) (realRuleOn-height (realRule x u) rs rs₁ e)
 
 -- ---- all steps
 

@@ -19,15 +19,15 @@ use Rattle.validation.specs.Validate.{validate}
 use Rattle.validation.specs.ValidateLaws.{validate-shape}
 use Rattle.machine.specs.SheetLimits.{maxStack}
 use Rattle.machine.specs.Steps.{Step, put, row, pervading, join, validating, flagByte, Rule, ofNone, ofOne, ofTwo}
-use Rattle.machine.specs.Run.{Answer, gives, orRefuses, aside, Stack, onto, pervadeTypes, ruleOf, ruled, step, steps}
-use Rattle.machine.specs.Real.{RealShape, fits, Holds, realPervade, JoinSide, Feed, Feeds, realRow, keeps, ontoReal, realRule, realRuled, realStep, realRun, FitsPut, FitsPuts}
+use Rattle.machine.specs.Run.{Answer, gives, orRefuses, aside, Stack, onto, pervadeTypes, ruleOf, ruleOn, step, steps}
+use Rattle.machine.specs.Real.{RealShape, fits, Holds, realPervade, JoinSide, Feed, Feeds, realRow, keeps, ontoReal, realRule, realRuleOn, realStep, realRun, FitsPut, FitsPuts}
 use Rattle.machine.specs.Conditions.{namesClosing, NamesNoClosing, FillsNothing, Alike, JoinsAlike, Along}
 use Rattle.holding.specs.Bare.{Bare}
 use Rattle.holding.specs.PervadeHolds.{pervade-holds}
 use Rattle.holding.specs.RulesHold.{row-holds, join-holds, merge-holds}
 use Rattle.machine.specs.RunLaws.{unfilled, following-gives, orRefuses-gives, aside-gives}
 use Rattle.machine.specs.RealLaws.{cond-some, ontoReal-some, goesOn-some}
-use Rattle.machine.specs.Ruled.{room-gives}
+use Rattle.machine.specs.RuleOn.{room-gives}
 
 -- ---- types beside real shapes
 
@@ -74,23 +74,23 @@ onto-hold st a rs o {st₁} {rs₁} k h e y =
     rw (← w, ← v) (k x z e₁ y₁, h)
 
 module _ (Q : Stack → Type 0) where
-  ruled-hold : (a : Rule Ty (Answer Ty)) (b : Rule RealShape (Option RealShape)) (st st₁ : Stack) (rs rs₁ : List RealShape)
-      → Preserves Q a b → Q st → AllHold st rs → ruled a st ≡ gives st₁ → realRuled b rs ≡ some rs₁ → AllHold st₁ rs₁
-  ruled-hold (ofNone a) (ofNone o) st st₁ rs rs₁ k c h e y = room-gives (ltb (length st) maxStack) st a e λ e₁. onto-hold st a rs o k h e₁ y
-  ruled-hold (ofNone a) (ofOne g) st st₁ rs rs₁ k c h e y = absurd k
-  ruled-hold (ofNone a) (ofTwo g) st st₁ rs rs₁ k c h e y = absurd k
-  ruled-hold (ofOne f) (ofNone o) st st₁ rs rs₁ k c h e y = absurd k
-  ruled-hold (ofOne f) (ofOne g) [] st₁ rs rs₁ k c h e y = let z : _≡_ {A = ℕ} 0 1 = cc in absurd (omega arith)
-  ruled-hold (ofOne f) (ofOne g) (t ∷ st) st₁ [] rs₁ k c h e y = absurd h
-  ruled-hold (ofOne f) (ofOne g) (t ∷ st) st₁ (r ∷ rs) rs₁ k c h e y = onto-hold st (f t) rs (g r) (k t r (h .0)) (h .1) e y
-  ruled-hold (ofOne f) (ofTwo g) st st₁ rs rs₁ k c h e y = absurd k
-  ruled-hold (ofTwo f) (ofNone o) st st₁ rs rs₁ k c h e y = absurd k
-  ruled-hold (ofTwo f) (ofOne g) st st₁ rs rs₁ k c h e y = absurd k
-  ruled-hold (ofTwo f) (ofTwo g) [] st₁ rs rs₁ k c h e y = let z : _≡_ {A = ℕ} 0 1 = cc in absurd (omega arith)
-  ruled-hold (ofTwo f) (ofTwo g) (t ∷ []) st₁ rs rs₁ k c h e y = let z : _≡_ {A = ℕ} 0 1 = cc in absurd (omega arith)
-  ruled-hold (ofTwo f) (ofTwo g) (t ∷ u ∷ st) st₁ [] rs₁ k c h e y = absurd h
-  ruled-hold (ofTwo f) (ofTwo g) (t ∷ u ∷ st) st₁ (r ∷ []) rs₁ k c h e y = absurd (h .1)
-  ruled-hold (ofTwo f) (ofTwo g) (t ∷ u ∷ st) st₁ (r ∷ q ∷ rs) rs₁ k c h e y = onto-hold st (f t u) rs (g r q) (k t u st r q c (h .0) (h .1 .0)) (h .1 .1) e y
+  ruleOn-hold : (a : Rule Ty (Answer Ty)) (b : Rule RealShape (Option RealShape)) (st st₁ : Stack) (rs rs₁ : List RealShape)
+      → Preserves Q a b → Q st → AllHold st rs → ruleOn a st ≡ gives st₁ → realRuleOn b rs ≡ some rs₁ → AllHold st₁ rs₁
+  ruleOn-hold (ofNone a) (ofNone o) st st₁ rs rs₁ k c h e y = room-gives (ltb (length st) maxStack) st a e λ e₁. onto-hold st a rs o k h e₁ y
+  ruleOn-hold (ofNone a) (ofOne g) st st₁ rs rs₁ k c h e y = absurd k
+  ruleOn-hold (ofNone a) (ofTwo g) st st₁ rs rs₁ k c h e y = absurd k
+  ruleOn-hold (ofOne f) (ofNone o) st st₁ rs rs₁ k c h e y = absurd k
+  ruleOn-hold (ofOne f) (ofOne g) [] st₁ rs rs₁ k c h e y = let z : _≡_ {A = ℕ} 0 1 = cc in absurd (omega arith)
+  ruleOn-hold (ofOne f) (ofOne g) (t ∷ st) st₁ [] rs₁ k c h e y = absurd h
+  ruleOn-hold (ofOne f) (ofOne g) (t ∷ st) st₁ (r ∷ rs) rs₁ k c h e y = onto-hold st (f t) rs (g r) (k t r (h .0)) (h .1) e y
+  ruleOn-hold (ofOne f) (ofTwo g) st st₁ rs rs₁ k c h e y = absurd k
+  ruleOn-hold (ofTwo f) (ofNone o) st st₁ rs rs₁ k c h e y = absurd k
+  ruleOn-hold (ofTwo f) (ofOne g) st st₁ rs rs₁ k c h e y = absurd k
+  ruleOn-hold (ofTwo f) (ofTwo g) [] st₁ rs rs₁ k c h e y = let z : _≡_ {A = ℕ} 0 1 = cc in absurd (omega arith)
+  ruleOn-hold (ofTwo f) (ofTwo g) (t ∷ []) st₁ rs rs₁ k c h e y = let z : _≡_ {A = ℕ} 0 1 = cc in absurd (omega arith)
+  ruleOn-hold (ofTwo f) (ofTwo g) (t ∷ u ∷ st) st₁ [] rs₁ k c h e y = absurd h
+  ruleOn-hold (ofTwo f) (ofTwo g) (t ∷ u ∷ st) st₁ (r ∷ []) rs₁ k c h e y = absurd (h .1)
+  ruleOn-hold (ofTwo f) (ofTwo g) (t ∷ u ∷ st) st₁ (r ∷ q ∷ rs) rs₁ k c h e y = onto-hold st (f t u) rs (g r q) (k t u st r q c (h .0) (h .1 .0)) (h .1 .1) e y
 
 -- ---- the five rules
 
@@ -129,7 +129,7 @@ rule-holds (validating spec) f n u p = λ t r h. validate-made spec t r n h
 step-holds : (x : Step) (st st₁ : Stack) (f : Feed x) (rs rs₁ : List RealShape)
     → NamesNoClosing x → FillsNothing x → JoinsAlike x st → FitsPut x f → AllHold st rs → step x st ≡ gives st₁ → realStep x f rs ≡ some rs₁ → AllHold st₁ rs₁
 unfolding step realStep
-step-holds x st st₁ f rs rs₁ n u j p h e y = ruled-hold (JoinsAlike x) (ruleOf x) (realRule x f) st st₁ rs rs₁ (rule-holds x f n u p) j h e y
+step-holds x st st₁ f rs rs₁ n u j p h e y = ruleOn-hold (JoinsAlike x) (ruleOf x) (realRule x f) st st₁ rs rs₁ (rule-holds x f n u p) j h e y
 
 pub steps-hold : (xs : List Step) (st st₁ : Stack) (f : Feeds xs) (rs rs₁ : List RealShape)
     → All NamesNoClosing xs → All FillsNothing xs → Along JoinsAlike xs st → FitsPuts xs f → AllHold st rs → steps xs st ≡ gives st₁ → realRun xs f rs ≡ some rs₁ → AllHold st₁ rs₁

@@ -40,19 +40,19 @@ module _ (s result scratch : List ℕ) where
         → sheetCall s result scratch ≡ leftWith ts result (zeroed scratch) → Ways
 
   -- With enough scratch the call hands the run over.
-  pub call-runs : scratchBytes ≤ length scratch → sheetCall s result scratch ≡ handOver (length s) (sheetRun s) result (zeroed scratch)
+  pub call-hands-over : scratchBytes ≤ length scratch → sheetCall s result scratch ≡ handOver (length s) (sheetRun s) result (zeroed scratch)
   unfolding sheetCall
-  call-runs enough = rw (le-ltb (length scratch) scratchBytes enough)
+  call-hands-over enough = rw (le-ltb (length scratch) scratchBytes enough)
 
   -- How many types are left is what is answered, and their bytes are in front in the result.
   pub call-writes : scratchBytes ≤ length scratch → (ts : List Ty) → sheetRun s ≡ accepted ts → length (writeTypes ts) ≤ length result
       → sheetCall s result scratch ≡ called (accepted (tally (length ts) (length (writeTypes ts)))) (atFront (writeTypes ts) result) (zeroed scratch)
   unfolding handOver
-  call-writes enough ts run room = call-runs enough ∙ rw (run, le-leb (length (writeTypes ts)) (length result) room)
+  call-writes enough ts run room = call-hands-over enough ∙ rw (run, le-leb (length (writeTypes ts)) (length result) room)
 
   pub call-refuses : scratchBytes ≤ length scratch → (k p : ℕ) → sheetRun s ≡ refused k p → sheetCall s result scratch ≡ called (refused k p) result (zeroed scratch)
   unfolding handOver
-  call-refuses enough k p run = call-runs enough ∙ rw run
+  call-refuses enough k p run = call-hands-over enough ∙ rw run
 
   pub call-ways : Ways
   unfolding sheetCall handOver
@@ -60,7 +60,7 @@ module _ (s result scratch : List ℕ) where
     where
       left : scratchBytes ≤ length scratch → (ts : List Ty) → sheetRun s ≡ accepted ts → (b : Bool) → leb (length (writeTypes ts)) (length result) ≡ b → Ways
       left enough ts run true e = let room = leb-true (length (writeTypes ts)) (length result) e in typesWritten enough ts run room (call-writes enough ts run room)
-      left enough ts run false e = shortResult enough ts run (leb-false (length (writeTypes ts)) (length result) e) (call-runs enough ∙ rw (run, e))
+      left enough ts run false e = shortResult enough ts run (leb-false (length (writeTypes ts)) (length result) e) (call-hands-over enough ∙ rw (run, e))
 
       ran : scratchBytes ≤ length scratch → (o : Outcome (List Ty)) → sheetRun s ≡ o → Ways
       ran enough (refused k p) run = runRefused enough k p run (call-refuses enough k p run)

@@ -81,16 +81,16 @@ ruleOf (validating spec) = ofOne λ t. aside (validate unsided spec t)
 
 -- What it makes is laid on top. What the stack lacks or has no room for is refused here as in the reading of a sheet, where it comes
 -- before the step's bytes (`lacks`, `overfull` in StepsReads).
-abbrev pub ruled : Rule Ty (Answer Ty) → Stack → Answer Stack
-ruled (ofNone a) st = cond (ltb (length st) maxStack) (onto st a) (refuses overflow)
-ruled (ofOne f) [] = refuses underflow
-ruled (ofOne f) (t ∷ st) = onto st (f t)
-ruled (ofTwo f) [] = refuses underflow
-ruled (ofTwo f) (t ∷ []) = refuses underflow
-ruled (ofTwo f) (t ∷ u ∷ st) = onto st (f t u)
+abbrev pub ruleOn : Rule Ty (Answer Ty) → Stack → Answer Stack
+ruleOn (ofNone a) st = cond (ltb (length st) maxStack) (onto st a) (refuses overflow)
+ruleOn (ofOne f) [] = refuses underflow
+ruleOn (ofOne f) (t ∷ st) = onto st (f t)
+ruleOn (ofTwo f) [] = refuses underflow
+ruleOn (ofTwo f) (t ∷ []) = refuses underflow
+ruleOn (ofTwo f) (t ∷ u ∷ st) = onto st (f t u)
 
 unfoldable pub step : Step → Stack → Answer Stack
-step x st = ruled (ruleOf x) st
+step x st = ruleOn (ruleOf x) st
 
 -- One step of a run: its rule, and one step more is taken.
 abbrev pub work : Step → State Stack → Answer (State Stack)

@@ -13,19 +13,19 @@ use Rattle.machine.specs.Run.{Answer, gives, refuses, following, Stack, 
 use Rattle.machine.specs.Sheet.{placed, stepFrom, workFrom, sheetMore, skimMore}
 use Rattle.machine.specs.SheetSteps.{placed-got, toEnd-end, toEnd-more}
 use Rattle.machine.specs.RunLaws.{following-gives}
-use Rattle.machine.specs.Ruled.{rule-takes, lays-one, ruled-height}
+use Rattle.machine.specs.RuleOn.{rule-takes, lays-one, ruleOn-height}
 use Rattle.machine.specs.StepsTook.{ended-or, stepAndMore}
 
 -- ---- heights
 
 pub step-height : (x : Step) (st st₁ : Stack) → step x st ≡ gives st₁ → length st₁ ≡ heightPast (opcodeOf x) (length st)
 unfolding step
-step-height x st st₁ e = rw (rule-takes x, lays-one (opcodeOf x)) (ruled-height (ruleOf x) st st₁ e .1)
+step-height x st st₁ e = rw (rule-takes x, lays-one (opcodeOf x)) (ruleOn-height (ruleOf x) st st₁ e .1)
 
 -- A step that its rule works has all the types that it takes.
 pub step-takes : (x : Step) (st st₁ : Stack) → step x st ≡ gives st₁ → takes (opcodeOf x) ≤ length st
 unfolding step
-step-takes x st st₁ e = rw (rule-takes x) (ruled-height (ruleOf x) st st₁ e .0)
+step-takes x st st₁ e = rw (rule-takes x) (ruleOn-height (ruleOf x) st st₁ e .0)
 
 -- ---- the same answer
 

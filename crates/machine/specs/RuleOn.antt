@@ -14,8 +14,8 @@ use Rattle.model.specs.Types.{Ty}
 use Rattle.model.specs.Within.{All}
 use Rattle.machine.specs.SheetLimits.{maxStack}
 use Rattle.machine.specs.Steps.{Step, put, row, pervading, join, validating, Opcode, opcodeOf, takes, lays, Rule, ofNone, ofOne, ofTwo}
-use Rattle.machine.specs.Run.{Answer, gives, refuses, Stack, onto, ruleOf, ruled}
-use Rattle.machine.specs.Real.{RealShape, Feed, ontoReal, realRule, realRuled}
+use Rattle.machine.specs.Run.{Answer, gives, refuses, Stack, onto, ruleOf, ruleOn}
+use Rattle.machine.specs.Real.{RealShape, Feed, ontoReal, realRule, realRuleOn}
 use Rattle.machine.specs.RunLaws.{following-gives}
 use Rattle.machine.specs.Opcodes.{each-opcode}
 
@@ -54,26 +54,26 @@ pub room-gives : {C : Type 0} (b : Bool) (st : Stack) (a : Answer Ty) {st₁ : S
 room-gives true st a e k = k e
 room-gives false st a e k = let z : _≡_ {A = ℕ} 0 1 = cc in absurd (omega arith)
 
-pub ruled-height : (r : Rule Ty (Answer Ty)) (st st₁ : Stack) → ruled r st ≡ gives st₁ → (arity r ≤ length st) × (length st₁ ≡ length st - arity r + 1)
-ruled-height (ofNone a) st st₁ e = room-gives (ltb (length st) maxStack) st a e λ e₁. (omega arith, omega (arith, onto-height st a e₁))
-ruled-height (ofOne f) [] st₁ e = let z : _≡_ {A = ℕ} 0 1 = cc in absurd (omega arith)
-ruled-height (ofOne f) (t ∷ st) st₁ e = (omega arith, omega (arith, onto-height st (f t) e))
-ruled-height (ofTwo f) [] st₁ e = let z : _≡_ {A = ℕ} 0 1 = cc in absurd (omega arith)
-ruled-height (ofTwo f) (t ∷ []) st₁ e = let z : _≡_ {A = ℕ} 0 1 = cc in absurd (omega arith)
-ruled-height (ofTwo f) (t ∷ u ∷ st) st₁ e = (omega arith, omega (arith, onto-height st (f t u) e))
+pub ruleOn-height : (r : Rule Ty (Answer Ty)) (st st₁ : Stack) → ruleOn r st ≡ gives st₁ → (arity r ≤ length st) × (length st₁ ≡ length st - arity r + 1)
+ruleOn-height (ofNone a) st st₁ e = room-gives (ltb (length st) maxStack) st a e λ e₁. (omega arith, omega (arith, onto-height st a e₁))
+ruleOn-height (ofOne f) [] st₁ e = let z : _≡_ {A = ℕ} 0 1 = cc in absurd (omega arith)
+ruleOn-height (ofOne f) (t ∷ st) st₁ e = (omega arith, omega (arith, onto-height st (f t) e))
+ruleOn-height (ofTwo f) [] st₁ e = let z : _≡_ {A = ℕ} 0 1 = cc in absurd (omega arith)
+ruleOn-height (ofTwo f) (t ∷ []) st₁ e = let z : _≡_ {A = ℕ} 0 1 = cc in absurd (omega arith)
+ruleOn-height (ofTwo f) (t ∷ u ∷ st) st₁ e = (omega arith, omega (arith, onto-height st (f t u) e))
 
-pub ruled-lacks : (r : Rule Ty (Answer Ty)) (st : Stack) → length st < arity r → ruled r st ≡ refuses underflow
-ruled-lacks (ofNone a) st h = absurd (omega arith)
-ruled-lacks (ofOne f) [] h = refl
-ruled-lacks (ofOne f) (t ∷ st) h = absurd (omega arith)
-ruled-lacks (ofTwo f) [] h = refl
-ruled-lacks (ofTwo f) (t ∷ []) h = refl
-ruled-lacks (ofTwo f) (t ∷ u ∷ st) h = absurd (omega arith)
+pub ruleOn-lacks : (r : Rule Ty (Answer Ty)) (st : Stack) → length st < arity r → ruleOn r st ≡ refuses underflow
+ruleOn-lacks (ofNone a) st h = absurd (omega arith)
+ruleOn-lacks (ofOne f) [] h = refl
+ruleOn-lacks (ofOne f) (t ∷ st) h = absurd (omega arith)
+ruleOn-lacks (ofTwo f) [] h = refl
+ruleOn-lacks (ofTwo f) (t ∷ []) h = refl
+ruleOn-lacks (ofTwo f) (t ∷ u ∷ st) h = absurd (omega arith)
 
-pub ruled-full : (r : Rule Ty (Answer Ty)) (st : Stack) → length st ≤ maxStack → arity r ≤ length st → maxStack < length st - arity r + 1 → ruled r st ≡ refuses overflow
-ruled-full (ofNone a) st h k l = rw (le-ltb (length st) maxStack (omega arith))
-ruled-full (ofOne f) st h k l = absurd (omega arith)
-ruled-full (ofTwo f) st h k l = absurd (omega arith)
+pub ruleOn-full : (r : Rule Ty (Answer Ty)) (st : Stack) → length st ≤ maxStack → arity r ≤ length st → maxStack < length st - arity r + 1 → ruleOn r st ≡ refuses overflow
+ruleOn-full (ofNone a) st h k l = rw (le-ltb (length st) maxStack (omega arith))
+ruleOn-full (ofOne f) st h k l = absurd (omega arith)
+ruleOn-full (ofTwo f) st h k l = absurd (omega arith)
 
 -- What is so of the types that a rule takes is so of the one that it makes.
 abbrev pub Makes : (Ty → Type 0) → Rule Ty (Answer Ty) → Type 0
@@ -85,13 +85,13 @@ module _ (P : Ty → Type 0) where
   onto-makes : (st : Stack) (a : Answer Ty) {st₁ : Stack} → All P st → ((x : Ty) → a ≡ gives x → P x) → onto st a ≡ gives st₁ → All P st₁
   onto-makes st a {st₁} h k e = following-gives a e λ t e₁ e₂. let w : t ∷ st ≡ st₁ = cc in rw (← w) (k t e₁, h)
 
-  pub ruled-makes : (r : Rule Ty (Answer Ty)) (st st₁ : Stack) → Makes P r → All P st → ruled r st ≡ gives st₁ → All P st₁
-  ruled-makes (ofNone a) st st₁ m h e = room-gives (ltb (length st) maxStack) st a e λ e₁. onto-makes st a h m e₁
-  ruled-makes (ofOne f) [] st₁ m h e = let z : _≡_ {A = ℕ} 0 1 = cc in absurd (omega arith)
-  ruled-makes (ofOne f) (t ∷ st) st₁ m h e = onto-makes st (f t) (h .1) (λ x k. m t x (h .0) k) e
-  ruled-makes (ofTwo f) [] st₁ m h e = let z : _≡_ {A = ℕ} 0 1 = cc in absurd (omega arith)
-  ruled-makes (ofTwo f) (t ∷ []) st₁ m h e = let z : _≡_ {A = ℕ} 0 1 = cc in absurd (omega arith)
-  ruled-makes (ofTwo f) (t ∷ u ∷ st) st₁ m h e = onto-makes st (f t u) (h .1 .1) (λ x k. m t u x (h .0) (h .1 .0) k) e
+  pub ruleOn-makes : (r : Rule Ty (Answer Ty)) (st st₁ : Stack) → Makes P r → All P st → ruleOn r st ≡ gives st₁ → All P st₁
+  ruleOn-makes (ofNone a) st st₁ m h e = room-gives (ltb (length st) maxStack) st a e λ e₁. onto-makes st a h m e₁
+  ruleOn-makes (ofOne f) [] st₁ m h e = let z : _≡_ {A = ℕ} 0 1 = cc in absurd (omega arith)
+  ruleOn-makes (ofOne f) (t ∷ st) st₁ m h e = onto-makes st (f t) (h .1) (λ x k. m t x (h .0) k) e
+  ruleOn-makes (ofTwo f) [] st₁ m h e = let z : _≡_ {A = ℕ} 0 1 = cc in absurd (omega arith)
+  ruleOn-makes (ofTwo f) (t ∷ []) st₁ m h e = let z : _≡_ {A = ℕ} 0 1 = cc in absurd (omega arith)
+  ruleOn-makes (ofTwo f) (t ∷ u ∷ st) st₁ m h e = onto-makes st (f t u) (h .1 .1) (λ x k. m t u x (h .0) (h .1 .0) k) e
 
 -- ---- real shapes
 
@@ -99,10 +99,10 @@ onto-many : (rs : List RealShape) (o : Option RealShape) (rs₁ : List RealShape
 onto-many rs none rs₁ e = let z : _≡_ {A = ℕ} 0 1 = cc in absurd (omega arith)
 onto-many rs (some r) rs₁ e = let w : r ∷ rs ≡ rs₁ = cc in rw (← w)
 
-pub realRuled-height : (r : Rule RealShape (Option RealShape)) (rs rs₁ : List RealShape) → realRuled r rs ≡ some rs₁ → length rs₁ ≡ length rs - arity r + 1
-realRuled-height (ofNone o) rs rs₁ e = omega (arith, onto-many rs o rs₁ e)
-realRuled-height (ofOne f) [] rs₁ e = let z : _≡_ {A = ℕ} 0 1 = cc in absurd (omega arith)
-realRuled-height (ofOne f) (r ∷ rs) rs₁ e = omega (arith, onto-many rs (f r) rs₁ e)
-realRuled-height (ofTwo f) [] rs₁ e = let z : _≡_ {A = ℕ} 0 1 = cc in absurd (omega arith)
-realRuled-height (ofTwo f) (r ∷ []) rs₁ e = let z : _≡_ {A = ℕ} 0 1 = cc in absurd (omega arith)
-realRuled-height (ofTwo f) (r ∷ q ∷ rs) rs₁ e = omega (arith, onto-many rs (f r q) rs₁ e)
+pub realRuleOn-height : (r : Rule RealShape (Option RealShape)) (rs rs₁ : List RealShape) → realRuleOn r rs ≡ some rs₁ → length rs₁ ≡ length rs - arity r + 1
+realRuleOn-height (ofNone o) rs rs₁ e = omega (arith, onto-many rs o rs₁ e)
+realRuleOn-height (ofOne f) [] rs₁ e = let z : _≡_ {A = ℕ} 0 1 = cc in absurd (omega arith)
+realRuleOn-height (ofOne f) (r ∷ rs) rs₁ e = omega (arith, onto-many rs (f r) rs₁ e)
+realRuleOn-height (ofTwo f) [] rs₁ e = let z : _≡_ {A = ℕ} 0 1 = cc in absurd (omega arith)
+realRuleOn-height (ofTwo f) (r ∷ []) rs₁ e = let z : _≡_ {A = ℕ} 0 1 = cc in absurd (omega arith)
+realRuleOn-height (ofTwo f) (r ∷ q ∷ rs) rs₁ e = omega (arith, onto-many rs (f r q) rs₁ e)

@@ -13,7 +13,7 @@ use Rattle.model.specs.Within.{All, Within}
 use Rattle.format.specs.Reader.{Bytes}
 use Rattle.format.specs.Outcome.{accepted, refused}
 use Rattle.machine.specs.Steps.{Step, aPervading, aValidating, isA, Argument, noArgument, aType, flags, argumentOf, SheetOf}
-use Rattle.machine.specs.Run.{Answer, gives, refuses}
+use Rattle.machine.specs.Run.{Ruling, gives, refuses}
 use Rattle.machine.specs.Call.{Tally, Called, called, zeroed, leftWith, sheetCall}
 use Rattle.machine.specs.WellFormed.{WellFormed, typesLeft}
 use Rattle.machine.specs.Real.{RealShape, fits, Holds, realPervade, Feeds, realStep, Through}
@@ -53,7 +53,7 @@ pub record Mismatched (c : Check) : Type 0 where
   pub outcome : answerTo c ≡ called (refused unpervaded place) (c .result) (zeroed (c .scratch))
 
 -- The term verdict: accepted, or the number of a refusal, the place aside. Under the conditions below that number is 8, mismatch.
-abbrev pub verdictOf : Called → Answer (Unit {0})
+abbrev pub verdictOf : Called → Ruling (Unit {0})
 verdictOf (called (accepted n) result scratch) = gives tt
 verdictOf (called (refused k p) result scratch) = refuses k
 

@@ -19,7 +19,7 @@ use Rattle.validation.specs.Validate.{validate}
 use Rattle.validation.specs.ValidateLaws.{validate-shape}
 use Rattle.machine.specs.SheetLimits.{maxStack}
 use Rattle.machine.specs.Steps.{Step, put, row, pervading, join, validating, flagByte, Rule, ofNone, ofOne, ofTwo}
-use Rattle.machine.specs.Run.{Answer, gives, orRefuses, aside, Stack, onto, pervadeTypes, ruleOf, ruleOn, step, steps}
+use Rattle.machine.specs.Run.{Ruling, gives, orRefuses, aside, Stack, onto, pervadeTypes, ruleOf, ruleOn, step, steps}
 use Rattle.machine.specs.Real.{RealShape, fits, Holds, realPervade, JoinSide, Feed, Feeds, realRow, keeps, ontoReal, realRule, realRuleOn, realStep, realRun, FitsPut, FitsPuts}
 use Rattle.machine.specs.Conditions.{namesClosing, NamesNoClosing, FillsNothing, Alike, JoinsAlike, Along}
 use Rattle.holding.specs.Bare.{Bare}
@@ -50,11 +50,11 @@ bare-of (shape o (some (d ∷ c))) h = let z : _≡_ {A = ℕ} 0 1 = cc in absur
 -- ---- a rule beside the real one
 
 -- What is made holds what is really made.
-abbrev Made : Answer Ty → Option RealShape → Type 0
+abbrev Made : Ruling Ty → Option RealShape → Type 0
 Made a o = (x : Ty) (z : RealShape) → a ≡ gives x → o ≡ some z → HoldsBare x z
 
 -- Where the types taken hold the real shapes taken, what is made holds what is really made. Q is what is asked of the stack.
-abbrev Preserves : (Stack → Type 0) → Rule Ty (Answer Ty) → Rule RealShape (Option RealShape) → Type 0
+abbrev Preserves : (Stack → Type 0) → Rule Ty (Ruling Ty) → Rule RealShape (Option RealShape) → Type 0
 Preserves Q (ofNone a) (ofNone o) = Made a o
 Preserves Q (ofNone a) (ofOne g) = ⊥
 Preserves Q (ofNone a) (ofTwo g) = ⊥
@@ -65,7 +65,7 @@ Preserves Q (ofTwo f) (ofNone o) = ⊥
 Preserves Q (ofTwo f) (ofOne g) = ⊥
 Preserves Q (ofTwo f) (ofTwo g) = (t u : Ty) (st : Stack) (r q : RealShape) → Q (t ∷ u ∷ st) → HoldsBare t r → HoldsBare u q → Made (f t u) (g r q)
 
-onto-hold : (st : Stack) (a : Answer Ty) (rs : List RealShape) (o : Option RealShape) {st₁ : Stack} {rs₁ : List RealShape}
+onto-hold : (st : Stack) (a : Ruling Ty) (rs : List RealShape) (o : Option RealShape) {st₁ : Stack} {rs₁ : List RealShape}
     → Made a o → AllHold st rs → onto st a ≡ gives st₁ → ontoReal rs o ≡ some rs₁ → AllHold st₁ rs₁
 onto-hold st a rs o {st₁} {rs₁} k h e y =
     following-gives a e λ x e₁ e₂.
@@ -74,7 +74,7 @@ onto-hold st a rs o {st₁} {rs₁} k h e y =
     rw (← w, ← v) (k x z e₁ y₁, h)
 
 module _ (Q : Stack → Type 0) where
-  ruleOn-hold : (a : Rule Ty (Answer Ty)) (b : Rule RealShape (Option RealShape)) (st st₁ : Stack) (rs rs₁ : List RealShape)
+  ruleOn-hold : (a : Rule Ty (Ruling Ty)) (b : Rule RealShape (Option RealShape)) (st st₁ : Stack) (rs rs₁ : List RealShape)
       → Preserves Q a b → Q st → AllHold st rs → ruleOn a st ≡ gives st₁ → realRuleOn b rs ≡ some rs₁ → AllHold st₁ rs₁
   ruleOn-hold (ofNone a) (ofNone o) st st₁ rs rs₁ k c h e y = room-gives (ltb (length st) maxStack) st a e λ e₁. onto-hold st a rs o k h e₁ y
   ruleOn-hold (ofNone a) (ofOne g) st st₁ rs rs₁ k c h e y = absurd k

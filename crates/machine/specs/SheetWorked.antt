@@ -9,7 +9,7 @@ use Rattle.model.specs.Refusals.{overflow}
 use Rattle.format.specs.Reader.{Read, got, stopped, Reader, andThen, _>>=_, stop, here}
 use Rattle.format.specs.ReaderLaws.{split}
 use Rattle.machine.specs.Steps.{Step, opcodeOf, takes, heightPast}
-use Rattle.machine.specs.Run.{Answer, gives, refuses, following, Stack, ruleOf, State, afterStep, onStack, step, work, steps}
+use Rattle.machine.specs.Run.{Ruling, gives, refuses, following, Stack, ruleOf, State, afterStep, onStack, step, work, steps}
 use Rattle.machine.specs.Sheet.{placed, stepFrom, workFrom, sheetMore, skimMore}
 use Rattle.machine.specs.SheetSteps.{placed-got, toEnd-end, toEnd-more}
 use Rattle.machine.specs.RunLaws.{following-gives}
@@ -30,12 +30,12 @@ step-takes x st st₁ e = rw (rule-takes x) (ruleOn-height (ruleOf x) st st₁ e
 -- ---- the same answer
 
 -- The same answer, the place aside.
-abbrev pub SameAnswer : Answer Stack → Read (State Stack) → Type 0
+abbrev pub SameAnswer : Ruling Stack → Read (State Stack) → Type 0
 SameAnswer (gives a) r = (st : State Stack) × (n : ℕ) × (r ≡ got st n) × (st .stack ≡ a)
 SameAnswer (refuses k) r = (p : ℕ) × (r ≡ stopped k p)
 
 -- the rest of a sheet, after a step's rule has answered
-pub same-after : (s : List ℕ) (n : ℕ) (xs : List Step) (st : State Stack) (a : Answer Stack) (p at : ℕ)
+pub same-after : (s : List ℕ) (n : ℕ) (xs : List Step) (st : State Stack) (a : Ruling Stack) (p at : ℕ)
     → ((b : Stack) → a ≡ gives b → SameAnswer (steps xs b) (sheetMore s n (afterStep st b) at))
     → SameAnswer (following a (λ b. steps xs b)) (andThen (placed (following a (λ b. gives (afterStep st b))) p at) (λ st₁. sheetMore s n st₁))
 same-after s n xs st (gives b) p at k = k b refl

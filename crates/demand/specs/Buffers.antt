@@ -89,7 +89,7 @@ module _ (s result scratch : List ℕ) {o : Outcome Tally} {out after : List ℕ
       go (shortResult l ts r m w) = let h = sym w ∙ e in stays (cc) (refused-not tooShort (length s) (cc))
       go (typesWritten l ts r room w) = let h = sym w ∙ e in fills (writeTypes ts) room (cc) (accepted-of ts (cc))
 
-  -- Of each byte of a scratch that is long enough: zero below 39,936, as lent from there on.
+  -- Of each byte of a scratch that is long enough: zero as far as it is asked for, as lent from there on.
   pub scratch-zero : scratchBytes ≤ length scratch → (i z : ℕ) → i < scratchBytes → getD after i z ≡ 0
   scratch-zero enough i z h = scratched (λ short same. absurd (omega arith)) (λ _ same. rw (← same) (zeroed-front scratch i z h))
 

@@ -3,19 +3,17 @@
 -- stays as lent. Result bytes past the written length stay." Both are as long as before.
 use Prim.Native.Nat.{ℕ, _≤_, _<_}
 use native.Mathlib.Omega.{arith}
-use mathlib.Core.Bool.{Bool, true, false, cond}
 use mathlib.Core.List.{List, _++_}
-use mathlib.Core.Path.{_≡_, refl, sym, _∙_}
+use mathlib.Core.Path.{_≡_, sym, _∙_}
 use lib.ListN.{length, getD, drop, replicate, length-replicate, getD-replicate, List·getD-append}
 use lib.Seq.{drop-at}
-use lib.Dec.{leb, ltb}
-use borrow.Author.Tests.{leb-true, ltb-true, ltb-false}
+use Rattle.model.specs.Refusals.{tooShort}
 use Rattle.model.specs.Types.{Ty}
 use Rattle.format.specs.Outcome.{Outcome, accepted, refused}
 use Rattle.format.specs.DeliverLaws.{front-stays, front-length}
 use Rattle.machine.specs.SheetLimits.{scratchBytes}
-use Rattle.machine.specs.Sheet.{sheetRun}
-use Rattle.machine.specs.Call.{Tally, tally, called, writeTypes, zeroed, atFront, handOver, sheetCall}
+use Rattle.machine.specs.CallLaws.{Ways, shortScratch, runRefused, shortResult, typesWritten, call-ways}
+use Rattle.machine.specs.Call.{Tally, tally, called, writeTypes, zeroed, atFront, sheetCall}
 
 -- ---- a scratch that was zeroed
 
@@ -56,11 +54,6 @@ module _ (d : List ℕ) where
 
 -- ---- the call
 
--- one of two, by a test
-either : {A C : Type 0} (t : Bool) {x y z : A} → cond t x y ≡ z → (t ≡ true → x ≡ z → C) → (t ≡ false → y ≡ z → C) → C
-either true e f g = f refl e
-either false e f g = g refl e
-
 -- an answer that is no acceptance; and one whose bytes are w, if it is one, and which is no refusal
 abbrev NotAccepted : Outcome Tally → Type 0
 NotAccepted o = (n b : ℕ) → o ≡ accepted (tally n b) → ⊥
@@ -69,36 +62,34 @@ record AcceptedOf (o : Outcome Tally) (w : List ℕ) : Type 0 where
   counts : (n b : ℕ) → o ≡ accepted (tally n b) → length w ≡ b
   accepts : (k p : ℕ) → o ≡ refused k p → ⊥
 
--- By continuation: the result is as lent, or bytes stand at its front, which has room for them. The other buffer is handed through.
-handed : {C : Type 0} (size : ℕ) (r : Outcome (List Ty)) (result scratch : List ℕ) {o : Outcome Tally} {out after : List ℕ} → handOver size r result scratch ≡ called o out after
-    → (result ≡ out → scratch ≡ after → NotAccepted o → C)
-    → ((w : List ℕ) → length w ≤ length result → atFront w result ≡ out → scratch ≡ after → AcceptedOf o w → C)
-    → C
-unfolding handOver
-handed size (refused k p) result scratch e stays fills = stays (cc) (cc) (λ n b f. let z : _≡_ {A = ℕ} 0 1 = cc in absurd (omega arith))
-handed size (accepted ts) result scratch e stays fills =
-    either (leb (length (writeTypes ts)) (length result)) e
-    (λ t f. fills (writeTypes ts) (leb-true (length (writeTypes ts)) (length result) t) (cc) (cc) record { counts = λ n b g. cc; accepts = λ k p g. let z : _≡_ {A = ℕ} 0 1 = cc in absurd (omega arith) })
-    (λ t f. stays (cc) (cc) (λ n b g. let z : _≡_ {A = ℕ} 0 1 = cc in absurd (omega arith)))
+refused-not : {o : Outcome Tally} (k p : ℕ) → refused k p ≡ o → NotAccepted o
+refused-not k p w n b f = let z : _≡_ {A = ℕ} 0 1 = cc in absurd (omega arith)
+
+accepted-of : {o : Outcome Tally} (ts : List Ty) → accepted (tally (length ts) (length (writeTypes ts))) ≡ o → AcceptedOf o (writeTypes ts)
+accepted-of ts w = record { counts = λ n b g. cc; accepts = λ k p g. let z : _≡_ {A = ℕ} 0 1 = cc in absurd (omega arith) }
 
 module _ (s result scratch : List ℕ) {o : Outcome Tally} {out after : List ℕ} (e : sheetCall s result scratch ≡ called o out after) where
   -- The scratch is short and stays, or is zeroed.
   scratched : {C : Type 0} → (length scratch < scratchBytes → scratch ≡ after → C) → (scratchBytes ≤ length scratch → zeroed scratch ≡ after → C) → C
-  unfolding sheetCall
-  scratched short long =
-      either (ltb (length scratch) scratchBytes) e
-      (λ t f. short (ltb-true (length scratch) scratchBytes t) (cc))
-      (λ t f. handed (length s) (sheetRun s) result (zeroed scratch) f (λ r z u. long (ltb-false (length scratch) scratchBytes t) z) (λ w room l z u. long (ltb-false (length scratch) scratchBytes t) z))
+  scratched {C} short long = go (call-ways s result scratch)
+    where
+      go : Ways s result scratch → C
+      go (shortScratch l w) = let h = sym w ∙ e in short l (cc)
+      go (runRefused l k p r w) = let h = sym w ∙ e in long l (cc)
+      go (shortResult l ts r m w) = let h = sym w ∙ e in long l (cc)
+      go (typesWritten l ts r room w) = let h = sym w ∙ e in long l (cc)
 
-  -- The result stays, or bytes stand at its front.
+  -- The result stays, or bytes stand at its front, which has room for them.
   resulted : {C : Type 0} → (result ≡ out → NotAccepted o → C) → ((w : List ℕ) → length w ≤ length result → atFront w result ≡ out → AcceptedOf o w → C) → C
-  unfolding sheetCall
-  resulted stays fills =
-      either (ltb (length scratch) scratchBytes) e
-      (λ t f. stays (cc) (λ n b g. let z : _≡_ {A = ℕ} 0 1 = cc in absurd (omega arith)))
-      (λ t f. handed (length s) (sheetRun s) result (zeroed scratch) f (λ r z u. stays r u) (λ w room l z u. fills w room l u))
+  resulted {C} stays fills = go (call-ways s result scratch)
+    where
+      go : Ways s result scratch → C
+      go (shortScratch l w) = let h = sym w ∙ e in stays (cc) (refused-not tooShort 0 (cc))
+      go (runRefused l k p r w) = let h = sym w ∙ e in stays (cc) (refused-not k p (cc))
+      go (shortResult l ts r m w) = let h = sym w ∙ e in stays (cc) (refused-not tooShort (length s) (cc))
+      go (typesWritten l ts r room w) = let h = sym w ∙ e in fills (writeTypes ts) room (cc) (accepted-of ts (cc))
 
-  -- Of each byte of a scratch that is long enough: zero below 39,936, as lent from there on.
+  -- Of each byte of a scratch that is long enough: zero as far as it is asked for, as lent from there on.
   pub scratch-zero : scratchBytes ≤ length scratch → (i z : ℕ) → i < scratchBytes → getD after i z ≡ 0
   scratch-zero enough i z h = scratched (λ short same. absurd (omega arith)) (λ _ same. rw (← same) (zeroed-front scratch i z h))
 

@@ -1,14 +1,11 @@
 -- What an accepted call says of its run, and the call's answer from the run of a list of steps.
 use Prim.Native.Nat.{ℕ, _≤_}
 use native.Mathlib.Omega.{arith}
-use mathlib.Core.Bool.{Bool, true, false, cond}
 use mathlib.Core.List.{List, [], _∷_}
-use mathlib.Core.Path.{_≡_, refl, sym, _∙_, ap}
+use mathlib.Core.Path.{_≡_, sym, _∙_, ap}
 use lib.ListN.{length, take, drop}
 use lib.Seq.{take-at, take-append-seam}
-use lib.Dec.{leb, ltb}
-use borrow.Author.Tests.{le-ltb}
-use Rattle.model.specs.Refusals.{tooShort, unpervaded}
+use Rattle.model.specs.Refusals.{unpervaded}
 use Rattle.model.specs.Types.{Ty}
 use Rattle.model.specs.Within.{All, Within}
 use Rattle.format.specs.Outcome.{Outcome, accepted, refused}
@@ -16,18 +13,13 @@ use Rattle.machine.specs.SheetLimits.{scratchBytes, resultBytes}
 use Rattle.machine.specs.Steps.{Step, SheetOf}
 use Rattle.machine.specs.Run.{gives, refuses, aside, steps, bottomFirst}
 use Rattle.machine.specs.Sheet.{sheetRun}
-use Rattle.machine.specs.Call.{Tally, tally, Called, called, writeTypes, zeroed, atFront, handOver, sheetCall}
+use Rattle.machine.specs.Call.{tally, called, writeTypes, zeroed, atFront}
 use Rattle.demand.specs.Claims.{Check, answerTo, IsAccepted, Leaves, Mismatched, MakesAccepted}
-use Rattle.machine.specs.CallLaws.{handOver-left}
+use Rattle.machine.specs.CallLaws.{Ways, shortScratch, runRefused, shortResult, typesWritten, call-writes, call-refuses, call-ways}
 use Rattle.machine.specs.StepsWithin.{writeTypes-suffices, writeTypes-same}
 use Rattle.machine.specs.Sheets.{sheet-steps, left-within}
 
 -- ---- an accepted call
-
--- With enough scratch the call hands the run over.
-pub call-run : (c : Check) → scratchBytes ≤ length (c .scratch) → answerTo c ≡ handOver (length (c .sheet)) (sheetRun (c .sheet)) (c .result) (zeroed (c .scratch))
-unfolding sheetCall
-call-run c h = rw (le-ltb (length (c .scratch)) scratchBytes h)
 
 -- What an accepted call says.
 pub record AcceptedBy (c : Check) (a : IsAccepted c) (ts : List Ty) : Type 0 where
@@ -36,34 +28,17 @@ pub record AcceptedBy (c : Check) (a : IsAccepted c) (ts : List Ty) : Type 0 whe
   pub in-front : atFront (writeTypes ts) (c .result) ≡ a .result-after
   pub zero-after : zeroed (c .scratch) ≡ a .scratch-after
 
--- what is handed over with the types ts left, the scratch as given
-abbrev handedOver : List Ty → List ℕ → List ℕ → Called
-handedOver ts result scratch = called (accepted (tally (length ts) (length (writeTypes ts)))) (atFront (writeTypes ts) result) scratch
-
-handed-accepted : {C : Type 0} (size : ℕ) (o : Outcome (List Ty)) (result scratch : List ℕ) {n : Tally} {out after : List ℕ}
-    → handOver size o result scratch ≡ called (accepted n) out after
-    → ((ts : List Ty) → o ≡ accepted ts → handedOver ts result scratch ≡ called (accepted n) out after → C)
-    → C
-unfolding handOver
-handed-accepted size (refused k p) result scratch e f = let z : _≡_ {A = ℕ} 0 1 = cc in absurd (omega arith)
-handed-accepted {C} size (accepted ts) result scratch {n} {out} {after} e f = go (leb (length (writeTypes ts)) (length result)) e
-  where
-    go : (b : Bool) → cond b (handedOver ts result scratch) (called (refused tooShort size) result scratch) ≡ called (accepted n) out after → C
-    go true e = f ts refl e
-    go false e = let z : _≡_ {A = ℕ} 0 1 = cc in absurd (omega arith)
-
 pub call-accepted : (c : Check) (a : IsAccepted c) → (ts : List Ty) × AcceptedBy c a ts
-unfolding sheetCall
-call-accepted c a = go (ltb (length (c .scratch)) scratchBytes) (a .outcome)
+call-accepted c a = go (call-ways (c .sheet) (c .result) (c .scratch))
   where
-    go : (b : Bool)
-        → cond b (called (refused tooShort 0) (c .result) (c .scratch)) (handOver (length (c .sheet)) (sheetRun (c .sheet)) (c .result) (zeroed (c .scratch)))
-        ≡ called (accepted (a .left)) (a .result-after) (a .scratch-after)
-        → (ts : List Ty) × AcceptedBy c a ts
-    go true e = let z : _≡_ {A = ℕ} 0 1 = cc in absurd (omega arith)
-    go false e =
-        handed-accepted (length (c .sheet)) (sheetRun (c .sheet)) (c .result) (zeroed (c .scratch)) e λ ts r h.
-        (ts, record { run = r; tallied = cc; in-front = cc; zero-after = cc })
+    e : answerTo c ≡ called (accepted (a .left)) (a .result-after) (a .scratch-after)
+    e = a .outcome
+
+    go : Ways (c .sheet) (c .result) (c .scratch) → (ts : List Ty) × AcceptedBy c a ts
+    go (shortScratch l w) = let h = e in let z : _≡_ {A = ℕ} 0 1 = cc in absurd (omega arith)
+    go (runRefused l k p r w) = let h = e in let z : _≡_ {A = ℕ} 0 1 = cc in absurd (omega arith)
+    go (shortResult l ts r m w) = let h = e in let z : _≡_ {A = ℕ} 0 1 = cc in absurd (omega arith)
+    go (typesWritten l ts r room w) = let h = sym w ∙ e in (ts, record { run = r; tallied = cc; in-front = cc; zero-after = cc })
 
 -- Types that stand at the front of a buffer are told by their number and the number of their bytes.
 front-told : (ts us : List Ty) (buffer : List ℕ) → All Within ts → All Within us
@@ -100,11 +75,10 @@ aside-refused (refused j p) k e f = let w : j ≡ k = cc in f p (rw w)
 
 module _ (c : Check) (enough : scratchBytes ≤ length (c .scratch)) where
   pub run-leaves : (ts : List Ty) → sheetRun (c .sheet) ≡ accepted ts → All Within ts → length (writeTypes ts) ≤ length (c .result) → Leaves c ts
-  run-leaves ts e within room = record { within = within; outcome = call-run c enough ∙ rw e (handOver-left (length (c .sheet)) ts (c .result) (zeroed (c .scratch)) room) }
+  run-leaves ts e within room = record { within = within; outcome = call-writes (c .sheet) (c .result) (c .scratch) enough ts e room }
 
   pub run-mismatched : (p : ℕ) → sheetRun (c .sheet) ≡ refused unpervaded p → Mismatched c
-  unfolding handOver
-  run-mismatched p e = record { place = p; outcome = call-run c enough ∙ rw e }
+  run-mismatched p e = record { place = p; outcome = call-refuses (c .sheet) (c .result) (c .scratch) enough unpervaded p e }
 
   module _ (xs : List Step) (sheet : SheetOf (c .sheet) xs) where
     pub call-leaves : resultBytes ≤ length (c .result) → (t : Ty) → steps xs [] ≡ gives (t ∷ []) → Leaves c (t ∷ [])

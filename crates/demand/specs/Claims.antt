@@ -12,12 +12,12 @@ use Rattle.model.specs.Types.{Ty, shapeOf}
 use Rattle.model.specs.Within.{All, Within}
 use Rattle.format.specs.Reader.{Bytes}
 use Rattle.format.specs.Outcome.{accepted, refused}
-use Rattle.machine.specs.Steps.{Step, put, row, pervading, join, validating, SheetOf}
-use Rattle.machine.specs.Run.{Answer, gives, refuses}
-use Rattle.machine.specs.Call.{Tally, tally, Called, called, writeTypes, zeroed, atFront, sheetCall}
+use Rattle.machine.specs.Steps.{Step, aPervading, aValidating, isA, Argument, noArgument, aType, flags, argumentOf, SheetOf}
+use Rattle.machine.specs.Run.{Ruling, gives, refuses}
+use Rattle.machine.specs.Call.{Tally, Called, called, zeroed, leftWith, sheetCall}
 use Rattle.machine.specs.WellFormed.{WellFormed, typesLeft}
 use Rattle.machine.specs.Real.{RealShape, fits, Holds, realPervade, Feeds, realStep, Through}
-use Rattle.machine.specs.Conditions.{NamesNoClosing, FillsNothing, RowsNoOpenDef, JoinsAlike, Along, PutOrPervade, SamePuts}
+use Rattle.machine.specs.Conditions.{NamesNoClosing, FillsNothing, RowsNoOpenDef, JoinsAlike, Along, Only, PutOrPervade, SamePuts}
 
 -- ---- what the call answers
 
@@ -45,7 +45,7 @@ pub record IsAccepted (c : Check) : Type 0 where
 -- at the front of the result, and the scratch is zero.
 pub record Leaves (c : Check) (ts : List Ty) : Type 0 where
   pub within : All Within ts
-  pub outcome : answerTo c ≡ called (accepted (tally (length ts) (length (writeTypes ts)))) (atFront (writeTypes ts) (c .result)) (zeroed (c .scratch))
+  pub outcome : answerTo c ≡ leftWith ts (c .result) (zeroed (c .scratch))
 
 -- "mismatch, refusal 8, is answered", at some place.
 pub record Mismatched (c : Check) : Type 0 where
@@ -53,7 +53,7 @@ pub record Mismatched (c : Check) : Type 0 where
   pub outcome : answerTo c ≡ called (refused unpervaded place) (c .result) (zeroed (c .scratch))
 
 -- The term verdict: accepted, or the number of a refusal, the place aside. Under the conditions below that number is 8, mismatch.
-abbrev pub verdictOf : Called → Answer (Unit {0})
+abbrev pub verdictOf : Called → Ruling (Unit {0})
 verdictOf (called (accepted n) result scratch) = gives tt
 verdictOf (called (refused k p) result scratch) = refuses k
 
@@ -107,17 +107,23 @@ pub record Regrouped (c d : Check) (xs ys : List Step) : Type 0 where
 
 -- ---- the real run
 
+-- the real pervading of the two on top stops
+abbrev pub TopsStop : List RealShape → Type 0
+TopsStop [] = ⊥
+TopsStop (r ∷ []) = ⊥
+TopsStop (r ∷ q ∷ rs) = realPervade r q ≡ none
+
+-- the one on top does not fit the spec that follows the mark
+abbrev pub TopUnfit : Argument → List RealShape → Type 0
+TopUnfit noArgument rs = ⊥
+TopUnfit (flags f g) rs = ⊥
+TopUnfit (aType spec) [] = ⊥
+TopUnfit (aType spec) (r ∷ rs) = fits (shapeOf spec) r ≡ false
+
 -- Why a step of it stops, of the real shapes that it takes: a pervading of two real shapes whose real pervading stops, or a validation
 -- of one that does not fit. There is no third reason, and so none that a shape is lacking.
 abbrev pub StopsBecause : Step → List RealShape → Type 0
-StopsBecause (put t) rs = ⊥
-StopsBecause row rs = ⊥
-StopsBecause (pervading f g) [] = ⊥
-StopsBecause (pervading f g) (r ∷ []) = ⊥
-StopsBecause (pervading f g) (r ∷ q ∷ rs) = realPervade r q ≡ none
-StopsBecause join rs = ⊥
-StopsBecause (validating spec) [] = ⊥
-StopsBecause (validating spec) (r ∷ rs) = fits (shapeOf spec) r ≡ false
+StopsBecause x rs = Only (isA aPervading x) (TopsStop rs) ⊎ Only (isA aValidating x) (TopUnfit (argumentOf x) rs)
 
 -- Why a run stops: its first step stops for one of the two reasons, or it goes on and the run stops later.
 abbrev pub RunStopsBecause : (xs : List Step) → Feeds xs → List RealShape → Type 0

@@ -28,7 +28,7 @@ use Rattle.validation.specs.RefusalsLaws.{validate-listed}
 use Rattle.machine.specs.SheetLimits.{maxSteps, maxStack, scratchBytes, resultBytes}
 use Rattle.machine.specs.Steps.{Step, put, row, pervading, join, validating, Opcode, aPut, aRow, aPervading, aJoin, aValidating, opcodeOf, opcodes, takes, heightPast, maxFlag}
 use Rattle.machine.specs.Steps.{Rule, ofNone, ofOne, ofTwo}
-use Rattle.machine.specs.Run.{Answer, gives, refuses, following, orRefuses, aside, Stack, State, fresh, afterStep, onto, pervadeTypes, ruleOf, ruled, step, work}
+use Rattle.machine.specs.Run.{Ruling, gives, refuses, following, orRefuses, aside, Stack, State, fresh, afterStep, onto, pervadeTypes, ruleOf, ruleOn, step, work}
 use Rattle.machine.specs.Sheet.{opcodeIn, placed, opcodeFrom, argumentFrom, stepFrom, workFrom, toEnd, sheetMore, skimMore, sheetFrom, skimFrom, outcomeOf, sheetRun, skim}
 use Rattle.machine.specs.WellFormed.{WellFormed}
 use Rattle.machine.specs.Call.{called, tally, writeTypes, zeroed, atFront, handOver, sheetCall}
@@ -265,31 +265,31 @@ well-formed-or-refused s result scratch r c = go (skim s) refl
 -- ---- the rules: 5, 8, 9 and 10
 
 -- Where an answer refuses, it does so with one of these.
-abbrev RefusesWith : {A : Type 0} → List ℕ → Answer A → Type 0
+abbrev RefusesWith : {A : Type 0} → List ℕ → Ruling A → Type 0
 RefusesWith ns (gives a) = Unit {0}
 RefusesWith ns (refuses k) = Among ns k
 
 -- Where a rule refuses, it does so with one of these.
-abbrev RuleRefuses : List ℕ → Rule Ty (Answer Ty) → Type 0
+abbrev RuleRefuses : List ℕ → Rule Ty (Ruling Ty) → Type 0
 RuleRefuses ns (ofNone a) = RefusesWith ns a
 RuleRefuses ns (ofOne f) = (t : Ty) → RefusesWith ns (f t)
 RuleRefuses ns (ofTwo f) = (t u : Ty) → RefusesWith ns (f t u)
 
-onto-refuses : (st : Stack) (a : Answer Ty) → RefusesWith ofSheet a → RefusesWith ofSheet (onto st a)
+onto-refuses : (st : Stack) (a : Ruling Ty) → RefusesWith ofSheet a → RefusesWith ofSheet (onto st a)
 onto-refuses st (gives t) h = tt
 onto-refuses st (refuses k) h = h
 
-room-refuses : (b : Bool) (st : Stack) (a : Answer Ty) → RefusesWith ofSheet a → RefusesWith ofSheet (cond b (onto st a) (refuses overflow))
+room-refuses : (b : Bool) (st : Stack) (a : Ruling Ty) → RefusesWith ofSheet a → RefusesWith ofSheet (cond b (onto st a) (refuses overflow))
 room-refuses true st a h = onto-refuses st a h
 room-refuses false st a h = refl
 
-ruled-refuses : (r : Rule Ty (Answer Ty)) (st : Stack) → RuleRefuses ofSheet r → RefusesWith ofSheet (ruled r st)
-ruled-refuses (ofNone a) st h = room-refuses (ltb (length st) maxStack) st a h
-ruled-refuses (ofOne f) [] h = refl
-ruled-refuses (ofOne f) (t ∷ st) h = onto-refuses st (f t) (h t)
-ruled-refuses (ofTwo f) [] h = refl
-ruled-refuses (ofTwo f) (t ∷ []) h = refl
-ruled-refuses (ofTwo f) (t ∷ u ∷ st) h = onto-refuses st (f t u) (h t u)
+ruleOn-refuses : (r : Rule Ty (Ruling Ty)) (st : Stack) → RuleRefuses ofSheet r → RefusesWith ofSheet (ruleOn r st)
+ruleOn-refuses (ofNone a) st h = room-refuses (ltb (length st) maxStack) st a h
+ruleOn-refuses (ofOne f) [] h = refl
+ruleOn-refuses (ofOne f) (t ∷ st) h = onto-refuses st (f t) (h t)
+ruleOn-refuses (ofTwo f) [] h = refl
+ruleOn-refuses (ofTwo f) (t ∷ []) h = refl
+ruleOn-refuses (ofTwo f) (t ∷ u ∷ st) h = onto-refuses st (f t u) (h t u)
 
 pervading-refuses : (f g : Bool) (t u : Ty) → RefusesWith ofSheet (pervadeTypes f g t u)
 unfolding pervadeTypes
@@ -312,12 +312,12 @@ rule-refuses (validating spec) = λ t. validating-refuses (validate unsided spec
 
 step-refuses : (x : Step) (st : Stack) → RefusesWith ofSheet (step x st)
 unfolding step
-step-refuses x st = ruled-refuses (ruleOf x) st (rule-refuses x)
+step-refuses x st = ruleOn-refuses (ruleOf x) st (rule-refuses x)
 
 work-refuses : (x : Step) (st : State Stack) → RefusesWith ofSheet (work x st)
 work-refuses x st = go (step x (st .stack)) (step-refuses x (st .stack))
   where
-    go : (a : Answer Stack) → RefusesWith ofSheet a → RefusesWith ofSheet (following a λ b. gives (afterStep st b))
+    go : (a : Ruling Stack) → RefusesWith ofSheet a → RefusesWith ofSheet (following a λ b. gives (afterStep st b))
     go (gives b) h = tt
     go (refuses k) h = h
 
@@ -326,7 +326,7 @@ work-refuses x st = go (step x (st .stack)) (step-refuses x (st .stack))
 reading-sheet : All (Among ofSheet) ofReading
 reading-sheet = (refl, (refl, (refl, (refl, (refl, (refl, (refl, tt)))))))
 
-stops-placed : {A : Type 0} (ns : List ℕ) (a : Answer A) (p : ℕ) → RefusesWith ns a → Stops ns (placed a p)
+stops-placed : {A : Type 0} (ns : List ℕ) (a : Ruling A) (p : ℕ) → RefusesWith ns a → Stops ns (placed a p)
 stops-placed ns (gives a) p h = stops-give
 stops-placed ns (refuses k) p h = stops-stop h
 

@@ -12,48 +12,81 @@ use lib.ListN.{length, length-reverse}
 use Rattle.model.specs.Types.{Ty, shapeOf}
 use Rattle.format.specs.Reader.{Bytes}
 use Rattle.machine.specs.SheetLimits.{maxStack}
-use Rattle.machine.specs.Steps.{Step, put, row, pervading, join, validating, opcodeOf, takes, heightPast}
+use Rattle.machine.specs.Steps.{Step, put, row, pervading, join, validating, opcodeOf, takes, heightPast, aType, Rule, ofNone, ofOne, ofTwo}
 use Rattle.machine.specs.Run.{gives, Stack, step, steps}
 use Rattle.machine.specs.WellFormed.{WellFormed, heightAfter, typesLeft, Heights}
-use Rattle.machine.specs.Real.{RealShape, fits, realPervade, Feed, Feeds, ontoReal, realRule, realStep, goesOn, realRun}
+use Rattle.machine.specs.Real.{RealShape, fits, realPervade, Feed, Feeds, realRow, keeps, ontoReal, realRule, realRuleOn, realStep, goesOn, realRun}
 use Rattle.machine.specs.StepsTook.{skim-took}
 use Rattle.machine.specs.RunLaws.{following-gives}
 use Rattle.machine.specs.StepsReads.{step-room}
 use Rattle.machine.specs.SheetWorked.{step-height, step-takes}
-use Rattle.machine.specs.Ruled.{real-takes, lays-one, realRuled-height}
+use Rattle.machine.specs.RuleOn.{arity, real-takes, lays-one, realRuleOn-height}
 use Rattle.machine.specs.Sheets.{left-within}
-use Rattle.demand.specs.Claims.{Check, MakesAccepted, StopsBecause, RunStopsBecause}
+use Rattle.demand.specs.Claims.{Check, MakesAccepted, TopsStop, TopUnfit, StopsBecause, RunStopsBecause}
 use Rattle.demand.specs.Calls.{leaves-run}
 
 -- ---- one step
+
+-- What a rule makes of the real shapes on top is none.
+abbrev Stuck : Rule RealShape (Option RealShape) → List RealShape → Type 0
+Stuck (ofNone o) rs = o ≡ none
+Stuck (ofOne f) [] = ⊥
+Stuck (ofOne f) (r ∷ rs) = f r ≡ none
+Stuck (ofTwo f) [] = ⊥
+Stuck (ofTwo f) (r ∷ []) = ⊥
+Stuck (ofTwo f) (r ∷ q ∷ rs) = f r q ≡ none
 
 onto-stops : (rs : List RealShape) (o : Option RealShape) → ontoReal rs o ≡ none → o ≡ none
 onto-stops rs none e = refl
 onto-stops rs (some r) e = let z : _≡_ {A = ℕ} 0 1 = cc in absurd (omega arith)
 
-unfit : (b : Bool) (r : RealShape) → cond b (some r) none ≡ none → b ≡ false
-unfit true r e = let z : _≡_ {A = ℕ} 0 1 = cc in absurd (omega arith)
-unfit false r e = refl
+ruleOn-stops : (a : Rule RealShape (Option RealShape)) (rs : List RealShape) → arity a ≤ length rs → realRuleOn a rs ≡ none → Stuck a rs
+ruleOn-stops (ofNone o) rs h e = onto-stops rs o e
+ruleOn-stops (ofOne f) [] h e = absurd (omega arith)
+ruleOn-stops (ofOne f) (r ∷ rs) h e = onto-stops rs (f r) e
+ruleOn-stops (ofTwo f) [] h e = absurd (omega arith)
+ruleOn-stops (ofTwo f) (r ∷ []) h e = absurd (omega arith)
+ruleOn-stops (ofTwo f) (r ∷ q ∷ rs) h e = onto-stops rs (f r q) e
+
+-- A rule that makes something of everything is never stuck.
+never-one : (g : RealShape → RealShape) (rs : List RealShape) → Stuck (ofOne λ r. some (g r)) rs → ⊥
+never-one g [] h = h
+never-one g (r ∷ rs) h = let z : _≡_ {A = ℕ} 0 1 = cc in absurd (omega arith)
+
+never-two : (g : RealShape → RealShape → RealShape) (rs : List RealShape) → Stuck (ofTwo λ r q. some (g r q)) rs → ⊥
+never-two g [] h = h
+never-two g (r ∷ []) h = h
+never-two g (r ∷ q ∷ rs) h = let z : _≡_ {A = ℕ} 0 1 = cc in absurd (omega arith)
+
+stuck-tops : (rs : List RealShape) → Stuck (ofTwo λ r q. realPervade r q) rs → TopsStop rs
+stuck-tops [] h = h
+stuck-tops (r ∷ []) h = h
+stuck-tops (r ∷ q ∷ rs) h = h
+
+stuck-unfit : (spec : Ty) (rs : List RealShape) → Stuck (ofOne λ r. cond (fits (shapeOf spec) r) (some r) none) rs → TopUnfit (aType spec) rs
+stuck-unfit spec [] h = h
+stuck-unfit spec (r ∷ rs) h = go (fits (shapeOf spec) r) h
+  where
+    go : (b : Bool) → cond b (some r) none ≡ none → b ≡ false
+    go true e = let z : _≡_ {A = ℕ} 0 1 = cc in absurd (omega arith)
+    go false e = refl
+
+rule-stops : (x : Step) (u : Feed x) (rs : List RealShape) → Stuck (realRule x u) rs → StopsBecause x rs
+rule-stops (put t) r rs h = let z : _≡_ {A = ℕ} 0 1 = cc in absurd (omega arith)
+rule-stops row u rs h = absurd (never-one realRow rs h)
+rule-stops (pervading f g) u rs h = inl (stuck-tops rs h)
+rule-stops join side rs h = absurd (never-two (keeps side) rs h)
+rule-stops (validating spec) u rs h = inr (stuck-unfit spec rs h)
 
 -- "Never lacks a shape": with at least as many real shapes as the step takes, it stops for one of the two reasons alone.
 pub step-stops : (x : Step) (u : Feed x) (rs : List RealShape) → takes (opcodeOf x) ≤ length rs → realStep x u rs ≡ none → StopsBecause x rs
 unfolding realStep
-step-stops (put t) r rs h e = let z : _≡_ {A = ℕ} 0 1 = cc in absurd (omega arith)
-step-stops row u [] h e = absurd (omega arith)
-step-stops row u (r ∷ rs) h e = let z : _≡_ {A = ℕ} 0 1 = cc in absurd (omega arith)
-step-stops (pervading f g) u [] h e = absurd (omega arith)
-step-stops (pervading f g) u (r ∷ []) h e = absurd (omega arith)
-step-stops (pervading f g) u (r ∷ q ∷ rs) h e = onto-stops rs (realPervade r q) e
-step-stops join side [] h e = absurd (omega arith)
-step-stops join side (r ∷ []) h e = absurd (omega arith)
-step-stops join side (r ∷ q ∷ rs) h e = let z : _≡_ {A = ℕ} 0 1 = cc in absurd (omega arith)
-step-stops (validating spec) u [] h e = absurd (omega arith)
-step-stops (validating spec) u (r ∷ rs) h e = unfit (fits (shapeOf spec) r) r (onto-stops rs (cond (fits (shapeOf spec) r) (some r) none) e)
+step-stops x u rs h e = rule-stops x u rs (ruleOn-stops (realRule x u) rs (rw (real-takes x u) at h) e)
 
 -- A step that goes on leaves as many real shapes as it leaves types.
 pub step-many : (x : Step) (u : Feed x) (rs rs₁ : List RealShape) → realStep x u rs ≡ some rs₁ → length rs₁ ≡ heightPast (opcodeOf x) (length rs)
 unfolding realStep
-step-many x u rs rs₁ e = rw (real-takes x u, lays-one (opcodeOf x)) (realRuled-height (realRule x u) rs rs₁ e)
+step-many x u rs rs₁ e = rw (real-takes x u, lays-one (opcodeOf x)) (realRuleOn-height (realRule x u) rs rs₁ e)
 
 -- ---- all steps
 

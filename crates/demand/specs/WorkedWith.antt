@@ -15,7 +15,7 @@ use Rattle.format.specs.Reader.{Bytes}
 use Rattle.validation.specs.OutcomeLaws.{both-true}
 use Rattle.machine.specs.SheetLimits.{maxStack}
 use Rattle.machine.specs.Steps.{Step, opcodeOf, takes, heightPast}
-use Rattle.machine.specs.Run.{Answer, gives, refuses, Stack, step}
+use Rattle.machine.specs.Run.{Ruling, gives, refuses, Stack, step}
 use Rattle.machine.specs.WellFormed.{Heights}
 use Rattle.machine.specs.Conditions.{Along}
 
@@ -86,7 +86,7 @@ long-enough n = let l : length (replicate {A = ℕ} n 0) ≡ n = length-replicat
 -- ---- along the stacks
 
 -- Of each step with the stack that it takes, as `Along` has it, but of the stack that the rules come to.
-abbrev pub onGives : Answer Stack → (Stack → Type 0) → Type 0
+abbrev pub onGives : Ruling Stack → (Stack → Type 0) → Type 0
 onGives (gives st) Q = Q st
 onGives (refuses k) Q = Unit {0}
 
@@ -94,7 +94,7 @@ abbrev pub AsWorked : (Step → Stack → Type 0) → List Step → Stack → Ty
 AsWorked P [] st = Unit {0}
 AsWorked P (x ∷ xs) st = P x st × onGives (step x st) λ st₁. AsWorked P xs st₁
 
-given : (a : Answer Stack) (Q : Stack → Type 0) (st : Stack) → a ≡ gives st → onGives a Q → Q st
+given : (a : Ruling Stack) (Q : Stack → Type 0) (st : Stack) → a ≡ gives st → onGives a Q → Q st
 given (gives st₁) Q st e h = let w : st₁ ≡ st = cc in rw (← w) h
 given (refuses k) Q st e h = let z : _≡_ {A = ℕ} 0 1 = cc in absurd (omega arith)
 

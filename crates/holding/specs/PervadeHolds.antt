@@ -10,16 +10,12 @@ use borrow.Author.Tests.{eqb-true, eqb-false}
 use Rattle.model.specs.Types.{Dim, static, unknown, Shape, shape}
 use Rattle.rules.specs.Pervade.{againstAbsent, together, Pervaded, sizes, clash, pervadeDims, pervadeClosing, closedBy, pervade}
 use Rattle.rules.specs.PervadeLaws.{together-unknown, together-unfilled, together-comm, thenRest-sizes, pervadeDims-comm}
-use Rattle.machine.specs.Real.{RealShape, fits, realDim, consBoth, realPervade}
+use Rattle.machine.specs.Real.{RealShape, fits, realDim, realPervade}
+use Rattle.machine.specs.RealLaws.{consBoth-some}
 use Rattle.holding.specs.Fitting.{Fit}
 use Rattle.holding.specs.Bare.{isOpen, BareClosing, Bare, Rest, Begins, begins-of, of-begins}
 
 -- ---- real pervading
-
-pub consBoth-some : {A C : Type 0} (x : Option A) (r : Option (List A)) {z : List A} → consBoth x r ≡ some z → ((a : A) (l : List A) → x ≡ some a → r ≡ some l → a ∷ l ≡ z → C) → C
-consBoth-some none r e k = let z : _≡_ {A = ℕ} 0 1 = cc in absurd (omega arith)
-consBoth-some (some a) none e k = let z : _≡_ {A = ℕ} 0 1 = cc in absurd (omega arith)
-consBoth-some (some a) (some l) e k = k a l refl refl (cc)
 
 realDim-comm : (m n : ℕ) → realDim m n ≡ realDim n m
 realDim-comm m n = go (eqb m 1) (eqb n 1) (eqb m n) (eqb n m) refl refl refl refl

@@ -2,10 +2,10 @@
 -- fits the puts and gets through leaves types that hold the real shapes beside them.
 use Prim.Native.Nat.{ℕ}
 use native.Mathlib.Omega.{arith}
-use mathlib.Core.Bool.{Bool, true, false, cond}
+use mathlib.Core.Bool.{Bool, false, cond}
 use mathlib.Core.List.{List, [], _∷_}
 use mathlib.Core.Option.{Option, none, some}
-use mathlib.Core.Path.{_≡_, refl}
+use mathlib.Core.Path.{_≡_}
 use lib.ListN.{length}
 use lib.Dec.{ltb}
 use Rattle.model.specs.Refusals.{unpervaded}
@@ -19,14 +19,15 @@ use Rattle.validation.specs.Validate.{validate}
 use Rattle.validation.specs.ValidateLaws.{validate-shape}
 use Rattle.machine.specs.SheetLimits.{maxStack}
 use Rattle.machine.specs.Steps.{Step, put, row, pervading, join, validating, flagByte, Rule, ofNone, ofOne, ofTwo}
-use Rattle.machine.specs.Run.{Answer, gives, orRefuses, aside, Stack, onto, pervadeTypes, ruleOf, ruled, step, steps}
-use Rattle.machine.specs.Real.{RealShape, fits, Holds, realPervade, JoinSide, Feed, Feeds, realRow, keeps, ontoReal, realRule, realRuled, realStep, goesOn, realRun, FitsPut, FitsPuts}
+use Rattle.machine.specs.Run.{Ruling, gives, orRefuses, aside, Stack, onto, pervadeTypes, ruleOf, ruleOn, step, steps}
+use Rattle.machine.specs.Real.{RealShape, fits, Holds, realPervade, JoinSide, Feed, Feeds, realRow, keeps, ontoReal, realRule, realRuleOn, realStep, realRun, FitsPut, FitsPuts}
 use Rattle.machine.specs.Conditions.{namesClosing, NamesNoClosing, FillsNothing, Alike, JoinsAlike, Along}
 use Rattle.holding.specs.Bare.{Bare}
 use Rattle.holding.specs.PervadeHolds.{pervade-holds}
 use Rattle.holding.specs.RulesHold.{row-holds, join-holds, merge-holds}
 use Rattle.machine.specs.RunLaws.{unfilled, following-gives, orRefuses-gives, aside-gives}
-use Rattle.machine.specs.Ruled.{room-gives}
+use Rattle.machine.specs.RealLaws.{cond-some, ontoReal-some, goesOn-some}
+use Rattle.machine.specs.RuleOn.{room-gives}
 
 -- ---- types beside real shapes
 
@@ -41,34 +42,19 @@ AllHold [] (r ∷ rs) = ⊥
 AllHold (t ∷ st) [] = ⊥
 AllHold (t ∷ st) (r ∷ rs) = HoldsBare t r × AllHold st rs
 
--- ---- what an accepted step says
-
 pub bare-of : (s : Shape) → namesClosing s ≡ false → Bare s
 bare-of (shape o none) h = tt
 bare-of (shape o (some [])) h = tt
 bare-of (shape o (some (d ∷ c))) h = let z : _≡_ {A = ℕ} 0 1 = cc in absurd (omega arith)
 
-cond-some : {A C : Type 0} (t : Bool) {a b : A} → cond t (some a) none ≡ some b → (t ≡ true → a ≡ b → C) → C
-cond-some true e k = k refl (cc)
-cond-some false e k = let z : _≡_ {A = ℕ} 0 1 = cc in absurd (omega arith)
-
-ontoReal-some : {C : Type 0} (rs : List RealShape) (o : Option RealShape) {out : List RealShape} → ontoReal rs o ≡ some out → ((r : RealShape) → o ≡ some r → r ∷ rs ≡ out → C) → C
-ontoReal-some rs none e k = let z : _≡_ {A = ℕ} 0 1 = cc in absurd (omega arith)
-ontoReal-some rs (some r) e k = k r refl (cc)
-
-goesOn-some : {C : Type 0} (o : Option (List RealShape)) {f : List RealShape → Option (List RealShape)} {out : List RealShape}
-    → goesOn o f ≡ some out → ((rs : List RealShape) → o ≡ some rs → f rs ≡ some out → C) → C
-goesOn-some none e k = let z : _≡_ {A = ℕ} 0 1 = cc in absurd (omega arith)
-goesOn-some (some rs) e k = k rs refl e
-
 -- ---- a rule beside the real one
 
 -- What is made holds what is really made.
-abbrev Made : Answer Ty → Option RealShape → Type 0
+abbrev Made : Ruling Ty → Option RealShape → Type 0
 Made a o = (x : Ty) (z : RealShape) → a ≡ gives x → o ≡ some z → HoldsBare x z
 
 -- Where the types taken hold the real shapes taken, what is made holds what is really made. Q is what is asked of the stack.
-abbrev Preserves : (Stack → Type 0) → Rule Ty (Answer Ty) → Rule RealShape (Option RealShape) → Type 0
+abbrev Preserves : (Stack → Type 0) → Rule Ty (Ruling Ty) → Rule RealShape (Option RealShape) → Type 0
 Preserves Q (ofNone a) (ofNone o) = Made a o
 Preserves Q (ofNone a) (ofOne g) = ⊥
 Preserves Q (ofNone a) (ofTwo g) = ⊥
@@ -79,7 +65,7 @@ Preserves Q (ofTwo f) (ofNone o) = ⊥
 Preserves Q (ofTwo f) (ofOne g) = ⊥
 Preserves Q (ofTwo f) (ofTwo g) = (t u : Ty) (st : Stack) (r q : RealShape) → Q (t ∷ u ∷ st) → HoldsBare t r → HoldsBare u q → Made (f t u) (g r q)
 
-onto-hold : (st : Stack) (a : Answer Ty) (rs : List RealShape) (o : Option RealShape) {st₁ : Stack} {rs₁ : List RealShape}
+onto-hold : (st : Stack) (a : Ruling Ty) (rs : List RealShape) (o : Option RealShape) {st₁ : Stack} {rs₁ : List RealShape}
     → Made a o → AllHold st rs → onto st a ≡ gives st₁ → ontoReal rs o ≡ some rs₁ → AllHold st₁ rs₁
 onto-hold st a rs o {st₁} {rs₁} k h e y =
     following-gives a e λ x e₁ e₂.
@@ -88,23 +74,23 @@ onto-hold st a rs o {st₁} {rs₁} k h e y =
     rw (← w, ← v) (k x z e₁ y₁, h)
 
 module _ (Q : Stack → Type 0) where
-  ruled-hold : (a : Rule Ty (Answer Ty)) (b : Rule RealShape (Option RealShape)) (st st₁ : Stack) (rs rs₁ : List RealShape)
-      → Preserves Q a b → Q st → AllHold st rs → ruled a st ≡ gives st₁ → realRuled b rs ≡ some rs₁ → AllHold st₁ rs₁
-  ruled-hold (ofNone a) (ofNone o) st st₁ rs rs₁ k c h e y = room-gives (ltb (length st) maxStack) st a e λ e₁. onto-hold st a rs o k h e₁ y
-  ruled-hold (ofNone a) (ofOne g) st st₁ rs rs₁ k c h e y = absurd k
-  ruled-hold (ofNone a) (ofTwo g) st st₁ rs rs₁ k c h e y = absurd k
-  ruled-hold (ofOne f) (ofNone o) st st₁ rs rs₁ k c h e y = absurd k
-  ruled-hold (ofOne f) (ofOne g) [] st₁ rs rs₁ k c h e y = let z : _≡_ {A = ℕ} 0 1 = cc in absurd (omega arith)
-  ruled-hold (ofOne f) (ofOne g) (t ∷ st) st₁ [] rs₁ k c h e y = absurd h
-  ruled-hold (ofOne f) (ofOne g) (t ∷ st) st₁ (r ∷ rs) rs₁ k c h e y = onto-hold st (f t) rs (g r) (k t r (h .0)) (h .1) e y
-  ruled-hold (ofOne f) (ofTwo g) st st₁ rs rs₁ k c h e y = absurd k
-  ruled-hold (ofTwo f) (ofNone o) st st₁ rs rs₁ k c h e y = absurd k
-  ruled-hold (ofTwo f) (ofOne g) st st₁ rs rs₁ k c h e y = absurd k
-  ruled-hold (ofTwo f) (ofTwo g) [] st₁ rs rs₁ k c h e y = let z : _≡_ {A = ℕ} 0 1 = cc in absurd (omega arith)
-  ruled-hold (ofTwo f) (ofTwo g) (t ∷ []) st₁ rs rs₁ k c h e y = let z : _≡_ {A = ℕ} 0 1 = cc in absurd (omega arith)
-  ruled-hold (ofTwo f) (ofTwo g) (t ∷ u ∷ st) st₁ [] rs₁ k c h e y = absurd h
-  ruled-hold (ofTwo f) (ofTwo g) (t ∷ u ∷ st) st₁ (r ∷ []) rs₁ k c h e y = absurd (h .1)
-  ruled-hold (ofTwo f) (ofTwo g) (t ∷ u ∷ st) st₁ (r ∷ q ∷ rs) rs₁ k c h e y = onto-hold st (f t u) rs (g r q) (k t u st r q c (h .0) (h .1 .0)) (h .1 .1) e y
+  ruleOn-hold : (a : Rule Ty (Ruling Ty)) (b : Rule RealShape (Option RealShape)) (st st₁ : Stack) (rs rs₁ : List RealShape)
+      → Preserves Q a b → Q st → AllHold st rs → ruleOn a st ≡ gives st₁ → realRuleOn b rs ≡ some rs₁ → AllHold st₁ rs₁
+  ruleOn-hold (ofNone a) (ofNone o) st st₁ rs rs₁ k c h e y = room-gives (ltb (length st) maxStack) st a e λ e₁. onto-hold st a rs o k h e₁ y
+  ruleOn-hold (ofNone a) (ofOne g) st st₁ rs rs₁ k c h e y = absurd k
+  ruleOn-hold (ofNone a) (ofTwo g) st st₁ rs rs₁ k c h e y = absurd k
+  ruleOn-hold (ofOne f) (ofNone o) st st₁ rs rs₁ k c h e y = absurd k
+  ruleOn-hold (ofOne f) (ofOne g) [] st₁ rs rs₁ k c h e y = let z : _≡_ {A = ℕ} 0 1 = cc in absurd (omega arith)
+  ruleOn-hold (ofOne f) (ofOne g) (t ∷ st) st₁ [] rs₁ k c h e y = absurd h
+  ruleOn-hold (ofOne f) (ofOne g) (t ∷ st) st₁ (r ∷ rs) rs₁ k c h e y = onto-hold st (f t) rs (g r) (k t r (h .0)) (h .1) e y
+  ruleOn-hold (ofOne f) (ofTwo g) st st₁ rs rs₁ k c h e y = absurd k
+  ruleOn-hold (ofTwo f) (ofNone o) st st₁ rs rs₁ k c h e y = absurd k
+  ruleOn-hold (ofTwo f) (ofOne g) st st₁ rs rs₁ k c h e y = absurd k
+  ruleOn-hold (ofTwo f) (ofTwo g) [] st₁ rs rs₁ k c h e y = let z : _≡_ {A = ℕ} 0 1 = cc in absurd (omega arith)
+  ruleOn-hold (ofTwo f) (ofTwo g) (t ∷ []) st₁ rs rs₁ k c h e y = let z : _≡_ {A = ℕ} 0 1 = cc in absurd (omega arith)
+  ruleOn-hold (ofTwo f) (ofTwo g) (t ∷ u ∷ st) st₁ [] rs₁ k c h e y = absurd h
+  ruleOn-hold (ofTwo f) (ofTwo g) (t ∷ u ∷ st) st₁ (r ∷ []) rs₁ k c h e y = absurd (h .1)
+  ruleOn-hold (ofTwo f) (ofTwo g) (t ∷ u ∷ st) st₁ (r ∷ q ∷ rs) rs₁ k c h e y = onto-hold st (f t u) rs (g r q) (k t u st r q c (h .0) (h .1 .0)) (h .1 .1) e y
 
 -- ---- the five rules
 
@@ -143,7 +129,7 @@ rule-holds (validating spec) f n u p = λ t r h. validate-made spec t r n h
 step-holds : (x : Step) (st st₁ : Stack) (f : Feed x) (rs rs₁ : List RealShape)
     → NamesNoClosing x → FillsNothing x → JoinsAlike x st → FitsPut x f → AllHold st rs → step x st ≡ gives st₁ → realStep x f rs ≡ some rs₁ → AllHold st₁ rs₁
 unfolding step realStep
-step-holds x st st₁ f rs rs₁ n u j p h e y = ruled-hold (JoinsAlike x) (ruleOf x) (realRule x f) st st₁ rs rs₁ (rule-holds x f n u p) j h e y
+step-holds x st st₁ f rs rs₁ n u j p h e y = ruleOn-hold (JoinsAlike x) (ruleOf x) (realRule x f) st st₁ rs rs₁ (rule-holds x f n u p) j h e y
 
 pub steps-hold : (xs : List Step) (st st₁ : Stack) (f : Feeds xs) (rs rs₁ : List RealShape)
     → All NamesNoClosing xs → All FillsNothing xs → Along JoinsAlike xs st → FitsPuts xs f → AllHold st rs → steps xs st ≡ gives st₁ → realRun xs f rs ≡ some rs₁ → AllHold st₁ rs₁

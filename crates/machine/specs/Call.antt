@@ -32,12 +32,16 @@ zeroed scratch = replicate scratchBytes 0 ++ drop scratchBytes scratch
 abbrev pub atFront : List ℕ → List ℕ → List ℕ
 atFront w buffer = w ++ drop (length w) buffer
 
+-- With these types left: how many and their bytes in all, which stand at the front of the result.
+abbrev pub leftWith : List Ty → List ℕ → List ℕ → Called
+leftWith ts result scratch = called (accepted (tally (length ts) (length (writeTypes ts)))) (atFront (writeTypes ts) result) scratch
+
 -- The types left are written bottom first; a result too short for them is found last, at the sheet's length.
 unfoldable pub handOver : ℕ → Outcome (List Ty) → List ℕ → List ℕ → Called
 handOver size (refused k p) result scratch = called (refused k p) result scratch
 handOver size (accepted ts) result scratch =
     cond (leb (length (writeTypes ts)) (length result))
-    (called (accepted (tally (length ts) (length (writeTypes ts)))) (atFront (writeTypes ts) result) scratch)
+    (leftWith ts result scratch)
     (called (refused tooShort size) result scratch)
 
 -- A scratch that is too short is found first and stays as lent.

@@ -1,15 +1,15 @@
 -- What an answer of the sheet call says of the sheet's run: the types left and their bytes in the result, or the refusal. With
 -- the bytes that are asked for in both buffers no refusal is for want of room, since no more types are left than the stack has places
 -- and `maxBytes` suffice for each.
-use Prim.Native.Nat.{ℕ, _≤_}
+use Prim.Native.Nat.{ℕ, _≤_, _<_}
 use native.Mathlib.Omega.{arith}
-use mathlib.Core.Bool.{Bool, true, false, cond}
+use mathlib.Core.Bool.{Bool, true, false}
 use mathlib.Core.List.{List, [], _∷_, reverse}
 use mathlib.Core.Path.{_≡_, refl, _∙_}
 use lib.ListN.{length, take, drop, length-reverse}
 use lib.Seq.{take-append-seam}
 use lib.Dec.{leb, ltb}
-use borrow.Author.Tests.{le-leb, le-ltb}
+use borrow.Author.Tests.{le-leb, le-ltb, leb-true, leb-false, ltb-true, ltb-false}
 use Rattle.model.specs.Refusals.{tooShort}
 use Rattle.model.specs.Types.{Ty}
 use Rattle.model.specs.Within.{All, Within}
@@ -19,19 +19,56 @@ use Rattle.machine.specs.SheetLimits.{maxStack, scratchBytes, resultByte
 use Rattle.machine.specs.Steps.{Step}
 use Rattle.machine.specs.Run.{gives, Stack, step, steps}
 use Rattle.machine.specs.Sheet.{sheetRun}
-use Rattle.machine.specs.Call.{tally, called, writeTypes, zeroed, atFront, handOver, sheetCall}
+use Rattle.machine.specs.Call.{tally, called, writeTypes, zeroed, atFront, leftWith, handOver, sheetCall}
 use Rattle.machine.specs.RunLaws.{following-gives}
 use Rattle.machine.specs.StepsWithin.{writeTypes-suffices}
 use Rattle.machine.specs.StepsReads.{step-room}
 use Rattle.machine.specs.Sheets.{accepted-steps, left-within}
 
--- ---- what is handed over
+-- ---- the ways out of the call
 
--- With room for them, the types left are answered by their number and that of their bytes, which stand in front in the result.
-pub handOver-left : (size : ℕ) (ts : List Ty) (result scratch : List ℕ) → length (writeTypes ts) ≤ length result
-    → handOver size (accepted ts) result scratch ≡ called (accepted (tally (length ts) (length (writeTypes ts)))) (atFront (writeTypes ts) result) scratch
-unfolding handOver
-handOver-left size ts result scratch room = rw (le-leb (length (writeTypes ts)) (length result) room)
+module _ (s result scratch : List ℕ) where
+  -- A scratch that is too short; the refusal of the run; a result that is too short for the types left; the types left. There is no fifth.
+  pub data Ways : Type 0 where
+    shortScratch : length scratch < scratchBytes
+        → sheetCall s result scratch ≡ called (refused tooShort 0) result scratch → Ways
+    runRefused : scratchBytes ≤ length scratch → (k p : ℕ) → sheetRun s ≡ refused k p
+        → sheetCall s result scratch ≡ called (refused k p) result (zeroed scratch) → Ways
+    shortResult : scratchBytes ≤ length scratch → (ts : List Ty) → sheetRun s ≡ accepted ts → length result < length (writeTypes ts)
+        → sheetCall s result scratch ≡ called (refused tooShort (length s)) result (zeroed scratch) → Ways
+    typesWritten : scratchBytes ≤ length scratch → (ts : List Ty) → sheetRun s ≡ accepted ts → length (writeTypes ts) ≤ length result
+        → sheetCall s result scratch ≡ leftWith ts result (zeroed scratch) → Ways
+
+  -- With enough scratch the call hands the run over.
+  pub call-hands-over : scratchBytes ≤ length scratch → sheetCall s result scratch ≡ handOver (length s) (sheetRun s) result (zeroed scratch)
+  unfolding sheetCall
+  call-hands-over enough = rw (le-ltb (length scratch) scratchBytes enough)
+
+  -- How many types are left is what is answered, and their bytes are in front in the result.
+  pub call-writes : scratchBytes ≤ length scratch → (ts : List Ty) → sheetRun s ≡ accepted ts → length (writeTypes ts) ≤ length result
+      → sheetCall s result scratch ≡ called (accepted (tally (length ts) (length (writeTypes ts)))) (atFront (writeTypes ts) result) (zeroed scratch)
+  unfolding handOver
+  call-writes enough ts run room = call-hands-over enough ∙ rw (run, le-leb (length (writeTypes ts)) (length result) room)
+
+  pub call-refuses : scratchBytes ≤ length scratch → (k p : ℕ) → sheetRun s ≡ refused k p → sheetCall s result scratch ≡ called (refused k p) result (zeroed scratch)
+  unfolding handOver
+  call-refuses enough k p run = call-hands-over enough ∙ rw run
+
+  pub call-ways : Ways
+  unfolding sheetCall handOver
+  call-ways = go (ltb (length scratch) scratchBytes) refl
+    where
+      left : scratchBytes ≤ length scratch → (ts : List Ty) → sheetRun s ≡ accepted ts → (b : Bool) → leb (length (writeTypes ts)) (length result) ≡ b → Ways
+      left enough ts run true e = let room = leb-true (length (writeTypes ts)) (length result) e in typesWritten enough ts run room (call-writes enough ts run room)
+      left enough ts run false e = shortResult enough ts run (leb-false (length (writeTypes ts)) (length result) e) (call-hands-over enough ∙ rw (run, e))
+
+      ran : scratchBytes ≤ length scratch → (o : Outcome (List Ty)) → sheetRun s ≡ o → Ways
+      ran enough (refused k p) run = runRefused enough k p run (call-refuses enough k p run)
+      ran enough (accepted ts) run = left enough ts run (leb (length (writeTypes ts)) (length result)) refl
+
+      go : (b : Bool) → ltb (length scratch) scratchBytes ≡ b → Ways
+      go true e = shortScratch (ltb-true (length scratch) scratchBytes e) (rw e)
+      go false e = ran (ltb-false (length scratch) scratchBytes e) (sheetRun s) refl
 
 -- ---- no more types are left than the stack has places
 
@@ -63,46 +100,32 @@ pub record LeftBy (s : List ℕ) (n b : ℕ) (out : List ℕ) (ts : List Ty) : T
   pub front : take b out ≡ writeTypes ts
   pub kept : Few ts
 
-handed-left : {C : Type 0} (size : ℕ) (o : Outcome (List Ty)) (result scratch : List ℕ) {n b : ℕ} {out after : List ℕ}
-    → called (accepted (tally n b)) out after ≡ handOver size o result scratch
-    → ((ts : List Ty) → o ≡ accepted ts → n ≡ length ts → b ≡ length (writeTypes ts) → out ≡ atFront (writeTypes ts) result → C)
-    → C
-unfolding handOver
-handed-left size (refused k p) result scratch e f = let z : _≡_ {A = ℕ} 0 1 = cc in absurd (omega arith)
-handed-left {C} size (accepted ts) result scratch {n} {b} {out} {after} e f = go (leb (length (writeTypes ts)) (length result)) e
-  where
-    go : (t : Bool)
-        → called (accepted (tally n b)) out after ≡ cond t (called (accepted (tally (length ts) (length (writeTypes ts)))) (atFront (writeTypes ts) result) scratch) (called (refused tooShort size) result scratch)
-        → C
-    go true e = f ts refl (cc) (cc) (cc)
-    go false e = let z : _≡_ {A = ℕ} 0 1 = cc in absurd (omega arith)
-
 module _ (s result scratch : List ℕ) where
-  pub call-left : {C : Type 0} {n b : ℕ} {out after : List ℕ} → Bytes s → called (accepted (tally n b)) out after ≡ sheetCall s result scratch → ((ts : List Ty) → LeftBy s n b out ts → C) → C
-  unfolding sheetCall
-  call-left {C} {n} {b} {out} {after} small e f = go (ltb (length scratch) scratchBytes) e
+  pub call-left : {C : Type 0} {n b : ℕ} {out after : List ℕ} → Bytes s → called (accepted (tally n b)) out after ≡ sheetCall s result scratch
+      → ((ts : List Ty) → LeftBy s n b out ts → C)
+      → C
+  call-left {C} {n} {b} {out} {after} small e f = go (call-ways s result scratch)
     where
-      go : (t : Bool) → called (accepted (tally n b)) out after ≡ cond t (called (refused tooShort 0) result scratch) (handOver (length s) (sheetRun s) result (zeroed scratch)) → C
-      go true e = let z : _≡_ {A = ℕ} 0 1 = cc in absurd (omega arith)
-      go false e =
-          handed-left (length s) (sheetRun s) result (zeroed scratch) e λ ts r c l w.
-          let front : take b out ≡ writeTypes ts = rw (l, w) (take-append-seam (writeTypes ts) (drop (length (writeTypes ts)) result)) in
-          f ts record { run = r; count = c; bytes = l; front = front; kept = run-few s small ts r }
+      go : Ways s result scratch → C
+      go (shortScratch l w) = let z : _≡_ {A = ℕ} 0 1 = cc in absurd (omega arith)
+      go (runRefused l k p r w) = let z : _≡_ {A = ℕ} 0 1 = cc in absurd (omega arith)
+      go (shortResult l ts r m w) = let z : _≡_ {A = ℕ} 0 1 = cc in absurd (omega arith)
+      go (typesWritten l ts r room w) =
+          let c : n ≡ length ts = cc in
+          let d : b ≡ length (writeTypes ts) = cc in
+          let o : out ≡ atFront (writeTypes ts) result = cc in
+          let front : take b out ≡ writeTypes ts = rw (d, o) (take-append-seam (writeTypes ts) (drop (length (writeTypes ts)) result)) in
+          f ts record { run = r; count = c; bytes = d; front = front; kept = run-few s small ts r }
 
   -- ---- a refusal
 
   -- With enough room in both buffers it is the run's.
   pub call-refused : {k p : ℕ} {out after : List ℕ} → Bytes s → resultBytes ≤ length result → scratchBytes ≤ length scratch
       → called (refused k p) out after ≡ sheetCall s result scratch → sheetRun s ≡ refused k p
-  unfolding sheetCall handOver
-  call-refused {k} {p} {out} {after} small wide enough e =
-      let h : called (refused k p) out after ≡ handOver (length s) (sheetRun s) result (zeroed scratch) = e ∙ rw (le-ltb (length scratch) scratchBytes enough) in
-      go (sheetRun s) refl h
+  call-refused {k} {p} {out} {after} small wide enough e = go (call-ways s result scratch)
     where
-      go : (o : Outcome (List Ty)) → sheetRun s ≡ o → called (refused k p) out after ≡ handOver (length s) o result (zeroed scratch) → sheetRun s ≡ refused k p
-      go (refused j q) r h = let a : j ≡ k = cc in let b : q ≡ p = cc in r ∙ rw (a, b)
-      go (accepted ts) r h =
-          let room : length (writeTypes ts) ≤ length result = omega (arith, run-few s small ts r .suffices) in
-          let h₁ = h ∙ handOver-left (length s) ts result (zeroed scratch) room in
-          let z : _≡_ {A = ℕ} 0 1 = cc in
-          absurd (omega arith)
+      go : Ways s result scratch → sheetRun s ≡ refused k p
+      go (shortScratch l w) = absurd (omega arith)
+      go (runRefused l j q r w) = let a : j ≡ k = cc in let b : q ≡ p = cc in r ∙ rw (a, b)
+      go (shortResult l ts r m w) = absurd (omega (arith, run-few s small ts r .suffices))
+      go (typesWritten l ts r room w) = let z : _≡_ {A = ℕ} 0 1 = cc in absurd (omega arith)

@@ -8,8 +8,9 @@ pub mod Real
 pub mod Conditions
 pub mod Examples
 pub mod RunLaws
+pub mod RealLaws
 pub mod Opcodes
-pub mod Ruled
+pub mod RuleOn
 pub mod SheetSteps
 pub mod StepsTook
 pub mod StepsReads

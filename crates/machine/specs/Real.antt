@@ -101,17 +101,17 @@ realRule join side = ofTwo λ r q. some (keeps side r q)
 realRule (validating spec) u = ofOne λ r. cond (fits (shapeOf spec) r) (some r) none
 
 -- It is laid on top. An accepted or well-formed sheet never lacks a shape (`demand`: `accepted-stops`, `well-formed-stops`).
-abbrev pub realRuled : Rule RealShape (Option RealShape) → List RealShape → Option (List RealShape)
-realRuled (ofNone o) rs = ontoReal rs o
-realRuled (ofOne f) [] = none
-realRuled (ofOne f) (r ∷ rs) = ontoReal rs (f r)
-realRuled (ofTwo f) [] = none
-realRuled (ofTwo f) (r ∷ []) = none
-realRuled (ofTwo f) (r ∷ q ∷ rs) = ontoReal rs (f r q)
+abbrev pub realRuleOn : Rule RealShape (Option RealShape) → List RealShape → Option (List RealShape)
+realRuleOn (ofNone o) rs = ontoReal rs o
+realRuleOn (ofOne f) [] = none
+realRuleOn (ofOne f) (r ∷ rs) = ontoReal rs (f r)
+realRuleOn (ofTwo f) [] = none
+realRuleOn (ofTwo f) (r ∷ []) = none
+realRuleOn (ofTwo f) (r ∷ q ∷ rs) = ontoReal rs (f r q)
 
 -- One step on a stack of real shapes, top first.
 unfoldable pub realStep : (x : Step) → Feed x → List RealShape → Option (List RealShape)
-realStep x f rs = realRuled (realRule x f) rs
+realStep x f rs = realRuleOn (realRule x f) rs
 
 -- A stopped run takes no further step.
 abbrev pub goesOn : Option (List RealShape) → (List RealShape → Option (List RealShape)) → Option (List RealShape)

@@ -18,20 +18,20 @@ use Rattle.machine.specs.SheetLimits.{maxSteps, maxStack}
 use Rattle.machine.specs.Steps.{Step, put, row, pervading, join, validating, Rule, ofNone, ofOne, ofTwo}
 
 -- What a rule answers, the place aside: a value, or the number of a refusal.
-pub data Answer (A : Type 0) : Type 0 where
-  gives : A → Answer A
-  refuses : ℕ → Answer A
+pub data Ruling (A : Type 0) : Type 0 where
+  gives : A → Ruling A
+  refuses : ℕ → Ruling A
 
-abbrev pub following : {A B : Type 0} → Answer A → (A → Answer B) → Answer B
+abbrev pub following : {A B : Type 0} → Ruling A → (A → Ruling B) → Ruling B
 following (gives a) f = f a
 following (refuses k) f = refuses k
 
-abbrev pub orRefuses : {A : Type 0} → Option A → ℕ → Answer A
+abbrev pub orRefuses : {A : Type 0} → Option A → ℕ → Ruling A
 orRefuses none k = refuses k
 orRefuses (some a) k = gives a
 
 -- an outcome, its place aside
-abbrev pub aside : {A : Type 0} → Outcome A → Answer A
+abbrev pub aside : {A : Type 0} → Outcome A → Ruling A
 aside (accepted a) = gives a
 aside (refused k p) = refuses k
 
@@ -64,15 +64,15 @@ stepsLeft st = maxSteps - st .taken
 
 -- ---- the rules
 
-abbrev pub onto : Stack → Answer Ty → Answer Stack
+abbrev pub onto : Stack → Ruling Ty → Ruling Stack
 onto st a = following a λ t. gives (t ∷ st)
 
 -- A pervading's scalar is the union, top first.
-unfoldable pub pervadeTypes : Bool → Bool → Ty → Ty → Answer Ty
+unfoldable pub pervadeTypes : Bool → Bool → Ty → Ty → Ruling Ty
 pervadeTypes f g (ty s k) (ty t l) = following (orRefuses (pervade f g s t) unpervaded) λ x. gives (ty x (union k l))
 
 -- What each step makes of the types that it takes.
-abbrev pub ruleOf : Step → Rule Ty (Answer Ty)
+abbrev pub ruleOf : Step → Rule Ty (Ruling Ty)
 ruleOf (put t) = ofNone (gives t)
 ruleOf row = ofOne λ t. gives (intoRow t)
 ruleOf (pervading f g) = ofTwo λ t u. pervadeTypes f g t u
@@ -81,29 +81,29 @@ ruleOf (validating spec) = ofOne λ t. aside (validate unsided spec t)
 
 -- What it makes is laid on top. What the stack lacks or has no room for is refused here as in the reading of a sheet, where it comes
 -- before the step's bytes (`lacks`, `overfull` in StepsReads).
-abbrev pub ruled : Rule Ty (Answer Ty) → Stack → Answer Stack
-ruled (ofNone a) st = cond (ltb (length st) maxStack) (onto st a) (refuses overflow)
-ruled (ofOne f) [] = refuses underflow
-ruled (ofOne f) (t ∷ st) = onto st (f t)
-ruled (ofTwo f) [] = refuses underflow
-ruled (ofTwo f) (t ∷ []) = refuses underflow
-ruled (ofTwo f) (t ∷ u ∷ st) = onto st (f t u)
+abbrev pub ruleOn : Rule Ty (Ruling Ty) → Stack → Ruling Stack
+ruleOn (ofNone a) st = cond (ltb (length st) maxStack) (onto st a) (refuses overflow)
+ruleOn (ofOne f) [] = refuses underflow
+ruleOn (ofOne f) (t ∷ st) = onto st (f t)
+ruleOn (ofTwo f) [] = refuses underflow
+ruleOn (ofTwo f) (t ∷ []) = refuses underflow
+ruleOn (ofTwo f) (t ∷ u ∷ st) = onto st (f t u)
 
-unfoldable pub step : Step → Stack → Answer Stack
-step x st = ruled (ruleOf x) st
+unfoldable pub step : Step → Stack → Ruling Stack
+step x st = ruleOn (ruleOf x) st
 
 -- One step of a run: its rule, and one step more is taken.
-abbrev pub work : Step → State Stack → Answer (State Stack)
+abbrev pub work : Step → State Stack → Ruling (State Stack)
 work x st = following (step x (st .stack)) λ a. gives (afterStep st a)
 
 -- ---- a list of steps
 
 -- Each step takes what the one before left; the first refusal is the answer. How many were taken is no matter of the rules.
-unfoldable pub steps : List Step → Stack → Answer Stack
+unfoldable pub steps : List Step → Stack → Ruling Stack
 steps [] st = gives st
 steps (x ∷ xs) st = following (step x st) λ st₁. steps xs st₁
 
 -- The types left, bottom first.
-abbrev pub bottomFirst : Answer Stack → Answer (List Ty)
+abbrev pub bottomFirst : Ruling Stack → Ruling (List Ty)
 bottomFirst (gives st) = gives (reverse st)
 bottomFirst (refuses k) = refuses k

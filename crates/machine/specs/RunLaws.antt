@@ -16,7 +16,7 @@ use Rattle.rules.specs.Scalars.{union}
 use Rattle.rules.specs.Types.{joinTypes}
 use Rattle.machine.specs.SheetLimits.{maxStack}
 use Rattle.machine.specs.Steps.{Step, put, pervading, join, flagByte}
-use Rattle.machine.specs.Run.{Answer, gives, refuses, following, orRefuses, aside, Stack, onto, pervadeTypes, step, steps}
+use Rattle.machine.specs.Run.{Ruling, gives, refuses, following, orRefuses, aside, Stack, onto, pervadeTypes, step, steps}
 
 -- ---- flags
 
@@ -55,14 +55,14 @@ unfolding steps
 steps-append [] ys st = refl
 steps-append (x ∷ xs) ys st = go (step x st) (λ st₁. steps-append xs ys st₁)
   where
-    go : (a : Answer Stack) → ((st₁ : Stack) → steps (xs ++ ys) st₁ ≡ following (steps xs st₁) (λ st₂. steps ys st₂))
+    go : (a : Ruling Stack) → ((st₁ : Stack) → steps (xs ++ ys) st₁ ≡ following (steps xs st₁) (λ st₂. steps ys st₂))
         → following a (λ st₁. steps (xs ++ ys) st₁) ≡ following (following a (λ st₁. steps xs st₁)) (λ st₂. steps ys st₂)
     go (gives st₁) h = h st₁
     go (refuses k) h = refl
 
 -- ---- answers
 
-pub following-gives : {A B C : Type 0} (a : Answer A) {f : A → Answer B} {b : B} → following a f ≡ gives b → ((x : A) → a ≡ gives x → f x ≡ gives b → C) → C
+pub following-gives : {A B C : Type 0} (a : Ruling A) {f : A → Ruling B} {b : B} → following a f ≡ gives b → ((x : A) → a ≡ gives x → f x ≡ gives b → C) → C
 following-gives (gives x) e k = k x refl e
 following-gives (refuses n) e k = let z : _≡_ {A = ℕ} 0 1 = cc in absurd (omega arith)
 

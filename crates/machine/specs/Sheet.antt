@@ -15,7 +15,7 @@ use Rattle.format.specs.Outcome.{Outcome, accepted, refused, mapped}
 use Rattle.machine.specs.SheetLimits.{maxStack}
 use Rattle.machine.specs.Steps.{Step, put, row, pervading, join, validating, Opcode, aPut, aRow, aPervading, aJoin, aValidating, opcodeOf, markOf, opcodes, sameMark, takes}
 use Rattle.machine.specs.Steps.{heightPast, maxFlag, fillsTop, fillsBelow}
-use Rattle.machine.specs.Run.{Answer, gives, refuses, Stack, State, fresh, afterStep, stepsLeft, work}
+use Rattle.machine.specs.Run.{Ruling, gives, refuses, Stack, State, fresh, afterStep, stepsLeft, work}
 
 -- ---- one step
 
@@ -28,7 +28,7 @@ opcodeIn [] x y = none
 opcodeIn (c ∷ cs) x y = cond (isMark (markOf c) x y) (some c) (opcodeIn cs x y)
 
 -- a rule's answer; its refusal names the place p
-abbrev pub placed : {A : Type 0} → Answer A → ℕ → Reader A
+abbrev pub placed : {A : Type 0} → Ruling A → ℕ → Reader A
 placed (gives a) p = give a
 placed (refuses k) p = stop k p
 

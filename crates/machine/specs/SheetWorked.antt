@@ -9,33 +9,33 @@ use Rattle.model.specs.Refusals.{overflow}
 use Rattle.format.specs.Reader.{Read, got, stopped, Reader, andThen, _>>=_, stop, here}
 use Rattle.format.specs.ReaderLaws.{split}
 use Rattle.machine.specs.Steps.{Step, opcodeOf, takes, heightPast}
-use Rattle.machine.specs.Run.{Answer, gives, refuses, following, Stack, ruleOf, State, afterStep, onStack, step, work, steps}
+use Rattle.machine.specs.Run.{Ruling, gives, refuses, following, Stack, ruleOf, State, afterStep, onStack, step, work, steps}
 use Rattle.machine.specs.Sheet.{placed, stepFrom, workFrom, sheetMore, skimMore}
 use Rattle.machine.specs.SheetSteps.{placed-got, toEnd-end, toEnd-more}
 use Rattle.machine.specs.RunLaws.{following-gives}
-use Rattle.machine.specs.Ruled.{rule-takes, lays-one, ruled-height}
+use Rattle.machine.specs.RuleOn.{rule-takes, lays-one, ruleOn-height}
 use Rattle.machine.specs.StepsTook.{ended-or, stepAndMore}
 
 -- ---- heights
 
 pub step-height : (x : Step) (st st₁ : Stack) → step x st ≡ gives st₁ → length st₁ ≡ heightPast (opcodeOf x) (length st)
 unfolding step
-step-height x st st₁ e = rw (rule-takes x, lays-one (opcodeOf x)) (ruled-height (ruleOf x) st st₁ e .1)
+step-height x st st₁ e = rw (rule-takes x, lays-one (opcodeOf x)) (ruleOn-height (ruleOf x) st st₁ e .1)
 
 -- A step that its rule works has all the types that it takes.
 pub step-takes : (x : Step) (st st₁ : Stack) → step x st ≡ gives st₁ → takes (opcodeOf x) ≤ length st
 unfolding step
-step-takes x st st₁ e = rw (rule-takes x) (ruled-height (ruleOf x) st st₁ e .0)
+step-takes x st st₁ e = rw (rule-takes x) (ruleOn-height (ruleOf x) st st₁ e .0)
 
 -- ---- the same answer
 
 -- The same answer, the place aside.
-abbrev pub SameAnswer : Answer Stack → Read (State Stack) → Type 0
+abbrev pub SameAnswer : Ruling Stack → Read (State Stack) → Type 0
 SameAnswer (gives a) r = (st : State Stack) × (n : ℕ) × (r ≡ got st n) × (st .stack ≡ a)
 SameAnswer (refuses k) r = (p : ℕ) × (r ≡ stopped k p)
 
 -- the rest of a sheet, after a step's rule has answered
-pub same-after : (s : List ℕ) (n : ℕ) (xs : List Step) (st : State Stack) (a : Answer Stack) (p at : ℕ)
+pub same-after : (s : List ℕ) (n : ℕ) (xs : List Step) (st : State Stack) (a : Ruling Stack) (p at : ℕ)
     → ((b : Stack) → a ≡ gives b → SameAnswer (steps xs b) (sheetMore s n (afterStep st b) at))
     → SameAnswer (following a (λ b. steps xs b)) (andThen (placed (following a (λ b. gives (afterStep st b))) p at) (λ st₁. sheetMore s n st₁))
 same-after s n xs st (gives b) p at k = k b refl

@@ -11,7 +11,7 @@ use Rattle.format.specs.Outcome.{accepted, mapped}
 use Rattle.rules.specs.Lists.{all-reverse}
 use Rattle.machine.specs.SheetLimits.{maxSteps}
 use Rattle.machine.specs.Steps.{Step, SheetOf}
-use Rattle.machine.specs.Run.{Answer, gives, refuses, aside, Stack, State, fresh, steps, bottomFirst}
+use Rattle.machine.specs.Run.{Ruling, gives, refuses, aside, Stack, State, fresh, steps, bottomFirst}
 use Rattle.machine.specs.Sheet.{sheetMore, sheetFrom, skimFrom, outcomeOf, sheetRun, skim}
 use Rattle.machine.specs.WellFormed.{Heights}
 use Rattle.machine.specs.StepsTook.{skim-took}
@@ -19,7 +19,7 @@ use Rattle.machine.specs.SheetWorked.{SameAnswer, accepted-skims}
 use Rattle.machine.specs.StepsReads.{written-worked, written-skims}
 use Rattle.machine.specs.StepsWithin.{steps-within}
 
-same-aside : (a : Answer Stack) (r : Read (State Stack)) → SameAnswer a r → aside (mapped (λ st. reverse (st .stack)) (outcomeOf r)) ≡ bottomFirst a
+same-aside : (a : Ruling Stack) (r : Read (State Stack)) → SameAnswer a r → aside (mapped (λ st. reverse (st .stack)) (outcomeOf r)) ≡ bottomFirst a
 same-aside (gives b) r (st, n, e, w) = rw (e, w)
 same-aside (refuses k) r (p, e) = rw e
 
@@ -50,7 +50,7 @@ skim-steps s xs h k = let (n, e) = written-skims s xs (fresh 0) maxSteps 0 (h .f
 pub left-within : (s : List ℕ) (xs : List Step) (ts : List Ty) → SheetOf s xs → sheetRun s ≡ accepted ts → (steps xs [] ≡ gives (reverse ts)) × All Within ts
 left-within s xs ts h e = go (steps xs []) refl (sym (sheet-steps s xs h) ∙ ap aside e)
   where
-    go : (a : Answer Stack) → steps xs [] ≡ a → bottomFirst a ≡ gives ts → (steps xs [] ≡ gives (reverse ts)) × All Within ts
+    go : (a : Ruling Stack) → steps xs [] ≡ a → bottomFirst a ≡ gives ts → (steps xs [] ≡ gives (reverse ts)) × All Within ts
     go (refuses k) f e = let z : _≡_ {A = ℕ} 0 1 = cc in absurd (omega arith)
     go (gives st) f e =
         let w : reverse st ≡ ts = cc in

@@ -20,7 +20,7 @@ use Rattle.machine.specs.Steps.{flagByte, maxFlag, fillsTop, fillsBelow,
 use Rattle.machine.specs.Run.{gives, refuses, Stack, ruleOf, State, afterStep, step, work, steps}
 use Rattle.machine.specs.Sheet.{placed, opcodeFrom, argumentFrom, stepFrom, workFrom, sheetMore, skimMore}
 use Rattle.machine.specs.WellFormed.{Heights}
-use Rattle.machine.specs.Ruled.{rule-takes, lays-one, ruled-lacks, ruled-full}
+use Rattle.machine.specs.RuleOn.{rule-takes, lays-one, ruleOn-lacks, ruleOn-full}
 use Rattle.machine.specs.Opcodes.{mark-two, takes-few, lays-few}
 use Rattle.machine.specs.SheetWorked.{SameAnswer, same-after, step-height, workAndMore}
 use Rattle.machine.specs.SheetSteps.{toEnd-end, toEnd-more, work-rule}
@@ -70,11 +70,11 @@ module _ (s : List ℕ) where
 -- A step that lacks types, and one that lays down one too many, is refused by its rule with the number that the reading gives.
 lacks : (x : Step) (st : Stack) → length st < takes (opcodeOf x) → step x st ≡ refuses underflow
 unfolding step
-lacks x st h = ruled-lacks (ruleOf x) st (omega (arith, rule-takes x))
+lacks x st h = ruleOn-lacks (ruleOf x) st (omega (arith, rule-takes x))
 
 overfull : (x : Step) (st : Stack) → length st ≤ maxStack → takes (opcodeOf x) ≤ length st → maxStack < heightPast (opcodeOf x) (length st) → step x st ≡ refuses overflow
 unfolding step
-overfull x st h k l = ruled-full (ruleOf x) st h (omega (arith, rule-takes x)) (omega (arith, rule-takes x, lays-one (opcodeOf x)))
+overfull x st h k l = ruleOn-full (ruleOf x) st h (omega (arith, rule-takes x)) (omega (arith, rule-takes x, lays-one (opcodeOf x)))
 
 -- what an accepted step leaves is not too high
 pub step-room : (x : Step) (st st₁ : Stack) → length st ≤ maxStack → step x st ≡ gives st₁ → length st₁ ≤ maxStack

@@ -27,7 +27,7 @@ use Rattle.machine.specs.Steps.{Step, put, row, pervading, join, validat
 use Rattle.machine.specs.Run.{gives, orRefuses, Stack, pervadeTypes, ruleOf, step, steps}
 use Rattle.machine.specs.Call.{writeTypes}
 use Rattle.machine.specs.RunLaws.{following-gives, orRefuses-gives, aside-gives}
-use Rattle.machine.specs.Ruled.{Makes, ruled-makes}
+use Rattle.machine.specs.RuleOn.{Makes, ruleOn-makes}
 
 -- ---- one step
 
@@ -52,7 +52,7 @@ rule-within (validating spec) w = λ t y v e. aside-gives (validate unsided spec
 
 step-within : (x : Step) (st st₁ : Stack) → StepWithin x → All Within st → step x st ≡ gives st₁ → All Within st₁
 unfolding step
-step-within x st st₁ w h e = ruled-makes Within (ruleOf x) st st₁ (rule-within x w) h e
+step-within x st st₁ w h e = ruleOn-makes Within (ruleOf x) st st₁ (rule-within x w) h e
 
 -- ---- all steps
 

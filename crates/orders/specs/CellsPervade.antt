@@ -13,7 +13,7 @@ use Rattle.rules.specs.Pervade.{againstAbsent, together, Pervaded, sizes, clash
 use Rattle.rules.specs.PervadeLaws.{together-unknown, together-unfilled, together-comm, thenRest-sizes}
 use Rattle.machine.specs.Real.{RealShape, realDim, consBoth, realPervade}
 use Rattle.orders.specs.Cells.{unnamed, differ, cell, namedIn, joinNamed, joinCell, cellStatic, cellOf, namedBy, joinNamed-comm, joinCell-comm}
-use Rattle.holding.specs.PervadeHolds.{consBoth-some}
+use Rattle.machine.specs.RealLaws.{consBoth-some}
 
 -- ---- pervading joins cells
 

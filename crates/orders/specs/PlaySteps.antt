@@ -13,7 +13,7 @@ use Rattle.model.specs.Within.{All}
 use Rattle.rules.specs.Pervade.{pervade}
 use Rattle.rules.specs.Scalars.{union}
 use Rattle.machine.specs.Steps.{Step, put, row, pervading, join, validating, aJoin, isA, putBy}
-use Rattle.machine.specs.Run.{Answer, gives, refuses, following, orRefuses, Stack, onto, steps}
+use Rattle.machine.specs.Run.{Ruling, gives, refuses, following, orRefuses, Stack, onto, steps}
 use Rattle.machine.specs.WellFormed.{heightAfter, Heights}
 use Rattle.machine.specs.Real.{RealShape, realPervade, FeedOf, Feeds, realStep, ontoReal, goesOn, realRun}
 use Rattle.machine.specs.Conditions.{PutOrPervade, withPut, puts}
@@ -47,11 +47,11 @@ laid-moves (x ∷ xs) = go (putBy x) (laid-moves xs)
     go none e = e
     go (some t) e = ap (λ l. shapeOf t ∷ l) e
 
-abbrev pub shapes : Answer Stack → Answer (List Shape)
+abbrev pub shapes : Ruling Stack → Ruling (List Shape)
 shapes (gives st) = gives (map shapeOf st)
 shapes (refuses k) = refuses k
 
-abbrev pub playedOut : Option (List Shape) → Answer (List Shape)
+abbrev pub playedOut : Option (List Shape) → Ruling (List Shape)
 playedOut none = refuses unpervaded
 playedOut (some l) = gives l
 

@@ -12,7 +12,7 @@ use Rattle.model.specs.Types.{Shape, Ty, shapeOf}
 use Rattle.model.specs.Within.{All}
 use Rattle.rules.specs.Pervade.{pervade}
 use Rattle.machine.specs.Steps.{Step}
-use Rattle.machine.specs.Run.{Answer, gives, refuses, Stack, steps}
+use Rattle.machine.specs.Run.{Ruling, gives, refuses, Stack, steps}
 use Rattle.machine.specs.WellFormed.{typesLeft, Heights}
 use Rattle.machine.specs.Real.{RealShape, realPervade, Feeds, realRun, Through}
 use Rattle.orders.specs.Cells.{unnamed, differ, namedIn, cell, cell-sure, real-sure}
@@ -34,13 +34,13 @@ pub data Gathered (xs : List Step) : Type 0 where
   agrees : (t : Ty) → steps xs [] ≡ gives (t ∷ []) → play (pervade false false) (moves xs) [] ≡ some (shapeOf t ∷ []) → ((i : ℕ) → cellAt i (shapeOf t) ≡ said i (laidDown (moves xs))) → Gathered xs
   differs : (i : ℕ) → steps xs [] ≡ refuses unpervaded → asked i (laidDown (moves xs)) ≡ differ → Gathered xs
 
-one-type : {C : Type 0} (a : Answer Stack) (x : Shape) → shapes a ≡ gives (x ∷ []) → ((t : Ty) → a ≡ gives (t ∷ []) → shapeOf t ≡ x → C) → C
+one-type : {C : Type 0} (a : Ruling Stack) (x : Shape) → shapes a ≡ gives (x ∷ []) → ((t : Ty) → a ≡ gives (t ∷ []) → shapeOf t ≡ x → C) → C
 one-type (refuses k) x e f = let z : _≡_ {A = ℕ} 0 1 = cc in absurd (omega arith)
 one-type (gives []) x e f = let z : _≡_ {A = ℕ} 0 1 = cc in absurd (omega arith)
 one-type (gives (t ∷ [])) x e f = f t refl (cc)
 one-type (gives (t ∷ u ∷ st)) x e f = let z : _≡_ {A = ℕ} 0 1 = cc in absurd (omega arith)
 
-no-type : (a : Answer Stack) → shapes a ≡ refuses unpervaded → a ≡ refuses unpervaded
+no-type : (a : Ruling Stack) → shapes a ≡ refuses unpervaded → a ≡ refuses unpervaded
 no-type (refuses k) e = let w : k ≡ unpervaded = cc in rw w
 no-type (gives st) e = let z : _≡_ {A = ℕ} 0 1 = cc in absurd (omega arith)
 

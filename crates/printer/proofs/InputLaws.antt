@@ -62,7 +62,8 @@ module _ (buf : List ℕ) (count : ℕ) (result scratch out : List ℕ) where
   prints-nothing Nothing h = absurd (miss (2 ∷ []) 1 tt h)
   prints-nothing Failed h = (refl, refl, refl)
 
-  module _ (result₁ scratch₁ out₁ : List ℕ) {r : ℕ} (wide : programBytes < length buf) (laid : Laid r 0 out out₁ (printed (take count buf))) (left : buffers result₁ scratch₁ ≡ leaves (programCall (take count buf) result scratch)) where
+  module _ (result₁ scratch₁ out₁ : List ℕ) {r : ℕ} (wide : programBytes < length buf)
+      (laid : Laid r 0 out out₁ (printed (take count buf))) (left : buffers result₁ scratch₁ ≡ leaves (programCall (take count buf) result scratch)) where
     text-of : {input : List ℕ} → Alike (take count buf) input → TextOf input (Text r) result result₁ scratch scratch₁ out out₁
     text-of a =
         record {

@@ -11,7 +11,7 @@ use Rattle.model.specs.Refusals.{tooShort}
 use Rattle.model.specs.Types.{Ty}
 use Rattle.format.specs.Reader.{Bytes}
 use Rattle.format.specs.Outcome.{Outcome, accepted, refused}
-use Rattle.machine.specs.SheetLimits.{scratchBytes, programBytes}
+use Rattle.machine.specs.SheetLimits.{scratchBytes, resultBytes, programBytes}
 use Rattle.machine.specs.Sheet.{sheetRun}
 use Rattle.machine.specs.Call.{called, writeTypes, zeroed, sheetCall}
 use Rattle.machine.specs.CallLaws.{Few, run-few}
@@ -45,7 +45,7 @@ module _ (s : List ℕ) where
 
   module _ (small : Bytes s) where
     -- With room in both buffers no refusal is for want of it.
-    roomy-run : (result scratch : ℕ) → scratchBytes ≤ result → scratchBytes ≤ scratch → callOutcome s result scratch ≡ sheetRun s
+    roomy-run : (result scratch : ℕ) → resultBytes ≤ result → scratchBytes ≤ scratch → callOutcome s result scratch ≡ sheetRun s
     unfolding callOutcome
     roomy-run result scratch wide enough = rw (le-ltb scratch scratchBytes enough) (by (sheetRun s) refl)
       where
@@ -78,8 +78,9 @@ module _ (s : List ℕ) where
           left = ap (buffers result) z ∙ ap leaves (sym (call-long result scratch h));
         }
 
-    module _ {result₁ : List ℕ} (small : Bytes s) (wide : scratchBytes ≤ length result) (enough : scratchBytes ≤ length scratch) where
-      pub done-run : length s ≤ programBytes → Reports lineFeed r d d₁ (callOutcome s (length result) (length scratch)) → buffers result₁ scratch₁ ≡ leaves (sheetCall s result scratch) → Done r result result₁ scratch scratch₁ d d₁
+    module _ {result₁ : List ℕ} (small : Bytes s) (wide : resultBytes ≤ length result) (enough : scratchBytes ≤ length scratch) where
+      pub done-run : length s ≤ programBytes → Reports lineFeed r d d₁ (callOutcome s (length result) (length scratch))
+          → buffers result₁ scratch₁ ≡ leaves (sheetCall s result scratch) → Done r result result₁ scratch scratch₁ d d₁
       done-run h l k =
           record {
             laid = subst (Reports lineFeed r d d₁) (roomy-run small _ _ wide enough ∙ sym (outcome-run h)) l;

@@ -18,7 +18,7 @@ use Rattle.machine.specs.Call.{Tally, tally, Called, called, writeTypes, zeroed
 use Rattle.machine.specs.CallLaws.{LeftBy, call-left}
 use Rattle.report.specs.Laid.{Laid}
 use Rattle.report.specs.Left.{LeftIs, Left}
-use Rattle.report.specs.Report.{reported, fitting, callOutcome}
+use Rattle.report.specs.Report.{reported, ifRoom, callOutcome}
 use Rattle.report.specs.Room.{numberRoom, textRoom}
 use Rattle.run.specs.Answers.{Measures, calledOf}
 use Rattle.run.specs.declared.SheetAnswer.{SheetAnswer}
@@ -50,7 +50,7 @@ module _ (s result scratch : List ℕ) where
       fits ts false = refl
 
       by : (b : Bool) (o : Outcome (List Ty)) → answerOf (cond b (called (refused tooShort 0) result scratch) (handOver (length s) o result (zeroed scratch)))
-          ≡ mapped tallied (cond b (refused tooShort 0) (fitting (length s) (length result) o))
+          ≡ mapped tallied (cond b (refused tooShort 0) (ifRoom (length s) (length result) o))
       by true o = refl
       by false (accepted ts) = fits ts (leb (length (writeTypes ts)) (length result))
       by false (refused k p) = refl
@@ -64,7 +64,7 @@ module _ (s result scratch : List ℕ) where
       fits true e = let x : ts ≡ us = cc in sym x
       fits false e = let z : _≡_ {A = ℕ} 0 1 = cc in absurd (omega arith)
 
-      by : (b : Bool) → cond b (refused tooShort 0) (fitting (length s) (length result) (accepted ts)) ≡ accepted us → us ≡ ts
+      by : (b : Bool) → cond b (refused tooShort 0) (ifRoom (length s) (length result) (accepted ts)) ≡ accepted us → us ≡ ts
       by true e = let z : _≡_ {A = ℕ} 0 1 = cc in absurd (omega arith)
       by false e = fits (leb (length (writeTypes ts)) (length result)) e
 

@@ -20,7 +20,7 @@ ghost use Rattle.machine.specs.Call.{sheetCall};
 ghost use Rattle.machine.specs.SheetLimits.{maxStack, scratchBytes, resultBytes, programBytes};
 ghost use Rattle.printer.specs.Input.{Prints, Inside};
 ghost use Rattle.report.specs.Laid.{Laid};
-ghost use Rattle.report.specs.Report.{lineFeed, reported, callOutcome, programOutcome, printed, buffers, leaves, programCall};
+ghost use Rattle.report.specs.Report.{lineFeed, reported, callOutcome, programOutcome, printed, buffers, buffersOf, programCall};
 ghost use Rattle.report.specs.Room.{textRoom, printRoom};
 ghost use Rattle.streams.specs.Streams.{ToTheEnd};
 
@@ -68,7 +68,7 @@ fn print_sheet(sheet: &[u8], result: &mut [u8], scratch: &mut [u8], out: &mut [u
     requires { ⌜ scratchBytes ≤ length (now scratch) ⌝ }
     requires { ⌜ printRoom ≤ length (now out) ⌝ }
     ensures { λ r. ⌜ Laid r 0 (now (out .entry)) (now (out .exit)) (printed (now (sheet .entry))) × (r ≤ length (now (out .exit))) ⌝ }
-    ensures { λ r. ⌜ buffers (now (result .exit)) (now (scratch .exit)) ≡ leaves (programCall (now (sheet .entry)) (now (result .entry)) (now (scratch .entry))) ⌝ }
+    ensures { λ r. ⌜ buffers (now (result .exit)) (now (scratch .exit)) ≡ buffersOf (programCall (now (sheet .entry)) (now (result .entry)) (now (scratch .entry))) ⌝ }
 {
     let end = put_outcome(sheet, result, scratch, &mut *out);
     put(b"\n", out, end)
@@ -80,7 +80,7 @@ fn put_outcome(sheet: &[u8], result: &mut [u8], scratch: &mut [u8], out: &mut [u
     requires { ⌜ scratchBytes ≤ length (now scratch) ⌝ }
     requires { ⌜ printRoom ≤ length (now out) ⌝ }
     ensures { λ r. ⌜ Laid r 0 (now (out .entry)) (now (out .exit)) (reported lineFeed (programOutcome (now (sheet .entry)))) ⌝ }
-    ensures { λ r. ⌜ buffers (now (result .exit)) (now (scratch .exit)) ≡ leaves (programCall (now (sheet .entry)) (now (result .entry)) (now (scratch .entry))) ⌝ }
+    ensures { λ r. ⌜ buffers (now (result .exit)) (now (scratch .exit)) ≡ buffersOf (programCall (now (sheet .entry)) (now (result .entry)) (now (scratch .entry))) ⌝ }
 {
     if MAX_SHEET < sheet.len() {
         clear(scratch);
@@ -99,7 +99,7 @@ pub fn put_call(
 ) -> usize
     requires { ⌜ textRoom (length (now between)) maxStack resultBytes ≤ length (now out) ⌝ }
     ensures { λ r. ⌜ Laid r 0 (now (out .entry)) (now (out .exit)) (reported (now (between .entry)) (callOutcome (now (sheet .entry)) (length (now (result .entry))) (length (now (scratch .entry))))) ⌝ }
-    ensures { λ r. ⌜ buffers (now (result .exit)) (now (scratch .exit)) ≡ leaves (sheetCall (now (sheet .entry)) (now (result .entry)) (now (scratch .entry))) ⌝ }
+    ensures { λ r. ⌜ buffers (now (result .exit)) (now (scratch .exit)) ≡ buffersOf (sheetCall (now (sheet .entry)) (now (result .entry)) (now (scratch .entry))) ⌝ }
 {
     let mut lengths = [0usize; MAX_STACK];
     let answer = measure_sheet(sheet, &mut *result, scratch, &mut lengths);

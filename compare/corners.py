@@ -10,7 +10,8 @@ import sys
 
 sys.dont_write_bytecode = True
 
-from records import LARGEST, LENT, LINE, UNKNOWN, boxed, full, kind, largest, named, nested, of, word
+from limits import LARGEST, LENT, LINE, SCRATCH, SHEET, STACK, UNKNOWN
+from records import boxed, full, kind, largest, named, nested, of, word
 
 BOOL, NAT, INT, NUM, COMPLEX, ASCII, CHAR, STREAM = KINDS = [kind(code) for code in range(8)]
 ANY = kind(9)
@@ -396,24 +397,24 @@ def buffers():
     """A short scratch first of all, a short result last of all."""
     three, good = num("3"), put(num("3"), ty("", CHAR))
     for steps, left in ((b"", 0), (good, 22), (good + ROW, 22), (good + PERVADE, 15), (put(three) * 8, 120), (b"XX", 0), (put(three) * 9, 0), (put(three) + ROW * 64, 0)):
-        for scratch in (0, 1, 39935, 39936, 39937, LENT):
+        for scratch in (0, 1, SCRATCH - 1, SCRATCH, SCRATCH + 1, LENT):
             yield from (sheet_call(scratch, result, steps) for result in (0, left - 1, left, left + 1, LENT) if result >= 0)
-    whole = put(largest()) * 8
-    for scratch, result in ((39936, 39936), (39936, 39935)):
-        yield sheet_call(scratch, result, whole)
+    whole = put(largest()) * STACK
+    for result in (SCRATCH, SCRATCH - 1):
+        yield sheet_call(SCRATCH, result, whole)
     # the program's own limit
-    yield sheet(bytes(49153))
+    yield sheet(bytes(SHEET + 1))
 
 
 def sheet_lines():
     """What these requests' lines may lack or have too much of."""
     good = word(put(num("3")))
     yield from ("sheet", "sheet ", "sheet  -", "sheet - ", "sheet - -", "sheet 5", "sheet g0", "sheets -", f"sheet {good.upper()}", f"sheet {good} {good}")
-    for rest in ("", " ", " 0", " 0 0", " 0 0 ", " 0 0 - -", " 0  0 -", f" 39936 15 {good} {good}", " x x g", " 0 x g", " 0 0 g", " 0 0 5", " - 0 -", " ? 0 -", " 0 ? -"):
+    for rest in ("", " ", " 0", " 0 0", " 0 0 ", " 0 0 - -", " 0  0 -", f" {SCRATCH} 15 {good} {good}", " x x g", " 0 x g", " 0 0 g", " 0 0 5", " - 0 -", " ? 0 -", " 0 ? -"):
         yield "sheet_call" + rest
-    for number in ("39936", "039936", "65536", "65537", str(2**64 - 1), str(2**64), "-1", "+1", "0x9c00"):
+    for number in (str(SCRATCH), f"0{SCRATCH}", str(LENT), str(LENT + 1), str(2**64 - 1), str(2**64), "-1", "+1", f"{SCRATCH:#x}"):
         yield f"sheet_call {number} 15 {good}"
-        yield f"sheet_call 39936 {number} {good}"
+        yield f"sheet_call {SCRATCH} {number} {good}"
 
 
 # ---- bytes that are no types, and lines

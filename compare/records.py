@@ -7,12 +7,9 @@ the program's limit; and the corners of a line. The last line has no line feed, 
 
 import sys
 
-UNKNOWN = 2**64 - 1
-LARGEST = 2**53
-LINE = 131072
-LENT = 65536
-SHEET = 49152
-SCRATCH = 39936
+sys.dont_write_bytecode = True
+
+from limits import LARGEST, LENT, LINE, SCRATCH, SHEET, SIZES, UNKNOWN
 
 
 # ---- records, by hand: counts, codes and names may be out of range
@@ -59,7 +56,7 @@ def nested(levels):
 
 def full(inside):
     """The longest shape."""
-    return of(inside, [LARGEST] * 8, [UNKNOWN] * 8)
+    return of(inside, [LARGEST] * SIZES, [UNKNOWN] * SIZES)
 
 
 def largest():

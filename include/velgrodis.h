@@ -35,13 +35,14 @@ extern "C" {
 #define VG_MAX_DEPTH 8                              /* depth of a type; the outermost is at depth 1 */
 #define VG_MAX_STACK 8                              /* types on a sheet's stack */
 #define VG_MAX_STEPS 64                             /* steps of a sheet */
+#define VG_PROGRAM_SHEET_BYTES 49152                /* bytes of a sheet that the program `sheet` reads; a call has no such limit */
 
-/* Bytes that always suffice: for a type, a shape's record or a scalar's; for the list of vg_as_boxes; for the types that a sheet
- * leaves. The sheet check asks for a scratch of VG_SCRATCH_BYTES at least. */
+/* Bytes that always suffice: for a type, a shape's record or a scalar's; for the list of vg_as_boxes, a name's length and a count
+ * before the types; for the types that a sheet leaves. The sheet check asks for a scratch of VG_SCRATCH_BYTES at least. */
 #define VG_TYPE_BYTES 4992
-#define VG_BOXES_BYTES 154754
-#define VG_SHEET_RESULT_BYTES 39936
-#define VG_SCRATCH_BYTES 39936
+#define VG_BOXES_BYTES (2 + VG_MAX_FIELDS * VG_TYPE_BYTES)
+#define VG_SHEET_RESULT_BYTES (VG_MAX_STACK * VG_TYPE_BYTES)
+#define VG_SCRATCH_BYTES (VG_MAX_STACK * VG_TYPE_BYTES)
 
 /* ---- answers --------------------------------------------------------------------------------------------------------------- */
 

@@ -17,6 +17,8 @@ mod generate;
 #[path = "../oracle/invent.rs"]
 mod invent;
 mod library;
+#[path = "../oracle/limits.rs"]
+mod limits;
 #[path = "../oracle/requests.rs"]
 mod requests;
 #[path = "../oracle/rules.rs"]

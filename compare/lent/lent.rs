@@ -15,6 +15,8 @@ mod generate;
 #[path = "../oracle/invent.rs"]
 mod invent;
 mod library;
+#[path = "../oracle/limits.rs"]
+mod limits;
 #[path = "../oracle/requests.rs"]
 mod requests;
 #[path = "../oracle/rules.rs"]
@@ -311,8 +313,8 @@ impl Both {
 
     /// The call with buffers of several lengths.
     fn sheet(&mut self, r: &mut Random, sheet: &[u8], turned: fn(&str) -> Expected) {
-        let line = format!("sheet_call {SCRATCH} {} {}", requests::LENT, hex_word(sheet));
-        if line.len() > requests::LINE {
+        let line = format!("sheet_call {SCRATCH} {} {}", limits::LENT, hex_word(sheet));
+        if line.len() > limits::LINE {
             return;
         }
         let accepted = turned(&requests::answer(line.as_bytes()));
@@ -400,7 +402,7 @@ fn line(r: &mut Random, request: &str) -> String {
         _ if request == "as_boxes" && r.one_in(50) => format!("{request} {}", hex_word(&copies(r))),
         requests::Call::Written(_) => {
             let ty = rest.rsplit(' ').next().expect("a type");
-            format!("{request} {} {ty}", requests::LENT)
+            format!("{request} {} {ty}", limits::LENT)
         }
         _ => format!("{request}{rest}"),
     }

@@ -1,9 +1,10 @@
 //! The calls of libvelgrodis.a, as include/velgrodis.h declares them, one table of them by what they take.
 
 use crate::expected::{self, Expected};
+use crate::limits::BUFFER;
 
 /// Bytes that the sheet check asks for as a scratch.
-pub const SCRATCH: usize = 39_936;
+pub const SCRATCH: usize = BUFFER;
 
 /// The answer of every call. The kind is 0 for a refusal, 1 for a value, 2 for none.
 #[repr(C)]

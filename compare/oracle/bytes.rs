@@ -1,15 +1,8 @@
-//! Types as bytes: the reader, the writer and the limits (document 01, "Record bytes" and
-//! "Thirteen ways of saying no").
+//! Types as bytes: the reader and the writer (document 01, "Record bytes" and "Thirteen ways of saying no").
 
+use crate::limits::{COPIES, DEPTH, LARGEST, NAME, SIZES, TYPES, UNKNOWN};
 use crate::uiua::{Dim, DynShape, Scalar, ScalarBox, Type};
 
-pub const SIZES: usize = 8;
-pub const TYPES: usize = 32;
-pub const DEPTH: usize = 8;
-pub const COPIES: usize = 31;
-pub const NAME: usize = 16;
-pub const LARGEST: usize = 1 << 53;
-const UNKNOWN: u64 = u64::MAX;
 const NONE: u8 = 255;
 
 const SHAPE: [u8; 2] = *b"SH";

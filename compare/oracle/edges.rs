@@ -6,7 +6,8 @@ use std::io::Result;
 use crate::bytes::{KINDS, scalar_bytes, shape_bytes, type_bytes};
 use crate::generate::{Lines, SIDES, hex_word, put, validate};
 use crate::invent::{self, BYTES, EDGE_SIZES, NUMBERS};
-use crate::requests::{Call, LENT, LINE, REQUESTS, hex, size};
+use crate::limits::{BUFFER, INPUT, LENT, LINE, PLACES};
+use crate::requests::{Call, REQUESTS, hex, size};
 use crate::sheet;
 use crate::uiua::{Dim, DynShape, Scalar, ScalarBox, Type};
 
@@ -154,13 +155,13 @@ fn sheets(out: &mut Lines) -> Result<()> {
             sheet(&[&put(&num(3)).repeat(height), step].concat())?;
         }
     }
-    [sheet::INPUT, sheet::INPUT + 1].iter().try_for_each(|&length| sheet(&vec![0; length]))
+    [INPUT, INPUT + 1].iter().try_for_each(|&length| sheet(&vec![0; length]))
 }
 
 /// Lent buffers of every interesting length.
 fn buffers(out: &mut Lines) -> Result<()> {
-    let full = put(&invent::largest()).repeat(sheet::PLACES);
-    let lengths = [0, 39_935, 39_936, 39_937, LENT as usize];
+    let full = put(&invent::largest()).repeat(PLACES);
+    let lengths = [0, BUFFER - 1, BUFFER, BUFFER + 1, LENT as usize];
     for (scratch, result) in lengths.iter().flat_map(|a| lengths.map(|b| (a, b))) {
         for bytes in [&full[..], &sample_sheet(), b"", b"XX"] {
             out.line("sheet_call", format!(" {scratch} {result} {}", hex_word(bytes)))?;

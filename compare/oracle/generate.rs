@@ -4,7 +4,8 @@ use std::io::{BufWriter, Result, StdoutLock, Write, stdout};
 
 use crate::bytes::type_bytes;
 use crate::invent::{self, Random};
-use crate::requests::{Call, LENT, LINE, REQUESTS, hex, size};
+use crate::limits::{LENT, LINE, PLACES};
+use crate::requests::{Call, REQUESTS, hex, size};
 use crate::uiua::Type;
 use crate::{edges, sheet, specs};
 
@@ -169,7 +170,7 @@ fn step(r: &mut Random, stack: &[Type]) -> Vec<u8> {
         8..11 => validate(&specs::loosened(r, top)),
         11 => validate(&invent::related(r, top)),
         12..22 if stack.len() > 1 => on_two(r),
-        22..30 if stack.len() == sheet::PLACES => on_two(r),
+        22..30 if stack.len() == PLACES => on_two(r),
         22..26 => put(&invent::related(r, top)),
         _ => put(&invent::resized(r, top)),
     }

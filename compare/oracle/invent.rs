@@ -1,6 +1,7 @@
 //! Invented types, pairs of types and numbers, and damage done to bytes.
 
-use crate::bytes::{COPIES, DEPTH, KINDS, LARGEST, TYPES, depth, type_bytes, types};
+use crate::bytes::{KINDS, depth, type_bytes, types};
+use crate::limits::{COPIES, DEPTH, LARGEST, SIZES, TYPES};
 use crate::uiua::{Dim, DynShape, Scalar, ScalarBox, Type};
 
 /// Numbers from a seed (splitmix64).
@@ -105,7 +106,7 @@ pub fn nested(ty: Type, levels: usize) -> Type {
 
 /// The type whose bytes are the most: 4,992.
 pub fn largest() -> Type {
-    let full = DynShape { dims: vec![Dim::Dyn; 8], suffix: Some(vec![Dim::Static(3); 8]) };
+    let full = DynShape { dims: vec![Dim::Dyn; SIZES], suffix: Some(vec![Dim::Static(3); SIZES]) };
     let with = |fields| Type { shape: full.clone(), ..def(Some(LONG_NAME), fields) };
     with(vec![with(Vec::new()); COPIES])
 }

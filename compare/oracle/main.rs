@@ -7,6 +7,7 @@ mod bytes;
 mod edges;
 mod generate;
 mod invent;
+mod limits;
 mod requests;
 mod rules;
 mod sheet;

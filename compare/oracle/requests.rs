@@ -3,13 +3,12 @@
 use std::cmp::Ordering;
 use std::fmt::Write;
 
-use crate::bytes::{LARGEST, No, def_bytes, no, read_lone, scalar_bytes, shape_bytes, type_bytes};
+use crate::bytes::{No, def_bytes, no, read_lone, scalar_bytes, shape_bytes, type_bytes};
+use crate::limits::{LARGEST, LENT, LINE};
 use crate::standins::SubSide;
 use crate::uiua::{Dim, DynShape, Scalar, Type, TypeVal};
 use crate::{rules, sheet};
 
-pub const LINE: usize = 131_072;
-pub const LENT: u64 = 65_536;
 const NAN_BITS: u64 = 0x7ff8_0000_0000_0000;
 
 type Answer = Result<String, No>;

@@ -1,6 +1,7 @@
 //! The rules, each answered by the cut Rust; here only the limits and refusals around them.
 
-use crate::bytes::{COPIES, DEPTH, LARGEST, No, SIZES, TYPES, depth, no, types};
+use crate::bytes::{No, depth, no, types};
+use crate::limits::{COPIES, DEPTH, LARGEST, SIZES, TYPES};
 use crate::standins::{SubSide, stop_after};
 use crate::uiua::{
     Dim, DynShape, Scalar, ScalarBox, Type, TypeError, TypeResult, TypeVal, check_scalar,

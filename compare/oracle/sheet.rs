@@ -1,13 +1,9 @@
-//! The sheet: up to 64 steps on a stack of eight types (document 01, "The sheet, added").
+//! The sheet: steps on a stack of types (document 01, "The sheet, added").
 
 use crate::bytes::{No, Reader, no, type_bytes};
+use crate::limits::{BUFFER, INPUT, PLACES, STEPS};
 use crate::rules;
 use crate::uiua::Type;
-
-pub const STEPS: usize = 64;
-pub const PLACES: usize = 8;
-pub const INPUT: usize = 49_152;
-pub const BUFFER: usize = 39_936;
 
 pub const PUT: [u8; 2] = *b"PU";
 pub const ROW: [u8; 2] = *b"RW";

@@ -1,9 +1,10 @@
 //! A spec and a type to hold against it: many pass, many fail deep inside, many grow.
 
-use crate::bytes::{COPIES, DEPTH, KINDS, LARGEST, TYPES, types};
+use crate::bytes::{KINDS, types};
 use crate::invent::{
     Random, all, closing, def, limited, name, nested, pair, related, shape, size, ty, type_at,
 };
+use crate::limits::{COPIES, DEPTH, LARGEST, TYPES};
 use crate::uiua::{Dim, DynShape, Scalar, ScalarBox, Type};
 
 pub fn spec_and_type(r: &mut Random) -> (Type, Type) {

@@ -38,5 +38,5 @@ pub fn changed() -> TypeResult {
 /// The number of copies to make: 32 of them in a type are already too many, so 2^53 need not be
 /// made to find that out.
 pub fn capped(copies: usize) -> usize {
-    copies.min(crate::bytes::TYPES)
+    copies.min(crate::limits::TYPES)
 }

@@ -6,10 +6,8 @@
 #include <stdio.h>
 #include "velgrodis.h"
 
-/* Bytes of a sheet that the program `sheet` reads; a longer one it refuses 7 at 0. The library has no such limit. */
-#define SHEET_BYTES 49152
-
-static uint8_t sheet[SHEET_BYTES + 1];
+/* One byte more than the program `sheet` reads: a longer sheet it refuses 7 at 0. */
+static uint8_t sheet[VG_PROGRAM_SHEET_BYTES + 1];
 static uint8_t result[VG_SHEET_RESULT_BYTES];
 static uint8_t scratch[VG_SCRATCH_BYTES];
 
@@ -42,7 +40,7 @@ static void print_types(uint64_t count, size_t bytes)
 static void print_answer(size_t length)
 {
     vg_answer answer;
-    if (length > SHEET_BYTES) {
+    if (length > VG_PROGRAM_SHEET_BYTES) {
         print_refusal(VG_TOO_SHORT, 0);
         return;
     }

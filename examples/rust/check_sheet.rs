@@ -5,10 +5,7 @@ mod velgrodis;
 
 use std::io::Write;
 use std::process::ExitCode;
-use velgrodis::{check_sheet, read, Refusal, SCRATCH_BYTES};
-
-/// Bytes of a sheet that the program `sheet` reads; a longer one it refuses 7 at 0. The library has no such limit.
-const SHEET_BYTES: usize = 49152;
+use velgrodis::{check_sheet, read, Refusal, PROGRAM_SHEET_BYTES, SCRATCH_BYTES};
 
 /// The length of the first of the types that stand one after the other: all bytes, or those before the first extra one.
 fn first_length(types: &[u8]) -> usize {
@@ -22,7 +19,7 @@ fn first_length(types: &[u8]) -> usize {
 fn report(sheet: &[u8]) -> String {
     let mut result = vec![0u8; SCRATCH_BYTES];
     let mut scratch = vec![0u8; SCRATCH_BYTES];
-    let checked = if sheet.len() > SHEET_BYTES {
+    let checked = if sheet.len() > PROGRAM_SHEET_BYTES {
         Err(Refusal { number: 7, place: 0 })
     } else {
         check_sheet(sheet, &mut result, &mut scratch)

@@ -1,8 +1,15 @@
 //! The calls of libvelgrodis.a that the example needs, each as a safe function: a slice's pointer and length are true, and Rust lends
 //! nothing to be written twice. The other calls of include/velgrodis.h are declared alike.
 
+/// Types on a sheet's stack, and bytes that suffice for any of them.
+const MAX_STACK: usize = 8;
+const TYPE_BYTES: usize = 4992;
+
 /// Bytes that the sheet check asks for as a scratch; as many always suffice for its result.
-pub const SCRATCH_BYTES: usize = 39936;
+pub const SCRATCH_BYTES: usize = MAX_STACK * TYPE_BYTES;
+
+/// Bytes of a sheet that the program `sheet` reads; a longer one it refuses 7 at 0. The library has no such limit.
+pub const PROGRAM_SHEET_BYTES: usize = 49152;
 
 #[repr(C)]
 struct Answer {

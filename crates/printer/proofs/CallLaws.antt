@@ -1,53 +1,28 @@
--- From the answer that hosts get of the sheet check to the call's outcome, and the types left as their bytes stand in the result.
+-- From what the sheet check answered to the call's outcome, and the types left as their bytes stand in the result.
 use Prim.Native.Nat.{ℕ, _+_, _*_, _≤_}
 use native.Mathlib.Omega.{arith}
 use native.Mathlib.Nat.{mul-le-mul-right}
 use mathlib.Core.Bool.{Bool, true, false, cond}
-use mathlib.Core.List.{List}
+use mathlib.Core.List.{List, map}
 use mathlib.Core.Path.{_≡_, refl, sym, _∙_, ap, subst}
 use lib.ListN.{length, take, length-take}
 use lib.Dec.{leb, ltb}
 use Rattle.model.specs.Refusals.{tooShort}
 use Rattle.model.specs.Types.{Ty}
 use Rattle.format.specs.Reader.{Bytes}
+use Rattle.format.specs.Records.{writeTy}
 use Rattle.format.specs.Outcome.{Outcome, accepted, refused, mapped}
-use Rattle.machine.specs.SheetLimits.{maxStack, scratchBytes}
+use Rattle.machine.specs.SheetLimits.{maxStack, scratchBytes, resultBytes}
 use Rattle.machine.specs.Sheet.{sheetRun}
 use Rattle.machine.specs.Call.{Tally, tally, Called, called, writeTypes, zeroed, atFront, handOver, sheetCall}
 use Rattle.machine.specs.CallLaws.{LeftBy, call-left}
 use Rattle.report.specs.Laid.{Laid}
 use Rattle.report.specs.Left.{LeftIs, Left}
-use Rattle.report.specs.Report.{reported, fitting, callOutcome}
-use Rattle.report.specs.Room.{textRoom}
-use Rattle.velgrodis.specs.Answers.{no, value, returned, checked}
-use Rattle.velgrodis.specs.declared.Answer.{Answer}
-
--- ---- the answer as a host gets it
-
-module _ (s result scratch out after : List ℕ) (a : Answer) (e : returned a out after ≡ checked (sheetCall s result scratch)) where
-  -- a value: the types left
-  pub value-called : a .kind ≡ 1 → called (accepted (tally (a .first) (a .second))) out after ≡ sheetCall s result scratch
-  value-called k = by (sheetCall s result scratch) e
-    where
-      by : (x : Called) → returned a out after ≡ checked x → called (accepted (tally (a .first) (a .second))) out after ≡ x
-      by (called (accepted (tally n b)) r t) e =
-          let w : a ≡ value n b = cc in
-          let first : a .first ≡ n = ap (λ x. x .first) w in
-          let second : a .second ≡ b = ap (λ x. x .second) w in
-          cc
-      by (called (refused j p) r t) e = let w : a ≡ no j p = cc in absurd (omega (arith, ap (λ x. x .kind) w))
-
-  -- any other: a refusal
-  pub other-called : (a .kind ≡ 1 → ⊥) → called (refused (a .number) (a .place)) out after ≡ sheetCall s result scratch
-  other-called k = by (sheetCall s result scratch) e
-    where
-      by : (x : Called) → returned a out after ≡ checked x → called (refused (a .number) (a .place)) out after ≡ x
-      by (called (accepted (tally n b)) r t) e = let w : a ≡ value n b = cc in absurd (k (ap (λ x. x .kind) w))
-      by (called (refused j p) r t) e =
-          let w : a ≡ no j p = cc in
-          let number : a .number ≡ j = ap (λ x. x .number) w in
-          let place : a .place ≡ p = ap (λ x. x .place) w in
-          cc
+use Rattle.report.specs.Report.{reported, ifRoom, callOutcome}
+use Rattle.report.specs.Room.{numberRoom, textRoom}
+use Rattle.run.specs.Answers.{Measures, calledOf}
+use Rattle.run.specs.declared.SheetAnswer.{SheetAnswer}
+use Rattle.run.specs.declared.SheetAnswer.the-variants.{Accepted, Refused}
 
 -- ---- the outcome of a call with buffers of any length
 
@@ -74,7 +49,8 @@ module _ (s result scratch : List ℕ) where
       fits ts true = refl
       fits ts false = refl
 
-      by : (b : Bool) (o : Outcome (List Ty)) → answerOf (cond b (called (refused tooShort 0) result scratch) (handOver (length s) o result (zeroed scratch))) ≡ mapped tallied (cond b (refused tooShort 0) (fitting (length s) (length result) o))
+      by : (b : Bool) (o : Outcome (List Ty)) → answerOf (cond b (called (refused tooShort 0) result scratch) (handOver (length s) o result (zeroed scratch)))
+          ≡ mapped tallied (cond b (refused tooShort 0) (ifRoom (length s) (length result) o))
       by true o = refl
       by false (accepted ts) = fits ts (leb (length (writeTypes ts)) (length result))
       by false (refused k p) = refl
@@ -88,7 +64,7 @@ module _ (s result scratch : List ℕ) where
       fits true e = let x : ts ≡ us = cc in sym x
       fits false e = let z : _≡_ {A = ℕ} 0 1 = cc in absurd (omega arith)
 
-      by : (b : Bool) → cond b (refused tooShort 0) (fitting (length s) (length result) (accepted ts)) ≡ accepted us → us ≡ ts
+      by : (b : Bool) → cond b (refused tooShort 0) (ifRoom (length s) (length result) (accepted ts)) ≡ accepted us → us ≡ ts
       by true e = let z : _≡_ {A = ℕ} 0 1 = cc in absurd (omega arith)
       by false e = fits (leb (length (writeTypes ts)) (length result)) e
 
@@ -117,29 +93,42 @@ module _ (s result scratch : List ℕ) where
       pub laid-left : {n b : ℕ} {ts : List Ty} → called (accepted (tally n b)) out after ≡ sheetCall s result scratch → LeftBy s n b out ts → Reports between r d d₁ (accepted ts) → Reports between r d d₁ outcome
       laid-left e l h = subst (Reports between r d d₁) (sym (left-outcome e l)) h
 
--- ---- the types left
+-- ---- what the check answered
 
--- There are such types, and their bytes have room.
-pub record TypesLeft (s : List ℕ) (n b : ℕ) (out : List ℕ) : Type 0 where
+-- There are types left, and these are their lengths.
+pub record TypesLeft (s : List ℕ) (n b : ℕ) (out lengths : List ℕ) : Type 0 where
   pub types : List Ty
   pub left : LeftBy s n b out types
+  pub sizes : take n lengths ≡ map (λ t. length (writeTy t)) types
 
-pub types-left : (s result scratch out after : List ℕ) {n b : ℕ} → Bytes s → called (accepted (tally n b)) out after ≡ sheetCall s result scratch → TypesLeft s n b out
-types-left s result scratch out after small e = call-left s result scratch small e λ ts l. record { types = ts; left = l }
+module _ (s result scratch out after : List ℕ) (a : SheetAnswer) (e : calledOf a out after ≡ sheetCall s result scratch) where
+  pub answered-called : {n b : ℕ} → a ≡ Accepted n b → called (accepted (tally n b)) out after ≡ sheetCall s result scratch
+  answered-called is = rw is at e
 
-module _ {s : List ℕ} {n b : ℕ} {out : List ℕ} (t : TypesLeft s n b out) where
-  pub left-is : LeftIs (take b out) n (t .types)
-  left-is = let l = t .left in record { bytes = l .front; count = l .count; within = l .kept .within }
+  pub refused-called : {k p : ℕ} → a ≡ Refused k p → called (refused k p) out after ≡ sheetCall s result scratch
+  refused-called is = rw is at e
 
-  pub left-there : Left (take b out) n
+  pub types-left : (lengths : List ℕ) {n b : ℕ} → Bytes s → Measures a lengths (sheetRun s) → a ≡ Accepted n b → TypesLeft s n b out lengths
+  types-left lengths {n} {b} small m is =
+      call-left s result scratch small (answered-called is) λ ts l.
+      record { types = ts; left = l; sizes = measured (rw is at m) ts (l .run) }
+    where
+      measured : Measures (Accepted n b) lengths (sheetRun s) → (ts : List Ty) → sheetRun s ≡ accepted ts → take n lengths ≡ map (λ t. length (writeTy t)) ts
+      measured m = m
+
+module _ {s : List ℕ} {n b : ℕ} {out lengths : List ℕ} (t : TypesLeft s n b out lengths) where
+  pub left-is : LeftIs (take b out) lengths n (t .types)
+  left-is = let l = t .left in record { bytes = l .front; count = l .count; sizes = t .sizes }
+
+  pub left-there : Left (take b out) lengths n
   left-there = record { types = t .types; there = left-is }
 
   pub left-inside : b ≤ length out
   left-inside = let l = t .left in omega (arith, l .bytes, ap length (l .front), length-take b out)
 
-  pub left-room : (k : ℕ) → textRoom k n (length (take b out)) ≤ textRoom k maxStack scratchBytes
+  pub left-room : (k : ℕ) → textRoom k n (length (take b out)) ≤ textRoom k maxStack resultBytes
   left-room k =
       let l = t .left in
       let few : n ≤ maxStack = omega (arith, l .count, l .kept .few) in
-      let each : n * (k + 20 + 1) ≤ maxStack * (k + 20 + 1) = mul-le-mul-right (k + 20 + 1) few in
+      let each : n * (k + numberRoom + 1) ≤ maxStack * (k + numberRoom + 1) = mul-le-mul-right (k + numberRoom + 1) few in
       omega (arith, each, ap length (l .front), l .kept .suffices)

@@ -12,7 +12,7 @@ use denote.Enum.Declared.{tagOf}
 use types.Run.{OneOf, miss}
 use Rattle.machine.specs.SheetLimits.{programBytes}
 use Rattle.report.specs.Laid.{Laid}
-use Rattle.report.specs.Report.{lineFeed, reported, buffers, leaves, programCall, printed}
+use Rattle.report.specs.Report.{lineFeed, reported, buffers, buffersOf, programCall, printed}
 use Rattle.streams.specs.Streams.{ToTheEnd}
 use Rattle.streams.specs.declared.Answered.{Answered}
 use Rattle.streams.specs.declared.Answered.the-variants.{Bytes, Nothing, Failed}
@@ -33,9 +33,9 @@ unfolding printed
 alike-printed (equal e) = ap printed e
 alike-printed {s} {t} (long h k) = ap (λ o. reported lineFeed o ++ lineFeed) (outcome-long s h ∙ sym (outcome-long t k))
 
-alike-left : {s t : List ℕ} (result scratch : List ℕ) → Alike s t → leaves (programCall s result scratch) ≡ leaves (programCall t result scratch)
-alike-left result scratch (equal e) = ap (λ s. leaves (programCall s result scratch)) e
-alike-left {s} {t} result scratch (long h k) = ap leaves (call-long s result scratch h ∙ sym (call-long t result scratch k))
+alike-left : {s t : List ℕ} (result scratch : List ℕ) → Alike s t → buffersOf (programCall s result scratch) ≡ buffersOf (programCall t result scratch)
+alike-left result scratch (equal e) = ap (λ s. buffersOf (programCall s result scratch)) e
+alike-left {s} {t} result scratch (long h k) = ap buffersOf (call-long s result scratch h ∙ sym (call-long t result scratch k))
 
 module _ (input buf : List ℕ) (count : ℕ) (inside : count ≤ length buf) where
   long-alike : programBytes < count → count ≤ length input → Alike (take count buf) input
@@ -62,7 +62,8 @@ module _ (buf : List ℕ) (count : ℕ) (result scratch out : List ℕ) where
   prints-nothing Nothing h = absurd (miss (2 ∷ []) 1 tt h)
   prints-nothing Failed h = (refl, refl, refl)
 
-  module _ (result₁ scratch₁ out₁ : List ℕ) {r : ℕ} (wide : programBytes < length buf) (laid : Laid r 0 out out₁ (printed (take count buf))) (left : buffers result₁ scratch₁ ≡ leaves (programCall (take count buf) result scratch)) where
+  module _ (result₁ scratch₁ out₁ : List ℕ) {r : ℕ} (wide : programBytes < length buf)
+      (laid : Laid r 0 out out₁ (printed (take count buf))) (left : buffers result₁ scratch₁ ≡ buffersOf (programCall (take count buf) result scratch)) where
     text-of : {input : List ℕ} → Alike (take count buf) input → TextOf input (Text r) result result₁ scratch scratch₁ out out₁
     text-of a =
         record {

@@ -11,12 +11,12 @@ use Rattle.model.specs.Refusals.{tooShort}
 use Rattle.model.specs.Types.{Ty}
 use Rattle.format.specs.Reader.{Bytes}
 use Rattle.format.specs.Outcome.{Outcome, accepted, refused}
-use Rattle.machine.specs.SheetLimits.{scratchBytes, programBytes}
+use Rattle.machine.specs.SheetLimits.{scratchBytes, resultBytes, programBytes}
 use Rattle.machine.specs.Sheet.{sheetRun}
 use Rattle.machine.specs.Call.{called, writeTypes, zeroed, sheetCall}
 use Rattle.machine.specs.CallLaws.{Few, run-few}
 use Rattle.report.specs.Laid.{Laid}
-use Rattle.report.specs.Report.{lineFeed, reported, fitting, callOutcome, programOutcome, buffers, leaves, programCall, printed}
+use Rattle.report.specs.Report.{lineFeed, reported, ifRoom, callOutcome, programOutcome, buffers, buffersOf, programCall, printed}
 use Rattle.report.specs.Room.{printRoom}
 use Rattle.report.proofs.LineLaws.{length-refused, length-accepted}
 use Rattle.report.proofs.TextLaws.{laid-then}
@@ -45,11 +45,11 @@ module _ (s : List ℕ) where
 
   module _ (small : Bytes s) where
     -- With room in both buffers no refusal is for want of it.
-    roomy-run : (result scratch : ℕ) → scratchBytes ≤ result → scratchBytes ≤ scratch → callOutcome s result scratch ≡ sheetRun s
+    roomy-run : (result scratch : ℕ) → resultBytes ≤ result → scratchBytes ≤ scratch → callOutcome s result scratch ≡ sheetRun s
     unfolding callOutcome
     roomy-run result scratch wide enough = rw (le-ltb scratch scratchBytes enough) (by (sheetRun s) refl)
       where
-        by : (o : Outcome (List Ty)) → sheetRun s ≡ o → fitting (length s) result o ≡ o
+        by : (o : Outcome (List Ty)) → sheetRun s ≡ o → ifRoom (length s) result o ≡ o
         by (accepted ts) e = rw (le-leb (length (writeTypes ts)) result (omega (arith, run-few s small ts e .suffices)))
         by (refused k p) e = refl
 
@@ -68,22 +68,23 @@ module _ (s : List ℕ) where
 
   pub record Done (r : ℕ) (result result₁ scratch scratch₁ d d₁ : List ℕ) : Type 0 where
     pub laid : Laid r 0 d d₁ (reported lineFeed (programOutcome s))
-    pub left : buffers result₁ scratch₁ ≡ leaves (programCall s result scratch)
+    pub left : buffers result₁ scratch₁ ≡ buffersOf (programCall s result scratch)
 
   module _ {r : ℕ} {result scratch scratch₁ d d₁ : List ℕ} where
     pub done-long : programBytes < length s → Reports lineFeed r d d₁ (refused tooShort 0) → scratch₁ ≡ zeroed scratch → Done r result result scratch scratch₁ d d₁
     done-long h l z =
         record {
           laid = subst (Reports lineFeed r d d₁) (sym (outcome-long h)) l;
-          left = ap (buffers result) z ∙ ap leaves (sym (call-long result scratch h));
+          left = ap (buffers result) z ∙ ap buffersOf (sym (call-long result scratch h));
         }
 
-    module _ {result₁ : List ℕ} (small : Bytes s) (wide : scratchBytes ≤ length result) (enough : scratchBytes ≤ length scratch) where
-      pub done-run : length s ≤ programBytes → Reports lineFeed r d d₁ (callOutcome s (length result) (length scratch)) → buffers result₁ scratch₁ ≡ leaves (sheetCall s result scratch) → Done r result result₁ scratch scratch₁ d d₁
+    module _ {result₁ : List ℕ} (small : Bytes s) (wide : resultBytes ≤ length result) (enough : scratchBytes ≤ length scratch) where
+      pub done-run : length s ≤ programBytes → Reports lineFeed r d d₁ (callOutcome s (length result) (length scratch))
+          → buffers result₁ scratch₁ ≡ buffersOf (sheetCall s result scratch) → Done r result result₁ scratch scratch₁ d d₁
       done-run h l k =
           record {
             laid = subst (Reports lineFeed r d d₁) (roomy-run small _ _ wide enough ∙ sym (outcome-run h)) l;
-            left = k ∙ ap leaves (sym (call-run result scratch h));
+            left = k ∙ ap buffersOf (sym (call-run result scratch h));
           }
 
   -- ---- the last line feed

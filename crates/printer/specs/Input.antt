@@ -6,7 +6,7 @@ use mathlib.Core.Path.{_≡_}
 use lib.ListN.{length, take}
 use Rattle.io.specs.Counts.{Counts}
 use Rattle.report.specs.Laid.{Laid}
-use Rattle.report.specs.Report.{printed, buffers, leaves, programCall}
+use Rattle.report.specs.Report.{printed, buffers, buffersOf, programCall}
 use Rattle.streams.specs.declared.Answered.{Answered}
 use Rattle.streams.specs.declared.Answered.the-variants.{Bytes, Nothing, Failed}
 use Rattle.printer.specs.declared.Printed.{Printed}
@@ -23,7 +23,7 @@ pub record TextOf (input : List ℕ) (r : Printed) (result result₁ scratch scr
   pub size : ℕ
   pub text : r ≡ Text size
   pub laid : Laid size 0 out out₁ (printed input)
-  pub left : buffers result₁ scratch₁ ≡ leaves (programCall input result scratch)
+  pub left : buffers result₁ scratch₁ ≡ buffersOf (programCall input result scratch)
 
 -- No text, and all as lent.
 abbrev pub NoText : Printed → List ℕ → List ℕ → List ℕ → List ℕ → List ℕ → List ℕ → Type 0

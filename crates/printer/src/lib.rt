@@ -1,32 +1,35 @@
 // What the program `sheet` prints of the input that it read, put into a buffer, so that the program only reads and writes.
+use limits::MAX_SHEET;
+use limits::MAX_STACK;
+use limits::SCRATCH_BYTES;
 use limits::refusal::TOO_SHORT;
+use report::HEAD_ROOM;
+use report::LINE_ROOM;
 use report::put;
 use report::put_left;
 use report::put_refusal;
+use run::SheetAnswer;
+use run::measure_sheet;
 use stack::clear;
 use streams::Answered;
 use streams::Moved;
-use velgrodis::VALUE;
-use velgrodis::vg_check_sheet;
 ghost use mathlib.Core.Path.{_≡_};
 ghost use Prim.Native.Nat.{_≤_, _<_};
 ghost use lib.ListN.{length};
 ghost use Rattle.machine.specs.Call.{sheetCall};
-ghost use Rattle.machine.specs.SheetLimits.{maxStack, scratchBytes, programBytes};
+ghost use Rattle.machine.specs.SheetLimits.{maxStack, scratchBytes, resultBytes, programBytes};
 ghost use Rattle.printer.specs.Input.{Prints, Inside};
 ghost use Rattle.report.specs.Laid.{Laid};
-ghost use Rattle.report.specs.Report.{lineFeed, reported, callOutcome, programOutcome, printed, buffers, leaves, programCall};
+ghost use Rattle.report.specs.Report.{lineFeed, reported, callOutcome, programOutcome, printed, buffers, buffersOf, programCall};
 ghost use Rattle.report.specs.Room.{textRoom, printRoom};
 ghost use Rattle.streams.specs.Streams.{ToTheEnd};
 
-// The most bytes that a sheet may have for the program: a longer one is refused.
-pub const MAX_SHEET: usize = 49152;
-
-// Bytes that suffice for the text of any sheet.
-pub const TEXT: usize = 80093;
+// Bytes that suffice for the text of any sheet, whose lines end in a line feed each: the first line, and two digits for each byte of
+// as many types as can be left.
+pub const TEXT: usize = HEAD_ROOM + MAX_STACK * (1 + LINE_ROOM) + 2 * SCRATCH_BYTES + 1;
 
 // Bytes that suffice for the text of a call, where up to three bytes stand between two lines.
-pub const CALL_TEXT: usize = 80108;
+pub const CALL_TEXT: usize = HEAD_ROOM + MAX_STACK * (3 + LINE_ROOM) + 2 * SCRATCH_BYTES;
 
 // What the program prints: a text of so many bytes, or nothing, since a read failed.
 pub enum Printed {
@@ -45,7 +48,7 @@ pub fn print_input(
 ) -> Printed
     requires { ⌜ programBytes < length (now buf) ⌝ }
     requires { ⌜ ToTheEnd (read .count) (read .last) (length (now buf)) ⌝ }
-    requires { ⌜ scratchBytes ≤ length (now result) ⌝ }
+    requires { ⌜ resultBytes ≤ length (now result) ⌝ }
     requires { ⌜ scratchBytes ≤ length (now scratch) ⌝ }
     requires { ⌜ printRoom ≤ length (now out) ⌝ }
     ensures { λ r. ⌜ Prints (read .last) (now (buf .entry)) (read .count) r (now (result .entry)) (now (result .exit)) (now (scratch .entry)) (now (scratch .exit)) (now (out .entry)) (now (out .exit)) ⌝ }
@@ -61,11 +64,11 @@ pub fn print_input(
 
 // The text of a sheet, to the front of `out`. Answers how many bytes it has.
 fn print_sheet(sheet: &[u8], result: &mut [u8], scratch: &mut [u8], out: &mut [u8]) -> usize
-    requires { ⌜ scratchBytes ≤ length (now result) ⌝ }
+    requires { ⌜ resultBytes ≤ length (now result) ⌝ }
     requires { ⌜ scratchBytes ≤ length (now scratch) ⌝ }
     requires { ⌜ printRoom ≤ length (now out) ⌝ }
     ensures { λ r. ⌜ Laid r 0 (now (out .entry)) (now (out .exit)) (printed (now (sheet .entry))) × (r ≤ length (now (out .exit))) ⌝ }
-    ensures { λ r. ⌜ buffers (now (result .exit)) (now (scratch .exit)) ≡ leaves (programCall (now (sheet .entry)) (now (result .entry)) (now (scratch .entry))) ⌝ }
+    ensures { λ r. ⌜ buffers (now (result .exit)) (now (scratch .exit)) ≡ buffersOf (programCall (now (sheet .entry)) (now (result .entry)) (now (scratch .entry))) ⌝ }
 {
     let end = put_outcome(sheet, result, scratch, &mut *out);
     put(b"\n", out, end)
@@ -73,11 +76,11 @@ fn print_sheet(sheet: &[u8], result: &mut [u8], scratch: &mut [u8], out: &mut [u
 
 // The same without the last line feed.
 fn put_outcome(sheet: &[u8], result: &mut [u8], scratch: &mut [u8], out: &mut [u8]) -> usize
-    requires { ⌜ scratchBytes ≤ length (now result) ⌝ }
+    requires { ⌜ resultBytes ≤ length (now result) ⌝ }
     requires { ⌜ scratchBytes ≤ length (now scratch) ⌝ }
     requires { ⌜ printRoom ≤ length (now out) ⌝ }
     ensures { λ r. ⌜ Laid r 0 (now (out .entry)) (now (out .exit)) (reported lineFeed (programOutcome (now (sheet .entry)))) ⌝ }
-    ensures { λ r. ⌜ buffers (now (result .exit)) (now (scratch .exit)) ≡ leaves (programCall (now (sheet .entry)) (now (result .entry)) (now (scratch .entry))) ⌝ }
+    ensures { λ r. ⌜ buffers (now (result .exit)) (now (scratch .exit)) ≡ buffersOf (programCall (now (sheet .entry)) (now (result .entry)) (now (scratch .entry))) ⌝ }
 {
     if MAX_SHEET < sheet.len() {
         clear(scratch);
@@ -86,8 +89,7 @@ fn put_outcome(sheet: &[u8], result: &mut [u8], scratch: &mut [u8], out: &mut [u
     put_call(sheet, result, scratch, b"\n", out)
 }
 
-// What a call with these buffers answers, to the front of `out`, with `between` between two lines. Answers how many bytes it has. The
-// call is the one that hosts make.
+// What a call with these buffers answers, to the front of `out`, with `between` between two lines. Answers how many bytes it has.
 pub fn put_call(
     sheet: &[u8],
     result: &mut [u8],
@@ -95,15 +97,18 @@ pub fn put_call(
     between: &[u8],
     out: &mut [u8],
 ) -> usize
-    requires { ⌜ textRoom (length (now between)) maxStack scratchBytes ≤ length (now out) ⌝ }
+    requires { ⌜ textRoom (length (now between)) maxStack resultBytes ≤ length (now out) ⌝ }
     ensures { λ r. ⌜ Laid r 0 (now (out .entry)) (now (out .exit)) (reported (now (between .entry)) (callOutcome (now (sheet .entry)) (length (now (result .entry))) (length (now (scratch .entry))))) ⌝ }
-    ensures { λ r. ⌜ buffers (now (result .exit)) (now (scratch .exit)) ≡ leaves (sheetCall (now (sheet .entry)) (now (result .entry)) (now (scratch .entry))) ⌝ }
+    ensures { λ r. ⌜ buffers (now (result .exit)) (now (scratch .exit)) ≡ buffersOf (sheetCall (now (sheet .entry)) (now (result .entry)) (now (scratch .entry))) ⌝ }
 {
-    let answer = vg_check_sheet(sheet, &mut *result, scratch);
-    if answer.kind == VALUE {
-        let types = answer.first as usize;
-        let bytes = answer.second as usize;
-        return put_left(types, &result[..bytes], between, out, 0);
+    let mut lengths = [0usize; MAX_STACK];
+    let answer = measure_sheet(sheet, &mut *result, scratch, &mut lengths);
+    match answer {
+        SheetAnswer::Accepted { types, bytes } => {
+            put_left(types, &lengths, &result[..bytes], between, out, 0)
+        }
+        SheetAnswer::Refused { number, place } => {
+            put_refusal(number as u64, place as u64, out, 0)
+        }
     }
-    put_refusal(answer.number, answer.place, out, 0)
 }

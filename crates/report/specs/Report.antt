@@ -46,12 +46,12 @@ reported between (accepted ts) = headed okWord (length ts) (length (writeTypes t
 reported between (refused k p) = headed noWord k p
 
 -- What a call answers that was lent so many bytes for its result and its scratch: the types left, if they have room.
-abbrev pub fitting : ℕ → ℕ → Outcome (List Ty) → Outcome (List Ty)
-fitting size room (accepted ts) = cond (leb (length (writeTypes ts)) room) (accepted ts) (refused tooShort size)
-fitting size room (refused k p) = refused k p
+abbrev pub ifRoom : ℕ → ℕ → Outcome (List Ty) → Outcome (List Ty)
+ifRoom size room (accepted ts) = cond (leb (length (writeTypes ts)) room) (accepted ts) (refused tooShort size)
+ifRoom size room (refused k p) = refused k p
 
 unfoldable pub callOutcome : List ℕ → ℕ → ℕ → Outcome (List Ty)
-callOutcome s result scratch = cond (ltb scratch scratchBytes) (refused tooShort 0) (fitting (length s) result (sheetRun s))
+callOutcome s result scratch = cond (ltb scratch scratchBytes) (refused tooShort 0) (ifRoom (length s) result (sheetRun s))
 
 -- What the program answers: more bytes than it reads are refused first.
 unfoldable pub programOutcome : List ℕ → Outcome (List Ty)
@@ -65,8 +65,8 @@ printed s = reported lineFeed (programOutcome s) ++ lineFeed
 pub data Buffers : Type 0 where
   buffers : List ℕ → List ℕ → Buffers
 
-abbrev pub leaves : Called → Buffers
-leaves (called o result scratch) = buffers result scratch
+abbrev pub buffersOf : Called → Buffers
+buffersOf (called o result scratch) = buffers result scratch
 
 -- The program's check as a call, with the buffers that it lends, a scratch that is long enough among them: a sheet of more bytes than it
 -- reads is a refusal like any other, which writes nothing to the result and after which the scratch is zero.

@@ -1,9 +1,9 @@
 // The rules of the steps on the types on top of the stack. What a rule makes of them goes to a buffer that holds any type.
 use join::join_known;
 use join::write_union;
+use known::shape_at;
 use lent::Written;
 use limits::refusal::UNPERVADED;
-use record::lone_shape;
 use shape::Verdict;
 use shape::pervade_dyn_shapes;
 use stack::Bounds;
@@ -117,7 +117,7 @@ fn pervade_types(a: &[u8], b: &[u8], a_fill: bool, b_fill: bool, out: &mut [u8])
     ensures { λ r. ⌜ delivered r (now (out .exit)) ≡ deliver
         (both (λ t u. mapped writeTy (atStart (pervadeTypes «a_fill» «b_fill» t u))) (lone (now (a .entry))) (lone (now (b .entry)))) (now (out .entry)) ⌝ }
 {
-    let pervaded = pervade_dyn_shapes(lone_shape(a), lone_shape(b), a_fill, b_fill);
+    let pervaded = pervade_dyn_shapes(shape_at(a, 0), shape_at(b, 0), a_fill, b_fill);
     let answer = pervaded.answer;
     if let Verdict::Clash(_) = answer {
         return Written::Refused {

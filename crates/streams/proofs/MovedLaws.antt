@@ -5,14 +5,14 @@ use mathlib.Core.List.{[], _∷_}
 use mathlib.Core.Path.{_≡_, subst}
 use denote.Enum.Declared.{tagOf}
 use types.Run.{OneOf, miss}
-use Rattle.streams.specs.Streams.{Within, Stopped, ToTheEnd}
+use Rattle.streams.specs.Streams.{AtMost, Stopped, ToTheEnd}
 use Rattle.streams.specs.declared.Answered.{Answered}
 use Rattle.streams.specs.declared.Answered.the-variants.{Bytes, Nothing, Failed}
 use Rattle.streams.proofs.Answered.{the-type}
 
 -- some bytes were moved
-pub bytes-within : {r : Answered} {n : ℕ} (room : ℕ) → r ≡ Bytes n → Within r room → (0 < n) × (n ≤ room)
-bytes-within room e h = subst (λ x. Within x room) e h
+pub bytes-within : {r : Answered} {n : ℕ} (room : ℕ) → r ≡ Bytes n → AtMost r room → (0 < n) × (n ≤ room)
+bytes-within room e h = subst (λ x. AtMost x room) e h
 
 -- none were: the last two answers of the three
 none-moved : (r : Answered) → OneOf (1 ∷ 2 ∷ []) (tagOf the-type r) → Stopped r

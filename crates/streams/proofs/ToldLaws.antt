@@ -8,7 +8,7 @@ use lib.Dec.{T}
 use lib.Signed.{ltZ, nonNeg}
 use borrow.Author.Tests.{ltb-true, ltb-false}
 use Rattle.libc.specs.Io as libc
-use Rattle.streams.specs.Streams.{answeredBy, Within}
+use Rattle.streams.specs.Streams.{answeredBy, AtMost}
 use Rattle.streams.specs.declared.Answered.{Answered}
 use Rattle.streams.specs.declared.Answered.the-variants.{Bytes, Nothing, Failed}
 
@@ -31,10 +31,10 @@ positive (pos n) e = tt
 positive (negsuc n) e = subst T (sym e) tt
 
 -- a call that moves at most as much as it was lent
-pub moved-within : (z : ℤ) (room : ℕ) {r : Answered} → libc.Moved room z → r ≡ answeredBy z → Within r room
-moved-within z room h e = subst (λ x. Within x room) (sym e) (by z h)
+pub moved-within : (z : ℤ) (room : ℕ) {r : Answered} → libc.Moved room z → r ≡ answeredBy z → AtMost r room
+moved-within z room h e = subst (λ x. AtMost x room) (sym e) (by z h)
   where
-    by : (z : ℤ) → libc.Moved room z → Within (answeredBy z) room
+    by : (z : ℤ) → libc.Moved room z → AtMost (answeredBy z) room
     by (pos zero) h = tt
     by (pos (suc n)) h = (omega arith, h)
     by (negsuc n) h = tt

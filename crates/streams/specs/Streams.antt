@@ -12,10 +12,10 @@ answeredBy (pos (suc n)) = Bytes (suc n)
 answeredBy (negsuc n) = Failed
 
 -- Some bytes and no more than there is room for, or none.
-abbrev pub Within : Answered → ℕ → Type 0
-Within (Bytes n) room = (0 < n) × (n ≤ room)
-Within Nothing room = Unit {0}
-Within Failed room = Unit {0}
+abbrev pub AtMost : Answered → ℕ → Type 0
+AtMost (Bytes n) room = (0 < n) × (n ≤ room)
+AtMost Nothing room = Unit {0}
+AtMost Failed room = Unit {0}
 
 -- No bytes were moved: the input has ended, or nobody takes them, or the call failed.
 abbrev pub Stopped : Answered → Type 0

@@ -3,7 +3,7 @@ use crate::Answered;
 use crate::Moved;
 use crate::told::told;
 ghost use lib.ListN.{length};
-ghost use Rattle.streams.specs.Streams.{Within, ToTheEnd};
+ghost use Rattle.streams.specs.Streams.{AtMost, ToTheEnd};
 
 // Reads until the buffer is full, the input ends or a read fails. What was read stands at the buffer's front.
 pub fn read_to_end(buf: &mut [u8]) -> Moved
@@ -23,7 +23,7 @@ pub fn read_to_end(buf: &mut [u8]) -> Moved
 
 // One read: as much of the input as there is at once.
 pub fn read_some(buf: &mut [u8]) -> Answered
-    ensures { λ r. ⌜ Within r (length (now (buf .entry))) ⌝ }
+    ensures { λ r. ⌜ AtMost r (length (now (buf .entry))) ⌝ }
 {
     told(libc::read(libc::STDIN_FILENO, &mut *buf))
 }

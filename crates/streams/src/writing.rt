@@ -3,7 +3,7 @@ use crate::Answered;
 use crate::Moved;
 use crate::told::told;
 ghost use lib.ListN.{length};
-ghost use Rattle.streams.specs.Streams.{Within, ToTheEnd};
+ghost use Rattle.streams.specs.Streams.{AtMost, ToTheEnd};
 
 // Writes until all is written, or a write takes nothing or fails: a short one is continued.
 fn write_to_end(fd: i32, bytes: &[u8]) -> Moved
@@ -35,7 +35,7 @@ pub fn complain(sentence: &[u8]) {
 
 // One write.
 fn write_some(fd: i32, bytes: &[u8]) -> Answered
-    ensures { λ r. ⌜ Within r (length (now (bytes .entry))) ⌝ }
+    ensures { λ r. ⌜ AtMost r (length (now (bytes .entry))) ⌝ }
 {
     told(libc::write(fd, bytes))
 }

@@ -8,7 +8,7 @@ use lent::Tested;
 use lent::Written;
 use order::Comparison;
 use record::Lone;
-use run::Called;
+use run::SheetAnswer;
 use shape::Order;
 use shape_calls::Compared;
 use ty::Boxes;
@@ -67,12 +67,12 @@ pub fn of_boxes(b: Boxes) -> Answer
     }
 }
 
-pub fn of_called(s: Called) -> Answer
+pub fn of_called(s: SheetAnswer) -> Answer
     ensures { λ r. ⌜ ((result scratch : List ℕ) → returned r result scratch ≡ checked (calledOf s result scratch)) ⌝ }
 {
     match s {
-        Called::Left { types, bytes } => give(types as u64, bytes as u64),
-        Called::Refused { number, place } => refuse(number, place),
+        SheetAnswer::Accepted { types, bytes } => give(types as u64, bytes as u64),
+        SheetAnswer::Refused { number, place } => refuse(number, place),
     }
 }
 

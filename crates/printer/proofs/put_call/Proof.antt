@@ -2,7 +2,7 @@ use native.Mathlib.Omega.{arith}
 use mathlib.Core.Path.{sym, ap}
 use lib.ListN.{length}
 use lib.Seq.{length-take-le}
-use Rattle.report.specs.Report.{leaves}
+use Rattle.report.specs.Report.{buffersOf}
 use Rattle.printer.proofs.CallLaws.{value-called, other-called, types-left, left-is, left-there, left-inside, left-room, laid-left, laid-refused}
 use borrow.Author.Needs.{needs}
 use Rattle.printer.proofs.put_call.Statement.{statement}
@@ -57,7 +57,7 @@ returns c =
     let e = value-called _ _ _ _ _ (call .vg-check-sheet .result) (call .vg-check-sheet .ensures) (c .before .before .before .before .before .if1 .taken) in
     let t = types-left _ _ _ _ _ (λ i. omega (arith, start .shared-slice-known .given i)) e in
     let between = start .before .args .between .now in
-    (laid-left _ _ _ _ _ between e (t .left) (c .before .before .put-left .ensures (t .types) (left-is t)), ap leaves e)
+    (laid-left _ _ _ _ _ between e (t .left) (c .before .before .put-left .ensures (t .types) (left-is t)), ap buffersOf e)
 
 put-refusal-requires : tie.Need-put-refusal-requires
 put-refusal-requires c κs = search needs
@@ -76,7 +76,7 @@ returns-2 c =
     let call = c .before .before .before .before .before .before .before .before .before .before in
     let between = call .before .before .before .before .before .before .before .before .args .between .now in
     let e = other-called _ _ _ _ _ (call .vg-check-sheet .result) (call .vg-check-sheet .ensures) (c .before .before .before .before .if1 .left) in
-    (laid-refused _ _ _ _ _ between e (c .before .before .put-refusal .ensures between), ap leaves e)
+    (laid-refused _ _ _ _ _ between e (c .before .before .put-refusal .ensures between), ap buffersOf e)
 
 pub put-call-spec : {M : Type 1} → statement M
 put-call-spec =

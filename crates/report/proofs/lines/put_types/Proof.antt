@@ -99,9 +99,12 @@ loop-again c =
     let entry = c .before .before .before .before .before .before .before .before .before .before .before .before in
     let at-loop = c .before .before .before .before .before .before .before in
     let at-loop-test = c .before .before .before .before .before .before in
-    let at-put-type = c .before .before in
-    (search needs, at-put-type .put-type .kept .1 .1 .1 .0 ∙ at-loop .loop .inv .1, λ ts h.
-    walk-due _ _ _ _ _ _ ts (entry .pre .1) (omega (arith, at-loop-test .loop-test .taken)) (at-loop .loop .inv .2 ts h) .more _ _ (at-put-type .put-type .ensures))
+    let at-put-type = c .before .before in (
+      search needs,
+      at-put-type .put-type .kept .1 .1 .1 .0 ∙ at-loop .loop .inv .1,
+      λ ts h.
+          walk-due _ _ _ _ _ _ ts (entry .pre .1) (omega (arith, at-loop-test .loop-test .taken)) (at-loop .loop .inv .2 ts h) .more _ _ (at-put-type .put-type .ensures),
+    )
 
 -- src/lines.rt:55:1
 same-length : tie.Need-same-length Inv-loop μ-loop

@@ -117,11 +117,15 @@ loop-again c =
     let at-loop-test = c .before .before .before .before .before .before .before .before .before .before .before .before .before .before in
     let at-if1 = c .before .before .before .before .before .before .before .before .before .before .before .before .before in
     let at-work-step = c .before .before .before .before .before .before .before .before .before in
-    let args = entry .args in
-    (at-work-step .work-step .kept .1 .1 .1 .0 ∙ at-loop .loop .inv .0, at-work-step .work-step .kept .1 .1 .1 .1 .0 ∙ at-loop .loop .inv .1, at-work-step .work-step .kept .1 .1 .1 .1 .1 .0 ∙ at-loop .loop .inv .2, λ st h.
-    let g = at-loop .loop .inv .3 st h in
-    let works = at-work-step .work-step .ensures (g .state) (g .here .stacked) in
-    going-step (args .s .now) (sheetFrom (args .s .now) st 0) g (at-if1 .if1 .left) (at-loop-test .loop-test .taken) (at-work-step .work-step .result) _ _ works (c .before .answer .given .1))
+    let args = entry .args in (
+      at-work-step .work-step .kept .1 .1 .1 .0 ∙ at-loop .loop .inv .0,
+      at-work-step .work-step .kept .1 .1 .1 .1 .0 ∙ at-loop .loop .inv .1,
+      at-work-step .work-step .kept .1 .1 .1 .1 .1 .0 ∙ at-loop .loop .inv .2,
+      λ st h.
+          let g = at-loop .loop .inv .3 st h in
+          let works = at-work-step .work-step .ensures (g .state) (g .here .stacked) in
+          going-step (args .s .now) (sheetFrom (args .s .now) st 0) g (at-if1 .if1 .left) (at-loop-test .loop-test .taken) (at-work-step .work-step .result) _ _ works (c .before .answer .given .1),
+    )
 
 -- src/sheet.rt:86:1
 same-length-7 : tie.Need-same-length-7 Inv-loop μ-loop

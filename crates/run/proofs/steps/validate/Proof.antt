@@ -28,9 +28,11 @@ lay-down-requires c κs =
     let at-validate-top = c .before .before .before .before .before in
     let args = entry .args in
     let (spec, read) = entry .pre .1 in
-    let within = lone-write (args .spec .now) (λ i. omega (arith, at-shared-slice-known .shared-slice-known .given i)) spec read .1 in
-    (entry .pre .0 .2, ruled-one (args .lengths .now) (args .count) (args .scratch .now) (at-validate-top .validate-top .result) _ (λ t. validate unsided spec t)
-    (validated-within spec within) (entry .pre .0 .0) (at-validate-top .validate-top .ensures spec read) (entry .pre .0 .2))
+    let within = lone-write (args .spec .now) (λ i. omega (arith, at-shared-slice-known .shared-slice-known .given i)) spec read .1 in (
+      entry .pre .0 .2,
+      ruled-one (args .lengths .now) (args .count) (args .scratch .now) (at-validate-top .validate-top .result) _ (λ t. validate unsided spec t)
+          (validated-within spec within) (entry .pre .0 .0) (at-validate-top .validate-top .ensures spec read) (entry .pre .0 .2),
+    )
 
 -- src/steps.rt:176:1
 same-length : tie.Need-same-length

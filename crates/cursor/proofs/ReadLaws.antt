@@ -20,7 +20,7 @@ use Rattle.format.specs.WriteRead.{write-read, write-lone}
 use Rattle.record.specs.Answers.{answerOf}
 use Rattle.record.specs.declared.Answer.{Answer}
 use Rattle.record.specs.declared.Answer.the-variants.{Got, Refused}
-use Rattle.record.proofs.Known.{known, told, got-map, stopped-map}
+use Rattle.record.proofs.ReadingLaws.{known, told, got-map, stopped-map}
 use Rattle.machine.specs.Steps.{pervading, aPervading, opcodes, maxFlag, fillsTop, fillsBelow}
 use Rattle.machine.specs.Sheet.{opcodeIn, opcodeFrom, argumentFrom}
 use Rattle.cursor.specs.Answers.{Stretch, TypeIs}

@@ -1,7 +1,6 @@
-pub mod Known
+pub mod ReadingLaws
 pub mod ByValue
 pub mod ByteLaws
 mod ShapeLaws
-mod PlaceLaws
 mod TypeLaws
 pub mod LoneLaws

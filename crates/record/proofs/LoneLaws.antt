@@ -1,23 +1,20 @@
--- Lone types: one law for each way out of a function, and what their parts are.
+-- Lone types: one law for each way out of a function.
 use Prim.Native.Nat.{ℕ, _≤_, _<_}
 use native.Mathlib.Omega.{arith}
 use mathlib.Core.Path.{_≡_, refl, sym, _∙_, ap}
 use mathlib.Core.List.{List}
-use lib.ListN.{length, drop, length-append}
+use lib.ListN.{length}
 use borrow.Author.Tests.{lt-ltb, le-ltb}
 use Rattle.model.specs.Refusals.{trailing}
-use Rattle.model.specs.Types.{Shape, Ty, ty, shapeOf}
-use Rattle.format.specs.Reader.{Bytes, got, stopped, mapRead}
-use Rattle.format.specs.Records.{writeShape, writeScalar, writeTy, readShape, readType}
-use Rattle.format.specs.Outcome.{Outcome, accepted, refused, mapped, bound, both, neither, first, second, refusalOf, lone, scalarRecord}
-use Rattle.format.specs.ReadWrite.{lone-parts, lone-write}
-use Rattle.record.specs.Answers.{shapeFor, nothing, nothings, loneOf, twoOf, whicheverOf}
-use Rattle.record.specs.Places.{HasShape}
-use Rattle.record.specs.declared.DynShape.{DynShape}
+use Rattle.model.specs.Types.{Ty}
+use Rattle.format.specs.Reader.{got, stopped, mapRead}
+use Rattle.format.specs.Records.{readType}
+use Rattle.format.specs.Outcome.{Outcome, accepted, refused, mapped, bound, both, neither, first, second, refusalOf, lone}
+use Rattle.record.specs.Answers.{nothing, nothings, loneOf, twoOf, whicheverOf}
 use Rattle.record.specs.declared.Lone.{Lone}
 use Rattle.record.specs.declared.Two.{Two}
 use Rattle.record.specs.declared.Two.the-variants.{Accepted}
-use Rattle.record.proofs.Known.{stopped-map, got-map}
+use Rattle.record.proofs.ReadingLaws.{stopped-map, got-map}
 
 -- ---- outcomes whose value is passed over
 
@@ -104,28 +101,3 @@ module _ (s : List ℕ) (f : Ty → ℕ) where
   pub lone-stopped : {k p : ℕ} → mapRead f (readType s 0) ≡ stopped k p → mapped nothing (lone s) ≡ refused k p
   unfolding lone
   lone-stopped e = rw (stopped-map f (readType s 0) e)
-
--- ---- its parts
-
-module _ (s : List ℕ) (small : Bytes s) (accepts : mapped nothing (lone s) ≡ accepted 0) where
-  pub lone-shaped : HasShape s 0
-  lone-shaped = passed-accepted (lone s) accepts λ t e. go t e
-    where
-      go : (t : Ty) → lone s ≡ accepted t → HasShape s 0
-      go (ty o k) e = record { shape = o; next = length (writeShape o); read = lone-parts s small o k e .0 }
-
-  pub shape-part : (d : DynShape) → ((o : Shape) (n : ℕ) → readShape s 0 ≡ got o n → shapeFor d ≡ o) → mapped shapeOf (lone s) ≡ accepted (shapeFor d)
-  shape-part d is = passed-accepted (lone s) accepts λ t e. go t e
-    where
-      go : (t : Ty) → lone s ≡ accepted t → mapped shapeOf (lone s) ≡ accepted (shapeFor d)
-      go (ty o k) e = rw e (ap accepted (sym (is o (length (writeShape o)) (lone-parts s small o k e .0))))
-
-  pub scalar-part : (n : ℕ) → ((o : Shape) (m : ℕ) → readShape s 0 ≡ got o m → n ≡ m) → (mapped scalarRecord (lone s) ≡ accepted (drop n s)) × (n ≤ length s)
-  unfolding writeTy
-  scalar-part n is = passed-accepted (lone s) accepts λ t e. go t e
-    where
-      go : (t : Ty) → lone s ≡ accepted t → (mapped scalarRecord (lone s) ≡ accepted (drop n s)) × (n ≤ length s)
-      go (ty o k) e =
-          let (shaped, rest) = lone-parts s small o k e in
-          let next : n ≡ length (writeShape o) = is o (length (writeShape o)) shaped in
-          (rw (e, next) (ap accepted (sym rest)), rw next (omega (arith, length-append (writeShape o) (writeScalar k), ap length (lone-write s small (ty o k) e .0))))

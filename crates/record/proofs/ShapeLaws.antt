@@ -13,7 +13,7 @@ use Rattle.model.specs.Types.{Dim, Shape, shape}
 use Rattle.format.specs.Reader.{Read, got, stopped, andThen, mapRead, give, need, byte, judged}
 use Rattle.format.specs.Records.{shapeMark, absent, dimNumber, isCount, isOptional, listCount, optional, readMark, readDim, readDims, shapeFrom, readShape}
 use Rattle.record.specs.Answers.{nothing}
-use Rattle.record.proofs.Known.{stopped-map, got-map}
+use Rattle.record.proofs.ReadingLaws.{stopped-map, got-map}
 
 -- ---- sizes that are passed over: the value of what is passed over is 0
 

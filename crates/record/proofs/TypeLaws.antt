@@ -13,7 +13,7 @@ use Rattle.model.specs.Types.{Shape, Kind, bool, nat, int, num, complex, ascii,
 use Rattle.format.specs.Reader.{Read, got, stopped, Reader, andThen, mapRead, give, stop, byte, judged}
 use Rattle.format.specs.Records.{scalarMark, boxMark, boxCode, kindOf, optional, listCount, isCount, isOptional, form, orStop, readMark, readShape, readName, readFields, defFrom, allFrom, boxFrom, scalarFrom, readTy}
 use Rattle.record.specs.Answers.{nothing}
-use Rattle.record.proofs.Known.{stopped-map, got-map}
+use Rattle.record.proofs.ReadingLaws.{stopped-map, got-map}
 use Rattle.record.proofs.ShapeLaws.{passed-over}
 
 -- ---- codes

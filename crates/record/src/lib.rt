@@ -1,7 +1,6 @@
 // Reading records from any bytes. Each function reads what one definition of `format` reads, in its order, and answers
 // what was read with the place after it, or the refusal.
 mod bytes;
-mod places;
 mod shapes;
 mod types;
 mod whole;
@@ -10,16 +9,11 @@ pub use bytes::list_count;
 pub use bytes::number_at;
 pub use bytes::wide;
 use limits::MAX_SIZES;
-pub use places::no_dims;
-pub use places::scalar_known;
-pub use places::shape_known;
 pub use types::read_type;
-pub use whole::lone_scalar;
-pub use whole::lone_shape;
-pub use whole::read_both;
 pub use whole::read_lone;
 pub use whole::read_two;
 pub use whole::whichever;
+ghost use mathlib.Core.Path.{_≡_};
 
 // A value with the place after it, or a refusal's number and place.
 pub enum Answer {
@@ -31,6 +25,15 @@ pub enum Answer {
 pub struct Dims {
     pub sizes: [u64; MAX_SIZES],
     pub count: usize,
+}
+
+pub fn no_dims() -> Dims
+    ensures { λ r. ⌜ r .count ≡ 0 ⌝ }
+{
+    Dims {
+        sizes: [0u64; MAX_SIZES],
+        count: 0,
+    }
 }
 
 // A shape: its opening sizes, and its closing sizes unless it is closed.

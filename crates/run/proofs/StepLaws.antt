@@ -20,7 +20,7 @@ use Rattle.validation.specs.ValidateLaws.{validate-within}
 use Rattle.lent.specs.declared.Written.{Written}
 use Rattle.machine.specs.SheetLimits.{maxStack}
 use Rattle.machine.specs.Steps.{Step, put, row, pervading, join, validating}
-use Rattle.machine.specs.Run.{Answer, gives, refuses, aside, Stack, State, afterStep, onto, pervadeTypes, step, work}
+use Rattle.machine.specs.Run.{Ruling, gives, refuses, aside, Stack, State, afterStep, onto, pervadeTypes, step, work}
 use Rattle.machine.specs.Sheet.{placed, stepFrom, workFrom}
 use Rattle.machine.specs.SheetSteps.{work-unread, work-rule}
 use Rattle.machine.specs.StepsWithin.{pervadeTypes-within}
@@ -107,7 +107,7 @@ pub join-step : (t u : Ty) (us : Stack) → step join (t ∷ u ∷ us) ≡ onto 
 unfolding step
 join-step t u us = refl
 
-aside-start : {A : Type 0} (a : Answer A) → aside (atStart a) ≡ a
+aside-start : {A : Type 0} (a : Ruling A) → aside (atStart a) ≡ a
 aside-start (gives a) = refl
 aside-start (refuses k) = refl
 
@@ -127,7 +127,7 @@ row-within t v x is = let y : intoRow t ≡ x = cc in rw (← y) (intoRow-within
 pub join-within : (t u : Ty) → Within t → Within u → (x : Ty) → accepted (joinTypes t u) ≡ accepted x → Within x
 join-within t u v w x is = let y : joinTypes t u ≡ x = cc in rw (← y) (joinTypes-within t u v w)
 
-started : {A : Type 0} (a : Answer A) {x : A} → atStart a ≡ accepted x → a ≡ gives x
+started : {A : Type 0} (a : Ruling A) {x : A} → atStart a ≡ accepted x → a ≡ gives x
 started (gives y) e = ap gives (cc)
 started (refuses k) e = let z : _≡_ {A = ℕ} 0 1 = cc in absurd (omega arith)
 

@@ -70,7 +70,7 @@ abbrev pub Between : ℕ → ℕ → List ℕ → Ty → Type 0
 Between start end d t = lone (take (end - start) (drop start d)) ≡ accepted t
 
 -- a rule's answer as an outcome of its own
-abbrev pub atStart : {A : Type 0} → rules.Answer A → Outcome A
+abbrev pub atStart : {A : Type 0} → rules.Ruling A → Outcome A
 atStart (gives a) = accepted a
 atStart (refuses k) = refused k 0
 
@@ -89,7 +89,7 @@ pub record Ruled (count k : ℕ) (w : Written) (out : List ℕ) (o : Outcome Ty)
   pub there : k ≤ count
 
 -- the state after a rule's outcome took the place of so many types on top
-abbrev pub afterRule : State Stack → ℕ → Outcome Ty → rules.Answer (State Stack)
+abbrev pub afterRule : State Stack → ℕ → Outcome Ty → rules.Ruling (State Stack)
 afterRule st few o = following (onto (drop few (st .stack)) (aside o)) λ a. gives (afterStep st a)
 
 -- It takes their place, whatever state the scratch has the stack of.

@@ -8,7 +8,7 @@ ghost use Rattle.format.specs.Records.{writeScalar};
 ghost use Rattle.format.specs.Outcome.{deliver};
 ghost use Rattle.rules.specs.Order.{compare};
 ghost use Rattle.rules.specs.Scalars.{union, unrefine, supersetOf, compatibleScalars, compatibleWithBoxes};
-ghost use Rattle.walk.specs.Whole.{ofScalar, ofScalars, ofTypes};
+ghost use Rattle.known.specs.Whole.{ofScalar, ofScalars, ofTypes};
 ghost use Rattle.velgrodis.specs.Answers.{handed, written, tested, compared};
 
 #[no_mangle]

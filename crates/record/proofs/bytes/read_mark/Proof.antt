@@ -1,5 +1,5 @@
 use mathlib.Core.Path.{_∙_, sym}
-use Rattle.record.proofs.Known.{known, told}
+use Rattle.record.proofs.ReadingLaws.{known, told}
 use Rattle.record.proofs.ByteLaws.{mark-first, mark-second, mark-is, mark-not-first, mark-not-second}
 use borrow.Author.Needs.{needs}
 use Rattle.record.proofs.bytes.read_mark.Statement.{statement}

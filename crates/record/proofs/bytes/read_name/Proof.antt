@@ -5,7 +5,7 @@ use mathlib.Core.Path.{_≡_, refl}
 use Rattle.format.specs.Reader.{mapRead}
 use Rattle.format.specs.Records.{readName}
 use Rattle.record.specs.Answers.{nothing}
-use Rattle.record.proofs.Known.{known, told}
+use Rattle.record.proofs.ReadingLaws.{known, told}
 use Rattle.record.proofs.ByteLaws.{name-ends, name-more, name-stops}
 use Rattle.record.proofs.bytes.read_name.Statement.{statement}
 use Rattle.record.proofs.bytes.read_name.Tie as tie

@@ -1,7 +1,7 @@
 use mathlib.Core.Path.{_∙_, sym, ap}
 use native.Mathlib.Omega.{arith}
 use Rattle.record.specs.Answers.{answerOf}
-use Rattle.record.proofs.Known.{known, told}
+use Rattle.record.proofs.ReadingLaws.{known, told}
 use Rattle.record.proofs.ShapeLaws.{opening-few, closing-few, shape-unmarked, shape-uncounted, shape-unclosed, shape-sized}
 use borrow.Author.Needs.{needs}
 use Rattle.record.proofs.shapes.read_shape.Statement.{statement}

@@ -3,7 +3,7 @@ use native.Mathlib.Omega.{arith}
 use Rattle.format.specs.Reader.{mapRead}
 use Rattle.format.specs.Records.{readDims}
 use Rattle.record.specs.Answers.{nothing}
-use Rattle.record.proofs.Known.{known, told}
+use Rattle.record.proofs.ReadingLaws.{known, told}
 use Rattle.record.proofs.ShapeLaws.{sizes-end, sizes-more, sizes-stop}
 use borrow.Author.Needs.{needs}
 use Rattle.record.proofs.shapes.read_sizes.Statement.{statement}

@@ -4,7 +4,7 @@ use borrow.Author.Needs.{needs}
 use Rattle.model.specs.Types.{among}
 use Rattle.format.specs.Reader.{mapRead}
 use Rattle.format.specs.Records.{readFields, readTy}
-use Rattle.record.proofs.Known.{known, told}
+use Rattle.record.proofs.ReadingLaws.{known, told}
 use Rattle.record.proofs.TypeLaws.{type-deep, type-many, type-unshaped, type-shaped, scalar-unmarked, scalar-ended, scalar-boxed, scalar-kind, scalar-unknown, box-unmarked, box-ended}
 use Rattle.record.proofs.TypeLaws.{box-any, box-all, box-def, box-unformed, def-unnamed, def-misnamed, def-uncounted, def-counted, fields-end, fields-stop, fields-more}
 use Rattle.record.specs.Answers.{answerOf}

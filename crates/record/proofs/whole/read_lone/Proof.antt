@@ -1,6 +1,6 @@
 use Rattle.record.specs.Answers.{answerOf, passed}
 use mathlib.Core.Path.{sym, ap, _∙_}
-use Rattle.record.proofs.Known.{known, told}
+use Rattle.record.proofs.ReadingLaws.{known, told}
 use Rattle.record.proofs.LoneLaws.{lone-trailing, lone-whole, lone-stopped}
 use borrow.Author.Needs.{needs}
 use Rattle.record.proofs.whole.read_lone.Statement.{statement}

@@ -1,4 +1,0 @@
-pub mod At
-pub mod AtLaws
-pub mod Whole
-pub mod WholeLaws

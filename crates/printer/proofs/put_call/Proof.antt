@@ -3,7 +3,7 @@ use mathlib.Core.Path.{sym, ap}
 use lib.ListN.{length}
 use lib.Seq.{length-take-le}
 use Rattle.report.specs.Report.{buffersOf}
-use Rattle.printer.proofs.CallLaws.{value-called, other-called, types-left, left-is, left-there, left-inside, left-room, laid-left, laid-refused}
+use Rattle.printer.proofs.CallLaws.{answered-called, refused-called, types-left, left-is, left-there, left-inside, left-room, laid-left, laid-refused}
 use borrow.Author.Needs.{needs}
 use Rattle.printer.proofs.put_call.Statement.{statement}
 use Rattle.printer.proofs.put_call.Tie as tie
@@ -11,86 +11,148 @@ use Rattle.printer.proofs.put_call.Reads as reads
 use Rattle.printer.proofs.put_call.Lts as lts
 use Rattle.report.proofs.put_left.Reads as put-left-reads
 use Rattle.report.proofs.put_refusal.Reads as put-refusal-reads
-use Rattle.velgrodis.proofs.vg_check_sheet.Reads as vg-check-sheet-reads
+use Rattle.run.proofs.measure_sheet.Reads as measure-sheet-reads
 
-vg-check-sheet-requires : tie.Need-vg-check-sheet-requires
-vg-check-sheet-requires c κs = search needs
+-- src/lib.rt:105:62
+slice-aggregate-measure-sheet : tie.Need-slice-aggregate-measure-sheet
+slice-aggregate-measure-sheet c = search needs
 
+-- src/lib.rt:105:9
+measure-sheet-requires : tie.Need-measure-sheet-requires
+measure-sheet-requires c κs = search needs
+
+-- src/lib.rt:107:33
+enum-known-answer : tie.Need-enum-known-answer
+enum-known-answer c = search needs
+
+-- src/lib.rt:108:29
+slice-aggregate-put-left : tie.Need-slice-aggregate-put-left
+slice-aggregate-put-left c = search needs
+
+-- src/lib.rt:108:39
 slice-reshare-prefix-put-left : tie.Need-slice-reshare-prefix-put-left
 slice-reshare-prefix-put-left c =
-    let call = c .before .before .before .before .before .before in
-    let start = call .before .before .before .before .before .before .before in
-    let e = value-called _ _ _ _ _ (call .vg-check-sheet .result) (call .vg-check-sheet .ensures) (c .if1 .taken) in
-    let t = types-left _ _ _ _ _ (λ i. omega (arith, start .shared-slice-known .given i)) e in
+    let entry = c .before .before .before .before .before .before .before .before .before .before .before .before .before .before .before .before .before .before in
+    let at-shared-slice-known = c .before .before .before .before .before .before .before .before .before .before .before .before .before .before .before .before .before in
+    let at-measure-sheet = c .before .before .before .before .before .before .before .before .before in
+    let at-answer = c .before .before in
+    let args = entry .args in
+    let call = at-measure-sheet .measure-sheet in
+    let told = at-answer .answer .given .1 in
+    let t = types-left (args .sheet .now) (args .result .now) (args .scratch .now) (call .last .1 .0) (call .last .1 .1 .0) (call .result) (call .ensures .0)
+    (call .last .1 .1 .1 .0) (λ i. omega (arith, at-shared-slice-known .shared-slice-known .given i)) (call .ensures .1) told in
     left-inside t
 
-slice-aggregate-put-left : tie.Need-slice-aggregate-put-left
-slice-aggregate-put-left c =
-    let call = c .before .before .before .before .before .before .before in
-    let start = call .before .before .before .before .before .before .before in
-    let e = value-called _ _ _ _ _ (call .vg-check-sheet .result) (call .vg-check-sheet .ensures) (c .before .if1 .taken) in
-    let t = types-left _ _ _ _ _ (λ i. omega (arith, start .shared-slice-known .given i)) e in
+-- src/lib.rt:108:39
+slice-aggregate-put-left-2 : tie.Need-slice-aggregate-put-left-2
+slice-aggregate-put-left-2 c =
+    let entry = c .before .before .before .before .before .before .before .before .before .before .before .before .before .before .before .before .before .before .before in
+    let at-shared-slice-known = c .before .before .before .before .before .before .before .before .before .before .before .before .before .before .before .before .before .before in
+    let at-measure-sheet = c .before .before .before .before .before .before .before .before .before .before in
+    let at-answer = c .before .before .before in
+    let args = entry .args in
+    let call = at-measure-sheet .measure-sheet in
+    let told = at-answer .answer .given .1 in
+    let t = types-left (args .sheet .now) (args .result .now) (args .scratch .now) (call .last .1 .0) (call .last .1 .1 .0) (call .result) (call .ensures .0)
+    (call .last .1 .1 .1 .0) (λ i. omega (arith, at-shared-slice-known .shared-slice-known .given i)) (call .ensures .1) told in
     sym (length-take-le _ _ (left-inside t))
 
+-- src/lib.rt:108:13
 put-left-requires : tie.Need-put-left-requires
 put-left-requires c κs =
-    let call = c .before .before .before .before .before .before .before .before in
-    let start = call .before .before .before .before .before .before .before in
-    let e = value-called _ _ _ _ _ (call .vg-check-sheet .result) (call .vg-check-sheet .ensures) (c .before .before .if1 .taken) in
-    let t = types-left _ _ _ _ _ (λ i. omega (arith, start .shared-slice-known .given i)) e in
-    let entry = start .before in
-    (left-there t, omega (arith, left-room t (length (entry .args .between .now)), entry .pre))
+    let entry = c .before .before .before .before .before .before .before .before .before .before .before .before .before .before .before .before .before .before .before .before in
+    let at-shared-slice-known = c .before .before .before .before .before .before .before .before .before .before .before .before .before .before .before .before .before .before .before in
+    let at-measure-sheet = c .before .before .before .before .before .before .before .before .before .before .before in
+    let at-answer = c .before .before .before .before in
+    let args = entry .args in
+    let call = at-measure-sheet .measure-sheet in
+    let told = at-answer .answer .given .1 in
+    let t = types-left (args .sheet .now) (args .result .now) (args .scratch .now) (call .last .1 .0) (call .last .1 .1 .0) (call .result) (call .ensures .0)
+    (call .last .1 .1 .1 .0) (λ i. omega (arith, at-shared-slice-known .shared-slice-known .given i)) (call .ensures .1) told in
+    (left-there t, omega (arith, left-room t (length (args .between .now)), entry .pre))
 
-same-length : tie.Need-same-length
-same-length c = search needs
+-- src/lib.rt:110:32
+enum-known-answer-2 : tie.Need-enum-known-answer-2
+enum-known-answer-2 c = search needs
 
-same-length-2 : tie.Need-same-length-2
-same-length-2 c = search needs
+-- src/lib.rt:111:25
+cast-put-refusal : tie.Need-cast-put-refusal
+cast-put-refusal c = search needs
 
-same-length-3 : tie.Need-same-length-3
-same-length-3 c = search needs
-
-returns : tie.Need-returns
-returns c =
-    let call = c .before .before .before .before .before .before .before .before .before .before .before in
-    let start = call .before .before .before .before .before .before .before in
-    let e = value-called _ _ _ _ _ (call .vg-check-sheet .result) (call .vg-check-sheet .ensures) (c .before .before .before .before .before .if1 .taken) in
-    let t = types-left _ _ _ _ _ (λ i. omega (arith, start .shared-slice-known .given i)) e in
-    let between = start .before .args .between .now in
-    (laid-left _ _ _ _ _ between e (t .left) (c .before .before .put-left .ensures (t .types) (left-is t)), ap buffersOf e)
-
+-- src/lib.rt:111:13
 put-refusal-requires : tie.Need-put-refusal-requires
 put-refusal-requires c κs = search needs
 
+-- src/lib.rt:93:1
+same-length : tie.Need-same-length
+same-length c = search needs
+
+-- src/lib.rt:93:1
+same-length-2 : tie.Need-same-length-2
+same-length-2 c = search needs
+
+-- src/lib.rt:93:1
+same-length-3 : tie.Need-same-length-3
+same-length-3 c = search needs
+
+-- src/lib.rt:93:1
+returns : tie.Need-returns
+returns c =
+    let entry = c .before .before .before .before .before .before .before .before .before .before .before .before .before .before .before .before .before .before .before .before .before .before .before in
+    let at-shared-slice-known = c .before .before .before .before .before .before .before .before .before .before .before .before .before .before .before .before .before .before .before .before .before .before in
+    let at-measure-sheet = c .before .before .before .before .before .before .before .before .before .before .before .before .before .before in
+    let at-answer = c .before .before .before .before .before .before .before in
+    let at-put-left = c .before .before in
+    let args = entry .args in
+    let call = at-measure-sheet .measure-sheet in
+    let told = at-answer .answer .given .1 in
+    let t = types-left (args .sheet .now) (args .result .now) (args .scratch .now) (call .last .1 .0) (call .last .1 .1 .0) (call .result) (call .ensures .0)
+    (call .last .1 .1 .1 .0) (λ i. omega (arith, at-shared-slice-known .shared-slice-known .given i)) (call .ensures .1) told in
+    let e = answered-called (args .sheet .now) (args .result .now) (args .scratch .now) (call .last .1 .0) (call .last .1 .1 .0) (call .result) (call .ensures .0) told in
+    (laid-left _ _ _ _ _ (args .between .now) e (t .left) (at-put-left .put-left .ensures (t .types) (left-is t)), ap buffersOf e)
+
+-- src/lib.rt:93:1
 same-length-4 : tie.Need-same-length-4
 same-length-4 c = search needs
 
+-- src/lib.rt:93:1
 same-length-5 : tie.Need-same-length-5
 same-length-5 c = search needs
 
+-- src/lib.rt:93:1
 same-length-6 : tie.Need-same-length-6
 same-length-6 c = search needs
 
+-- src/lib.rt:93:1
 returns-2 : tie.Need-returns-2
 returns-2 c =
-    let call = c .before .before .before .before .before .before .before .before .before .before in
-    let between = call .before .before .before .before .before .before .before .before .args .between .now in
-    let e = other-called _ _ _ _ _ (call .vg-check-sheet .result) (call .vg-check-sheet .ensures) (c .before .before .before .before .if1 .left) in
-    (laid-refused _ _ _ _ _ between e (c .before .before .put-refusal .ensures between), ap buffersOf e)
+    let entry = c .before .before .before .before .before .before .before .before .before .before .before .before .before .before .before .before .before .before .before .before .before in
+    let at-measure-sheet = c .before .before .before .before .before .before .before .before .before .before .before .before in
+    let at-answer2 = c .before .before .before .before .before in
+    let at-put-refusal = c .before .before in
+    let args = entry .args in
+    let call = at-measure-sheet .measure-sheet in
+    let e = refused-called (args .sheet .now) (args .result .now) (args .scratch .now) (call .last .1 .0) (call .last .1 .1 .0) (call .result) (call .ensures .0) (at-answer2 .answer2 .given .1) in
+    (laid-refused _ _ _ _ _ (args .between .now) e (at-put-refusal .put-refusal .ensures (args .between .now)), ap buffersOf e)
 
 pub put-call-spec : {M : Type 1} → statement M
 put-call-spec =
     tie.close
     (tie.spec
-    vg-check-sheet-requires
-    slice-reshare-prefix-put-left
+    slice-aggregate-measure-sheet
+    measure-sheet-requires
+    enum-known-answer
     slice-aggregate-put-left
+    slice-reshare-prefix-put-left
+    slice-aggregate-put-left-2
     put-left-requires
+    enum-known-answer-2
+    cast-put-refusal
+    put-refusal-requires
     same-length
     same-length-2
     same-length-3
     returns
-    put-refusal-requires
     same-length-4
     same-length-5
     same-length-6

@@ -12,7 +12,7 @@ use lib.Dec.{eqb, leb, ltb}
 use borrow.Author.Tests.{leb-true, eqb-true, ltb-false}
 use Rattle.model.specs.Limits.{ones, maxSize, maxSizes, maxName, maxFields, firstPrinting, lastPrinting, maxTypes, maxDepth}
 use Rattle.model.specs.Refusals.{unmarked, outOfRange, trailing}
-use Rattle.model.specs.Types.{Dim, static, unknown, Shape, shape, Kind, bool, nat, int, num, complex, ascii, char, stream, any, Scalar, plain, boxAny, Fields, Ty, ty, boxOf, fieldOf, fieldCount, inside, among, types, below, deepest, depth}
+use Rattle.model.specs.Types.{Dim, static, unknown, Shape, Kind, bool, nat, int, num, complex, ascii, char, stream, any, Scalar, plain, boxAny, Fields, Ty, ty, boxOf, fieldOf, fieldCount, inside, among, types, below, deepest, depth}
 use Rattle.model.specs.Within.{All, Each, DimWithin, ShapeWithin, Printing, ScalarWithin, FieldsWithin, RecordsWithin, Within}
 use Rattle.format.specs.Reader.{Bytes, Read, got, stopped, Reader, andThen, give, stop, need, here, byte, judged, number, bytesOf, Took}
 use Rattle.format.specs.WriteRead.{reads-shape}

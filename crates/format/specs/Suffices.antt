@@ -7,7 +7,7 @@ use mathlib.Core.Option.{Option, none, some}
 use mathlib.Core.Path.{_≡_, refl}
 use lib.ListN.{length, length-append}
 use Rattle.model.specs.Limits.{maxSizes, maxName, maxBytes}
-use Rattle.model.specs.Types.{Dim, Shape, shape, Scalar, plain, boxAny, boxAll, boxDef, Fields, noFields, field, Ty, ty, inside, among, types}
+use Rattle.model.specs.Types.{Dim, Shape, shape, Scalar, plain, boxAny, boxAll, boxDef, Fields, noFields, field, Ty, ty, inside, among}
 use Rattle.model.specs.Within.{Each, DimsWithin, ShapeWithin, NameWithin, ScalarWithin, FieldsWithin, Within}
 use Rattle.format.specs.Reader.{bytesOf}
 use Rattle.format.specs.Records.{dimNumber, writeDims, listOf, writeShape, writeScalar, writeFields, writeTy}

@@ -13,9 +13,9 @@ use borrow.Author.Tests.{le-leb, eq-eqb, ne-eqb, le-ltb}
 use Rattle.model.specs.Limits.{ones, maxSize, maxSizes, maxName, maxFields, firstPrinting, lastPrinting, maxTypes, maxDepth}
 use Rattle.model.specs.Refusals.{outOfRange}
 use Rattle.model.specs.Types.{Dim, static, unknown, Shape, shape, Kind, bool, nat, int, num, complex, ascii, char, stream, any, Scalar}
-use Rattle.model.specs.Types.{plain, boxAny, boxAll, boxDef, Fields, noFields, field, Ty, ty, fieldCount, inside, among, types, below, deepest}
+use Rattle.model.specs.Types.{plain, boxAny, boxAll, boxDef, Fields, noFields, field, Ty, ty, fieldCount, inside, among, below, deepest}
 use Rattle.model.specs.Within.{All, Each, DimWithin, DimsWithin, ShapeWithin, Printing, NameWithin, ScalarWithin, FieldsWithin, Within}
-use Rattle.format.specs.Reader.{Read, got, Reader, give, stop, byte, bytesOf, Reads}
+use Rattle.format.specs.Reader.{Read, got, Reader, give, stop, bytesOf, Reads}
 use Rattle.format.specs.ReaderLaws.{reads-give, reads-bind, reads-byte, reads-judged, reads-here, reads-last, reads-number}
 use Rattle.format.specs.Records.{Mark, mark, shapeMark, scalarMark, boxMark, markBytes, absent, code, boxCode, kindOf, dimNumber, writeDims, countOf, listOf, writeShape, boxStart, writeScalar, writeFields, writeTy}
 use Rattle.format.specs.Records.{isCount, isOptional, listCount, optional, isPrinting, form, readMark, readDim, readDims, shapeFrom, readName, readFields, defFrom, allFrom, boxFrom, scalarFrom, readTy, readType}

@@ -1,14 +1,13 @@
 -- Another kind where a kind stands.
 use Prim.Native.Nat.{ℕ, suc, _+_, _<_}
 use native.Mathlib.Omega.{arith}
-use native.Mathlib.Numerals.{add-one}
 use mathlib.Core.List.{List, [], _∷_, _++_, append-assoc}
 use mathlib.Core.Path.{_≡_, sym, _∙_, ap}
 use lib.ListN.{length, set, take, drop}
-use lib.Seq.{take-add, set-split, append-snoc}
+use lib.Seq.{take-add, set-split}
 use Rattle.model.specs.Types.{Kind, plain}
 use Rattle.format.specs.Records.{scalarMark, markBytes, code, writeScalar}
-use Rattle.format.specs.Views.{Stands, stands-first, stands-part}
+use Rattle.format.specs.Views.{stands-first, stands-part}
 use Rattle.lent.specs.Over.{over}
 use Rattle.known.specs.Known.{ScalarAt}
 use Rattle.known.specs.KnownLaws.{scalar-kind}

@@ -1,24 +1,23 @@
 -- Shapes: the counts of their records, and the sizes that stand behind them.
 use Prim.Native.Nat.{ℕ, suc, _+_, _*_, _-_, _≤_, _<_, _^_}
 use native.Mathlib.Omega.{arith}
-use native.Mathlib.Nat.{sub-zero}
-use mathlib.Core.Bool.{true, false}
+use mathlib.Core.Bool.{false}
 use mathlib.Core.List.{List, [], _∷_, _++_, map, append-assoc, append-nil}
 use mathlib.Core.Option.{Option, none, some}
 use mathlib.Core.Path.{_≡_, refl, sym, _∙_, ap}
 use lib.ListN.{length, getD, take, set, length-append}
 use lib.Dec.{eqb, lit<, lit≤}
-use borrow.Author.Tests.{eq-eqb, ne-eqb}
-use Rattle.model.specs.Limits.{ones, maxSize, maxSizes}
-use Rattle.model.specs.Types.{Dim, static, unknown, Shape, shape, Scalar, Ty, ty, shapeOf}
+use borrow.Author.Tests.{ne-eqb}
+use Rattle.model.specs.Limits.{ones, maxSizes}
+use Rattle.model.specs.Types.{Dim, static, unknown, shape, Scalar, Ty, ty, shapeOf}
 use Rattle.model.specs.Within.{Each, DimWithin, DimsWithin}
-use Rattle.format.specs.Reader.{got, number, bytesOf}
+use Rattle.format.specs.Reader.{got, bytesOf}
 use Rattle.format.specs.ReaderLaws.{reads-number}
 use Rattle.format.specs.Records.{absent, dimOf, dimNumber, listCount, countOf, listOf, shapeMark, markBytes, writeDims, writeShape, writeScalar, writeTy}
 use Rattle.format.specs.Suffices.{length-bytesOf, length-writeDims}
 use Rattle.format.specs.Views.{Stands, stands-first, stands-second, stands-nth, stands-within}
 use Rattle.format.specs.WriteRead.{listCount-ok}
-use Rattle.record.specs.Answers.{eightBytes, dimsOf, shapeFor}
+use Rattle.record.specs.Answers.{eightBytes, dimsOf}
 use Rattle.record.specs.declared.Dims.{Dims}
 use Rattle.record.proofs.ByteLaws.{number-eight}
 use Rattle.record.proofs.ByValue.{one-more}

@@ -1,17 +1,16 @@
 -- Skipping: one law for each way out of a function, and what is known as the fields are passed one by one.
-use Prim.Native.Nat.{ℕ, zero, suc, _+_, _-_, _≤_, _<_, max}
+use Prim.Native.Nat.{ℕ, zero, suc, _+_, _-_, _<_, max}
 use native.Mathlib.Omega.{arith}
 use mathlib.Core.Bool.{Bool}
 use mathlib.Core.List.{List, _∷_, _++_}
-use mathlib.Core.Option.{some}
 use mathlib.Core.Path.{_≡_, refl, sym, _∙_, ap, subst}
 use lib.ListN.{length, length-append}
 use Rattle.model.specs.Limits.{maxTypes}
-use Rattle.model.specs.Types.{Scalar, plain, boxAny, boxAll, boxDef, Fields, noFields, field, Ty, ty, shapeOf, scalarOf, fieldCount, inside, among, below, deepest}
-use Rattle.format.specs.Records.{boxStart, countOf, listOf, writeShape, writeScalar, writeFields, writeTy}
-use Rattle.rules.specs.Types.{fieldIn, stretch, stretchIn}
+use Rattle.model.specs.Types.{Scalar, Fields, noFields, field, Ty, ty, shapeOf, scalarOf, fieldCount, inside, among, below, deepest}
+use Rattle.format.specs.Records.{listOf, writeShape, writeScalar, writeFields, writeTy}
+use Rattle.rules.specs.Types.{fieldIn, stretchIn}
 use Rattle.known.specs.Known.{TypeAt, ScalarAt, FieldsAt, HasType, HasScalar, HasFields, SpanIs, ScalarSpan, FieldsSpan, FieldIs, Seen}
-use Rattle.known.specs.KnownLaws.{scalar-behind, has-scalar, behind-ends, deep, first-field, rest-fields}
+use Rattle.known.specs.KnownLaws.{scalar-behind, behind-ends, deep, first-field, rest-fields}
 use Rattle.known.specs.declared.Span.{Span}
 use Rattle.known.specs.declared.View.{View}
 use Rattle.known.specs.declared.View.the-variants.{Plain, BoxAny, BoxAll, BoxDef}

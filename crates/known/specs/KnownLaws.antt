@@ -1,21 +1,21 @@
 -- What stands within what stands at a place, and what the bytes say that are looked at.
-use Prim.Native.Nat.{ℕ, zero, suc, _+_, _-_, _≤_, _<_}
+use Prim.Native.Nat.{ℕ, _+_, _-_, _≤_, _<_}
 use native.Mathlib.Omega.{arith}
 use mathlib.Core.Bool.{true, false}
 use mathlib.Core.List.{List, [], _∷_, _++_}
 use mathlib.Core.Option.{Option, none, some}
 use mathlib.Core.Path.{_≡_, refl, sym, _∙_, ap, subst}
 use lib.ListN.{length, getD, take, drop, length-append}
-use Rattle.model.specs.Types.{Shape, Kind, Scalar, plain, boxAny, boxAll, boxDef, Fields, noFields, field, Ty, ty, shapeOf, scalarOf, fieldCount, inside, among, below, deepest}
+use Rattle.model.specs.Types.{Shape, Scalar, boxAny, boxAll, boxDef, Fields, field, Ty, ty, shapeOf, scalarOf, fieldCount, inside, among, below, deepest}
 use Rattle.model.specs.Within.{Each, NameWithin}
 use Rattle.format.specs.Reader.{got}
 use Rattle.format.specs.ReaderLaws.{reads-here}
-use Rattle.format.specs.Records.{absent, code, boxCode, boxStart, countOf, listOf, writeShape, writeScalar, writeFields, writeTy, shapeFrom, readShape}
+use Rattle.format.specs.Records.{absent, boxCode, boxStart, countOf, listOf, writeShape, writeScalar, writeFields, writeTy, shapeFrom, readShape}
 use Rattle.format.specs.WriteRead.{reads-shape}
 use Rattle.format.specs.Views.{Stands, stands-first, stands-second, stands-byte, stands-within, stands-part}
 use Rattle.rules.specs.Order.{codeOf}
 use Rattle.rules.specs.Views.{formOf, type-least, scalar-least, kind-within, kind-byte, form-within, form-byte, is-plain, is-box-any, is-box-all, is-box-def, is-box-def-else}
-use Rattle.known.specs.Known.{TypeAt, ScalarAt, NameAt, FieldsAt, HasType, HasScalar, HasBox, HasName, HasFields, isNamed, NameIs, SeenPlain, SeenAny, SeenAll, SeenDef}
+use Rattle.known.specs.Known.{TypeAt, ScalarAt, NameAt, FieldsAt, HasType, HasScalar, HasName, isNamed, NameIs, SeenPlain, SeenAny, SeenAll, SeenDef}
 use Rattle.known.specs.declared.Name.{Name}
 
 -- ---- what stands within it
@@ -109,14 +109,8 @@ module _ (s : List ℕ) (at d : ℕ) where
     pub type-deeper : {t : Ty} → TypeAt s at d t → TypeAt s at e t
     type-deeper h = record { stands = h .stands; records = h .records; few = h .few; shallow = omega (arith, h .shallow) }
 
-    pub scalar-deeper : {k : Scalar} → ScalarAt s at d k → ScalarAt s at e k
-    scalar-deeper h = record { stands = h .stands; records = h .records; few = h .few; shallow = omega (arith, h .shallow) }
-
     pub fields-deeper : {f : Fields} → FieldsAt s at d f → FieldsAt s at e f
     fields-deeper h = record { stands = h .stands; records = h .records; numbered = h .numbered; few = h .few; shallow = omega (arith, h .shallow) }
-
-    pub has-deeper : HasType s at d → HasType s at e
-    has-deeper h = record { type = h .type; there = type-deeper (h .there) }
 
   pub deep : HasType s at d → 0 < d
   deep h = go (h .type) (h .there)

@@ -1,17 +1,16 @@
 -- Whole types: what stands where in those that were read.
 use Prim.Native.Nat.{ℕ, _+_, _-_, _≤_}
-use native.Mathlib.Omega.{arith}
 use native.Mathlib.Nat.{zero-add}
-use mathlib.Core.List.{List, [], _++_, append-nil}
-use mathlib.Core.Path.{_≡_, sym, _∙_, ap}
-use lib.ListN.{length, drop, length-drop, drop-of-length-le}
+use mathlib.Core.List.{List}
+use mathlib.Core.Path.{_≡_, sym, ap}
+use lib.ListN.{length, drop}
 use Rattle.model.specs.Limits.{maxDepth}
 use Rattle.model.specs.Types.{Scalar, Ty, ty, shapeOf, scalarOf}
 use Rattle.format.specs.Reader.{Bytes}
 use Rattle.format.specs.Records.{writeShape, writeScalar, writeTy}
 use Rattle.format.specs.Outcome.{accepted, mapped, both, lone, scalarRecord}
 use Rattle.format.specs.ReadWrite.{lone-parts, lone-write}
-use Rattle.format.specs.Views.{Stands, stands-all}
+use Rattle.format.specs.Views.{stands-all}
 use Rattle.record.specs.Answers.{nothing, nothings, shapeFor}
 use Rattle.record.specs.declared.DynShape.{DynShape}
 use Rattle.record.proofs.LoneLaws.{passed-accepted, both-accepted, both-passed}
@@ -31,8 +30,6 @@ module _ (s : List ℕ) (small : Bytes s) where
   has-type good = passed-accepted (lone s) good λ t e. record { type = t; there = type-there t e }
 
   -- it reaches to the end
-  pub type-whole : (t : Ty) → lone s ≡ accepted t → length (writeTy t) ≡ length s
-  type-whole t e = ap length (lone-write s small t e .0)
 
 -- ---- its scalar, which begins at `at`
 

@@ -3,7 +3,7 @@
 use Prim.Native.Nat.{ℕ, zero, suc, _-_, _≤_, _<_}
 use native.Mathlib.Omega.{arith}
 use mathlib.Core.List.{List}
-use mathlib.Core.Path.{_≡_, refl, _∙_}
+use mathlib.Core.Path.{_≡_}
 use lib.ListN.{length}
 use borrow.Author.Tests.{lt-ltb, le-ltb, le-leb, lt-leb}
 use Rattle.model.specs.Refusals.{underflow, overflow}
@@ -11,19 +11,13 @@ use Rattle.format.specs.Reader.{got, stopped, Reader}
 use Rattle.format.specs.ReaderLaws.{split}
 use Rattle.machine.specs.SheetLimits.{maxSteps, maxStack}
 use Rattle.machine.specs.Steps.{Step, Opcode, takes, heightPast}
-use Rattle.machine.specs.Run.{Ruling, gives, refuses, following, Stack, State, afterStep, stepsLeft, step, work}
+use Rattle.machine.specs.Run.{Ruling, gives, refuses, Stack, State, afterStep, stepsLeft, step, work}
 use Rattle.machine.specs.Sheet.{placed, opcodeFrom, argumentFrom, stepFrom, workFrom, toEnd, sheetMore, sheetFrom}
 use Rattle.machine.specs.RunLaws.{following-gives}
 
 -- ---- a rule's answer
 
--- What a rule gives is given at the place reached, and what it refuses is refused at the step's place.
-pub placed-gives : {A : Type 0} (a : A) (p at : ℕ) → placed (gives a) p at ≡ got a at
-placed-gives a p at = refl
-
-pub placed-refuses : {A : Type 0} (k p at : ℕ) → placed {A = A} (refuses k) p at ≡ stopped k p
-placed-refuses k p at = refl
-
+-- What a rule gives is given at the place reached.
 pub placed-got : {A C : Type 0} (a : Ruling A) (p at : ℕ) {b : A} {n : ℕ} → placed a p at ≡ got b n → (a ≡ gives b → at ≡ n → C) → C
 placed-got (gives x) p at e k = k (cc) (cc)
 placed-got (refuses j) p at e k = let z : _≡_ {A = ℕ} 0 1 = cc in absurd (omega arith)
@@ -112,17 +106,3 @@ module _ (s : List ℕ) where
       unfolding workFrom
       work-rule = rw e
 
-      -- what its rule gives lies on the stack, and one step more is taken; what its rule refuses is refused
-      pub work-given : (a : Stack) (n : ℕ) → placed (step x (st .stack)) p end ≡ got a n → workFrom s st p at ≡ got (afterStep st a) n
-      work-given a n r = work-rule ∙ go (step x (st .stack)) r
-        where
-          go : (q : Ruling Stack) → placed q p end ≡ got a n → placed (following q (λ b. gives (afterStep st b))) p end ≡ got (afterStep st a) n
-          go (gives b) r = let w : b ≡ a = cc in let v : end ≡ n = cc in rw (w, v)
-          go (refuses k) r = let z : _≡_ {A = ℕ} 0 1 = cc in absurd (omega arith)
-
-      pub work-refused : (k q : ℕ) → placed (step x (st .stack)) p end ≡ stopped k q → workFrom s st p at ≡ stopped k q
-      work-refused k q r = work-rule ∙ go (step x (st .stack)) r
-        where
-          go : (a : Ruling Stack) → placed a p end ≡ stopped k q → placed (following a (λ b. gives (afterStep st b))) p end ≡ stopped k q
-          go (gives b) r = let z : _≡_ {A = ℕ} 0 1 = cc in absurd (omega arith)
-          go (refuses j) r = let w : j ≡ k = cc in let v : p ≡ q = cc in rw (w, v)

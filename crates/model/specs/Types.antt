@@ -2,7 +2,7 @@
 -- Only scalars and fields hold each other; a type is a shape with a scalar.
 use Prim.Native.Nat.{ℕ, suc, _+_, max}
 use mathlib.Core.List.{List}
-use mathlib.Core.Option.{Option, none, some}
+use mathlib.Core.Option.{Option}
 
 -- A size: static, or unknown, which the paper writes ?.
 pub data Dim : Type 0 where

@@ -12,7 +12,7 @@ use Rattle.format.specs.Records.{code, boxCode, countOf, listOf, writeShape, wr
 use Rattle.format.specs.Reader.{Bytes}
 use Rattle.format.specs.Outcome.{accepted, both, lone}
 use Rattle.record.specs.Answers.{nothings}
-use Rattle.rules.specs.Sizes.{Order, less, same, more, cmpNumber}
+use Rattle.rules.specs.Sizes.{Order, less, same, more}
 use Rattle.rules.specs.Order.{codeOf, kindPlace, cmpKind, thenBy, cmpShape, cmpName, cmpScalar, cmpFields, compare}
 use Rattle.rules.specs.SizesLaws.{cmpNumber-less, cmpNumber-more, cmpNumber-refl}
 use Rattle.rules.specs.OrderLaws.{code-box, cmpKind-same, compare-same}

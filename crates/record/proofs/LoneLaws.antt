@@ -1,7 +1,7 @@
 -- Lone types: one law for each way out of a function.
 use Prim.Native.Nat.{ℕ, _≤_, _<_}
 use native.Mathlib.Omega.{arith}
-use mathlib.Core.Path.{_≡_, refl, sym, _∙_, ap}
+use mathlib.Core.Path.{_≡_, refl, _∙_, ap}
 use mathlib.Core.List.{List}
 use lib.ListN.{length}
 use borrow.Author.Tests.{lt-ltb, le-ltb}
@@ -9,11 +9,10 @@ use Rattle.model.specs.Refusals.{trailing}
 use Rattle.model.specs.Types.{Ty}
 use Rattle.format.specs.Reader.{got, stopped, mapRead}
 use Rattle.format.specs.Records.{readType}
-use Rattle.format.specs.Outcome.{Outcome, accepted, refused, mapped, bound, both, neither, first, second, refusalOf, lone}
+use Rattle.format.specs.Outcome.{Outcome, accepted, refused, mapped, both, neither, first, second, refusalOf, lone}
 use Rattle.record.specs.Answers.{nothing, nothings, loneOf, twoOf, whicheverOf}
 use Rattle.record.specs.declared.Lone.{Lone}
 use Rattle.record.specs.declared.Two.{Two}
-use Rattle.record.specs.declared.Two.the-variants.{Accepted}
 use Rattle.record.proofs.ReadingLaws.{stopped-map, got-map}
 
 -- ---- outcomes whose value is passed over
@@ -30,16 +29,6 @@ pub mapped-refused : {A B : Type 0} (f : A → B) {o : Outcome A} {k p : ℕ} �
 mapped-refused f e = ap (mapped f) e
 
 module _ {A B : Type 0} (x : Outcome A) (y : Outcome B) where
-  pub both-first : {k p : ℕ} → mapped nothing x ≡ refused k p → both nothings x y ≡ refused k p
-  both-first e = rw (passed-refused x e)
-
-  pub both-second : mapped nothing x ≡ accepted 0 → both nothings x y ≡ mapped nothing y
-  both-second e = passed-accepted x e λ a h. rw h (go y)
-    where
-      go : (y : Outcome B) → bound (λ _. accepted 0) y ≡ mapped nothing y
-      go (accepted b) = refl
-      go (refused k p) = refl
-
   pub both-refused : {C : Type 0} (f : A → B → Outcome C) {k p : ℕ} → both nothings x y ≡ refused k p → both f x y ≡ refused k p
   both-refused f e = go x y e
     where
@@ -81,9 +70,6 @@ module _ {A B : Type 0} (x : Outcome A) (y : Outcome B) where
 
   -- what reading the two answered, for a call that need not say which of them was refused
   module _ (two : Two) (read : twoOf two ≡ refusalOf x y) where
-    pub both-good : two ≡ Accepted → both nothings x y ≡ accepted 0
-    both-good e = sym whichever-both ∙ ap whicheverOf (sym read ∙ ap twoOf e)
-
     pub both-read : (l : Lone) → loneOf l ≡ whicheverOf (twoOf two) → loneOf l ≡ both nothings x y
     both-read l e = e ∙ ap whicheverOf read ∙ whichever-both
 

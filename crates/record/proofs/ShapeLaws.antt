@@ -6,7 +6,7 @@ use mathlib.Core.Bool.{Bool, true, false, _||_, cond, or-false}
 use mathlib.Core.List.{List, [], _∷_}
 use mathlib.Core.Path.{_≡_, refl, sym, _∙_, ap}
 use lib.Dec.{eqb, leb}
-use borrow.Author.Tests.{ne-eqb, leb-true}
+use borrow.Author.Tests.{leb-true}
 use Rattle.model.specs.Limits.{maxSizes}
 use Rattle.model.specs.Refusals.{outOfRange}
 use Rattle.model.specs.Types.{Dim, Shape, shape}
@@ -85,9 +85,6 @@ judged-got s allowed p at {b} {n} e = go (byte s p at) e
     go : (r : Read ℕ) → andThen r (λ x. λ m. andThen (need (allowed x) outOfRange p m) (λ _. give x)) ≡ got b n → allowed b ≡ true
     go (got x m) e = fit (allowed x) x m refl e
     go (stopped k q) e = let z : _≡_ {A = ℕ} 0 1 = cc in absurd (omega arith)
-
-pub optional-count : (most n : ℕ) → isOptional most n ≡ true → (n ≡ absent → ⊥) → n ≤ most
-optional-count most n t h = leb-true n most (sym (or-false (leb n most)) ∙ ap (λ b. leb n most || b) (sym (ne-eqb n absent h)) ∙ t)
 
 -- the counts that were read
 module _ (s : List ℕ) (p at : ℕ) {n m : ℕ} where

@@ -25,7 +25,3 @@ textRoom between types bytes = headRoom + linesRoom between types bytes
 -- what the program prints, a line feed after it
 abbrev pub printRoom : ℕ
 printRoom = textRoom 1 maxStack resultBytes + 1
-
--- what a call answers, where up to three bytes stand between two lines
-abbrev pub callRoom : ℕ
-callRoom = textRoom 3 maxStack resultBytes

@@ -7,7 +7,7 @@ use mathlib.Core.Path.{_≡_, refl, _∙_}
 use lib.ListN.{length, getD, length-append}
 use Rattle.model.specs.Types.{Shape, Kind, Scalar, plain, boxAny, boxAll, boxDef, Fields, Ty, ty, fieldCount}
 use Rattle.format.specs.Records.{boxCode, countOf, listOf, boxStart, writeShape, writeScalar, writeFields, writeTy}
-use Rattle.format.specs.Views.{Stands, stands-second, stands-nth, stands-within}
+use Rattle.format.specs.Views.{Stands, stands-nth, stands-within}
 use Rattle.rules.specs.Order.{codeOf}
 use Rattle.rules.specs.OrderLaws.{code-box}
 
@@ -68,9 +68,6 @@ module _ (s : List ℕ) (at : ℕ) (k : Scalar) (stands : Stands s at (writeScal
 
     pub form-byte : getD s (at + 5) 0 ≡ formOf k
     form-byte = stands-nth s at (boxStart (formOf k) ++ afterForm k) 5 (omega (arith, length-append (boxStart (formOf k)) (afterForm k))) box-stands
-
-    pub after-form : Stands s (at + 6) (afterForm k)
-    after-form = stands-second s at (boxStart (formOf k)) (afterForm k) box-stands
 
 -- ---- which scalar it is, by continuation
 

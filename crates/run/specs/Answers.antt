@@ -21,7 +21,6 @@ use Rattle.stack.specs.Stack.{size, Stacked, HasStack}
 use Rattle.run.specs.declared.Reached.{Reached}
 use Rattle.run.specs.declared.Reached.the-variants.{At, Refused}
 use Rattle.run.specs.declared.Worked.{Worked}
-use Rattle.run.specs.declared.Ran.{Ran}
 use Rattle.run.specs.declared.SheetAnswer.{SheetAnswer}
 use Rattle.run.specs.declared.SheetAnswer.the-variants.{Accepted, Refused as Refuses}
 

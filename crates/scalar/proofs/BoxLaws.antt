@@ -3,7 +3,7 @@ use Prim.Native.Nat.{ℕ, _-_}
 use mathlib.Core.Bool.{Bool, true, false, cond}
 use mathlib.Core.List.{List}
 use mathlib.Core.Path.{_≡_, refl, sym, _∙_, ap, subst}
-use Rattle.model.specs.Types.{Shape, any, Scalar, plain, boxAny, boxAll, boxDef, Ty, ty, boxOf, shapeOf, scalarOf}
+use Rattle.model.specs.Types.{Shape, any, Scalar, plain, boxAny, boxAll, boxDef, Ty, ty, boxOf, scalarOf}
 use Rattle.format.specs.Records.{boxCode}
 use Rattle.rules.specs.Order.{codeOf, compare}
 use Rattle.rules.specs.Shapes.{compatibleShapes}
@@ -17,7 +17,7 @@ use Rattle.order.specs.declared.Ranking.{Ranking}
 use Rattle.order.specs.declared.Ranking.the-variants.{Less, Same, More}
 use Rattle.order.proofs.AnswerLaws.{ranking-less, ranking-same, ranking-more}
 use Rattle.order.proofs.TypeLaws.{Looked, Starts, Shaped, seen}
-use Rattle.scalar.specs.Calls.{unitedOf, AllAt, NoAll, InnerIs, compatibleContents}
+use Rattle.scalar.specs.Calls.{unitedOf, NoAll, InnerIs, compatibleContents}
 use Rattle.scalar.specs.declared.Inner.{Inner}
 use Rattle.scalar.specs.declared.Inner.the-variants.{Content, Code}
 use Rattle.scalar.specs.declared.United.{United}

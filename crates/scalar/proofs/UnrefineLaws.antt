@@ -1,21 +1,20 @@
 -- Unrefining where a record stands: bytes laid over a part of what stands there, and one law for each way out of a function.
-use Prim.Native.Nat.{ℕ, suc, _+_, _-_, _≤_, _<_}
+use Prim.Native.Nat.{ℕ, _+_, _-_, _≤_, _<_}
 use native.Mathlib.Omega.{arith}
 use native.Mathlib.Nat.{zero-add, add-zero}
-use native.Mathlib.Numerals.{add-one}
 use mathlib.Core.Bool.{Bool}
 use mathlib.Core.List.{List, [], _∷_, _++_, append-assoc}
 use mathlib.Core.Option.{Option}
 use mathlib.Core.Path.{_≡_, refl, sym, _∙_, ap, subst}
-use lib.ListN.{length, getD, set, take, drop, length-append, length-drop, take-append-drop}
-use lib.Seq.{take-add, set-split, paste-zero, append-snoc, drop-append-seam}
+use lib.ListN.{length, take, drop, length-append, length-drop, take-append-drop}
+use lib.Seq.{take-add, paste-zero, drop-append-seam}
 use Rattle.model.specs.Limits.{maxDepth}
 use Rattle.model.specs.Refusals.{tooShort}
 use Rattle.model.specs.Types.{Shape, Kind, bool, nat, int, num, complex, ascii, char, stream, any, Scalar, plain, boxAny, boxAll, boxDef, Fields, noFields, field, Ty, ty, scalarOf, fieldCount}
 use Rattle.format.specs.Reader.{Bytes}
 use Rattle.format.specs.Records.{code, boxStart, countOf, listOf, writeShape, writeScalar, writeFields, writeTy}
 use Rattle.format.specs.Outcome.{Outcome, accepted, refused, mapped, lone, delivery, deliver}
-use Rattle.format.specs.Views.{rest-is, Stands, stands-first, stands-part, stands-within}
+use Rattle.format.specs.Views.{rest-is, Stands, stands-first, stands-part}
 use Rattle.lent.specs.Over.{over, over-front, drop-over, over-over}
 use Rattle.lent.specs.Delivers.{deliver-short, deliver-wrote}
 use Rattle.record.specs.Answers.{nothing}
@@ -43,9 +42,6 @@ module _ (d : List ℕ) (at : ℕ) where
       let front : take (at + length v) d ≡ take at d ++ v = take-add at (length v) d ∙ ap (λ x. take at d ++ x) (stands-part d at v (stands-first d at v w h)) in
       let end : at + length v + length w′ ≡ at + length (v ++ w′) = omega (arith, length-append v w′) in
       rw (front, end) (ap (λ x. x ++ drop (at + length (v ++ w′)) d) (append-assoc (take at d) v w′))
-
-  pub over-byte : (v : ℕ) → at < length d → set d at v ≡ over d at (v ∷ [])
-  over-byte v h = set-split d at v h ∙ rw add-one (sym (append-snoc (take at d) v (drop (suc at) d)))
 
   -- what stands behind the bytes that were laid down still does
   pub stands-behind : (w w′ v : List ℕ) → length w ≡ length w′ → at + length w ≤ length d → Stands d (at + length w) v → Stands (over d at w′) (at + length w) v

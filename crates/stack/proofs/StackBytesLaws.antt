@@ -1,5 +1,5 @@
 -- The stack's types one after the other: how long their bytes are, laying them down in turn, and that they are the types left.
-use Prim.Native.Nat.{ℕ, zero, suc, _+_, _-_, _*_, _≤_, _<_}
+use Prim.Native.Nat.{ℕ, zero, suc, _+_, _-_, _≤_, _<_}
 use native.Mathlib.Omega.{arith}
 use native.Mathlib.Nat.{eq-or-lt-of-le}
 use native.Mathlib.Numerals.{add-one}
@@ -8,7 +8,6 @@ use mathlib.Core.Logic.{⊎-elim}
 use mathlib.Core.Path.{_≡_, refl, sym, _∙_, ap}
 use lib.ListN.{length, getD, take, drop, length-append, length-drop}
 use lib.Seq.{length-take-le}
-use Rattle.model.specs.Limits.{maxBytes}
 use Rattle.model.specs.Types.{Ty}
 use Rattle.format.specs.Records.{writeTy}
 use Rattle.lent.specs.Over.{over, over-over, over-front}

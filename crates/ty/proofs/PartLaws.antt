@@ -1,5 +1,5 @@
 -- Lone types that were read: their parts, and what their scalars are.
-use Prim.Native.Nat.{ℕ, _+_, _-_, _≤_}
+use Prim.Native.Nat.{ℕ, _-_, _≤_}
 use native.Mathlib.Omega.{arith}
 use mathlib.Core.Bool.{Bool}
 use mathlib.Core.List.{List}
@@ -7,7 +7,7 @@ use mathlib.Core.Path.{_≡_, sym, _∙_, ap, subst}
 use lib.ListN.{length, drop, length-append}
 use lib.Seq.{drop-drop}
 use Rattle.model.specs.Limits.{maxDepth}
-use Rattle.model.specs.Types.{Shape, Kind, Scalar, plain, boxAny, boxAll, boxDef, Ty, ty, scalarOf}
+use Rattle.model.specs.Types.{Shape, Kind, Scalar, plain, boxAny, boxAll, Ty, ty, scalarOf}
 use Rattle.format.specs.Reader.{Bytes}
 use Rattle.format.specs.Records.{writeScalar, writeTy}
 use Rattle.format.specs.Outcome.{Outcome, accepted, mapped, lone, Delivery, deliver}

@@ -49,9 +49,6 @@ module _ (s : List ℕ) (at : ℕ) (r : Span) (t : Ty) (h : TypeAt s at maxDepth
   pub some-types : 1 ≤ r .types
   some-types = omega (arith, span .types, types-are t)
 
-  pub few-types : r .types ≤ maxTypes
-  few-types = omega (arith, span .types, h .few)
-
   type-long : length (writeTy t) ≤ typeBytes * types t
   unfolding writeTy
   type-long = go t h

@@ -5,14 +5,14 @@ use known::scalar_at;
 use known::span_at;
 use lent::lay;
 ghost use mathlib.Core.Path.{_≡_};
-ghost use Prim.Native.Nat.{_+_, _*_, _≤_};
+ghost use Prim.Native.Nat.{_+_, _*_};
 ghost use lib.ListN.{length, take};
 ghost use Rattle.format.specs.Suffices.{boxBytes};
 ghost use Rattle.model.specs.Limits.{maxDepth};
-ghost use Rattle.model.specs.Types.{Fields, Ty, fieldCount, among, scalarOf};
+ghost use Rattle.model.specs.Types.{Fields, Ty, fieldCount, scalarOf};
 ghost use Rattle.known.specs.Known.{TypeAt};
 ghost use Rattle.validate.specs.Lists.{ListAt};
-ghost use Rattle.validate.specs.Walk.{typeBytes, CopyIs, scalarPiece, typePiece, fieldsPiece, Copyable, Placeable, Listable};
+ghost use Rattle.validate.specs.Walk.{CopyIs, scalarPiece, typePiece, fieldsPiece, Copyable, Placeable, Listable};
 
 // The scalar of the type at `at`.
 pub fn copy_scalar(s: &[u8], at: usize, out: &mut [u8], to: usize) -> Extent

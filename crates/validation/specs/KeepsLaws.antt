@@ -10,7 +10,7 @@ use Rattle.model.specs.Limits.{maxFields}
 use Rattle.model.specs.Refusals.{tooMany}
 use Rattle.model.specs.Types.{Shape, any, Scalar, plain, boxAny, boxAll, boxDef, Fields, noFields, field, Ty, ty, fieldOf, fieldCount, inside, among, below, deepest}
 use Rattle.format.specs.Records.{code}
-use Rattle.format.specs.Outcome.{Outcome, accepted}
+use Rattle.format.specs.Outcome.{accepted}
 use Rattle.rules.specs.Types.{anyTy, copies}
 use Rattle.validation.specs.CheckShape.{unsided, checkShape}
 use Rattle.validation.specs.AsFields.{measured, fieldsFor, asBox, copied, orName, named, asFields}

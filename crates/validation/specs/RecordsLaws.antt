@@ -13,7 +13,7 @@ use Rattle.model.specs.Refusals.{tooMany}
 use Rattle.model.specs.Types.{Shape, any, Scalar, plain, boxAny, boxAll, boxDef, Fields, noFields, field, Ty, ty, fieldOf, fieldCount}
 use Rattle.model.specs.Within.{Each, NameWithin, ShapeWithin, ScalarWithin, FieldsWithin, RecordsWithin}
 use Rattle.format.specs.Records.{code}
-use Rattle.format.specs.Outcome.{Outcome, accepted}
+use Rattle.format.specs.Outcome.{accepted}
 use Rattle.rules.specs.Types.{anyTy, copies}
 use Rattle.rules.specs.FieldsLaws.{anyTy-within, copies-count, copies-within}
 use Rattle.validation.specs.CheckShape.{unsided, checkShape}

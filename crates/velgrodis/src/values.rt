@@ -1,6 +1,5 @@
 // Calls on values handed in. The number `kind` says which of those lent is the value: 0 the number x, 1 the list, 2 the type.
 use crate::Answer;
-use crate::answers::nothing;
 use crate::answers::of_count;
 use crate::answers::of_dim;
 use crate::answers::of_row;

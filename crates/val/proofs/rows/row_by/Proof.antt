@@ -1,4 +1,4 @@
-use mathlib.Core.Path.{sym, _∙_, ap, refl}
+use mathlib.Core.Path.{_∙_, ap, refl}
 use Rattle.val.specs.Answers.{typeRowFor, valueRowFor}
 use Rattle.val.specs.Values.{written}
 use Rattle.val.proofs.RowLaws.{rows-number, rows-list, rows-type}

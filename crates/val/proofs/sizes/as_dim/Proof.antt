@@ -1,4 +1,4 @@
-use mathlib.Core.Path.{refl, sym, ap, _∙_}
+use mathlib.Core.Path.{refl, sym, _∙_}
 use Rattle.val.specs.Values.{valueAsDim}
 use Rattle.val.proofs.HandedLaws.{for-number, for-list, for-any-type}
 use borrow.Author.Needs.{needs}

@@ -5,7 +5,7 @@ use native.Mathlib.Numerals.{add-one}
 use mathlib.Core.Bool.{Bool, true, false, cond}
 use mathlib.Core.List.{List, [], _∷_, _++_, append-assoc, append-nil}
 use mathlib.Core.Option.{Option}
-use mathlib.Core.Path.{_≡_, refl, sym, _∙_, ap}
+use mathlib.Core.Path.{_≡_, refl, sym, _∙_, ap, subst}
 use lib.ListN.{length, take}
 use Rattle.model.specs.Limits.{maxTypes, maxDepth}
 use Rattle.model.specs.Types.{Shape, Scalar, boxDef, Fields, noFields, field, Ty, ty, shapeOf, boxOf, fieldOf, fieldCount, inside, among, types}
@@ -471,28 +471,24 @@ module _ {s : List ℕ} {i : ℕ} {t : List ℕ} {j o a : ℕ} (w : Pair s i t j
   pub plan-pairs : {x y : Items} {f : Bool} {l : ℕ} {g : Bool} → plan ≡ Pairs x y f l g → PairsAre s t o a (scalarAfter w) (w .spec-scalar) (w .type-scalar) x y f l g
   plan-pairs e = rw e at planned
 
+-- the same lists, where the type's bytes are others
 module _ {s : List ℕ} {x y : Items} {o a : ℕ} where
-  abbrev pub fresh-lists : (t : List ℕ) (fresh : Bool) → TwoLists s x (cond fresh anyBytes t) y o a → fresh ≡ true → TwoLists s x anyBytes y o a
-  fresh-lists t fresh v e = record {
+  abbrev pub over-lists : {t u : List ℕ} → t ≡ u → TwoLists s x t y o a → TwoLists s x u y o a
+  over-lists e v = record {
     spec-fields = v .spec-fields;
     type-fields = v .type-fields;
     spec-list = v .spec-list;
     spec-count = v .spec-count;
-    type-list = rw e at (v .type-list);
+    type-list = subst (λ b. ListAt (y .moves) b (y .at) (v .type-fields)) e (v .type-list);
     type-count = v .type-count;
     limits = v .limits;
   }
 
+  abbrev pub fresh-lists : (t : List ℕ) (fresh : Bool) → TwoLists s x (cond fresh anyBytes t) y o a → fresh ≡ true → TwoLists s x anyBytes y o a
+  fresh-lists t fresh v e = over-lists (ap (λ b. cond b anyBytes t) e) v
+
   abbrev pub own-lists : (t : List ℕ) (fresh : Bool) → TwoLists s x (cond fresh anyBytes t) y o a → fresh ≡ false → TwoLists s x t y o a
-  own-lists t fresh v e = record {
-    spec-fields = v .spec-fields;
-    type-fields = v .type-fields;
-    spec-list = v .spec-list;
-    spec-count = v .spec-count;
-    type-list = rw e at (v .type-list);
-    type-count = v .type-count;
-    limits = v .limits;
-  }
+  own-lists t fresh v e = over-lists (ap (λ b. cond b anyBytes t) e) v
 
 -- ---- what was written inside a box
 

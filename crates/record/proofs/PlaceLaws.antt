@@ -120,9 +120,26 @@ shape-is s at {o} {n} e =
     split (readDims s m at c) e₆ λ ds d e₇ e₈.
     split (readDims s (listCount k) at d) e₈ λ es q e₉ e₁₀.
     gave e₁₀ λ x y.
-    go a m b k c ds d es q (mark-passes s at shapeMark at e₁) (judged-is s at (isCount maxSizes) a e₃) (judged-is s at (isOptional maxSizes) b e₅) (sizes-are s at m c (judged-is s at (isOptional maxSizes) b e₅ .0 .passes .inside) e₇) (sizes-are s at (listCount k) d (sizes-are s at m c (judged-is s at (isOptional maxSizes) b e₅ .0 .passes .inside) e₇ .passes .inside) e₉) x y
+    let opening = judged-is s at (isCount maxSizes) a e₃ in
+    let closing = judged-is s at (isOptional maxSizes) b e₅ in
+    let first = sizes-are s at m c (closing .0 .passes .inside) e₇ in
+    let second = sizes-are s at (listCount k) d (first .passes .inside) e₉ in
+    go a m b k c ds d es q (mark-passes s at shapeMark at e₁) opening closing first second x y
   where
-    go : (a m b k c : ℕ) (ds : List Dim) (d : ℕ) (es : List Dim) (q : ℕ) → Passes s at 2 a → ByteIs s a m b × (isCount maxSizes m ≡ true) → ByteIs s b k c × (isOptional maxSizes k ≡ true) → SizesAre s m c ds d → SizesAre s (listCount k) d es q → shape ds (optional k es) ≡ o → q ≡ n → ShapeIs s at o n
+    go :
+        (a m b k c : ℕ)
+        (ds : List Dim)
+        (d : ℕ)
+        (es : List Dim)
+        (q : ℕ) →
+        Passes s at 2 a →
+        ByteIs s a m b × (isCount maxSizes m ≡ true) →
+        ByteIs s b k c × (isOptional maxSizes k ≡ true) →
+        SizesAre s m c ds d →
+        SizesAre s (listCount k) d es q →
+        shape ds (optional k es) ≡ o →
+        q ≡ n →
+        ShapeIs s at o n
     go a m b k c ds d es q f (g, i) (h, j) v w x y =
         let a′ : a ≡ at + 2 = f .end in
         let b′ : b ≡ at + 3 = omega (arith, g .passes .end) in

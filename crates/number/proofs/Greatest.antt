@@ -8,12 +8,12 @@ use lib.ListN.{length, drop, getD, drop-of-length-le}
 use lib.Seq.{drop-cons}
 use lib.Ieee.{Float, nan}
 use Rattle.format.specs.Records.{code}
-use Rattle.number.specs.Kind.{any, notWhole, negative, aboveOne, kindBy, kindOf}
+use Rattle.number.specs.Kind.{any, notWhole, negative, aboveOne, kindBy, kindOfNumbers}
 
 -- ---- one number
 
-pub kindOf-one : (x : Float) (p q r : Bool) → notWhole x ≡ p → negative x ≡ q → aboveOne x ≡ r → code (kindOf (x ∷ [])) ≡ code (kindBy p q r)
-kindOf-one x p q r a b c = simp (a, b, c, or-false)
+pub kindOfNumbers-one : (x : Float) (p q r : Bool) → notWhole x ≡ p → negative x ≡ q → aboveOne x ≡ r → code (kindOfNumbers (x ∷ [])) ≡ code (kindBy p q r)
+kindOfNumbers-one x p q r a b c = simp (a, b, c, or-false)
 
 -- ---- one number more
 
@@ -36,12 +36,12 @@ kindBy-or false false false false true r = refl
 kindBy-or false false false false false true = refl
 kindBy-or false false false false false false = refl
 
-kindOf-cons : (x : Float) (xs : List Float) → code (kindOf (x ∷ xs)) ≡ max (code (kindOf (x ∷ []))) (code (kindOf xs))
-kindOf-cons x xs = kindBy-or (notWhole x) (negative x) (aboveOne x) (any notWhole xs) (any negative xs) (any aboveOne xs)
+kindOfNumbers-cons : (x : Float) (xs : List Float) → code (kindOfNumbers (x ∷ xs)) ≡ max (code (kindOfNumbers (x ∷ []))) (code (kindOfNumbers xs))
+kindOfNumbers-cons x xs = kindBy-or (notWhole x) (negative x) (aboveOne x) (any notWhole xs) (any negative xs) (any aboveOne xs)
 
-pub greatest-next : (xs : List Float) (i : ℕ) → i < length xs → code (kindOf (drop i xs)) ≡ max (code (kindOf (getD xs i nan ∷ []))) (code (kindOf (drop (i + 1) xs)))
-greatest-next xs i h = rw (add-one, drop-cons xs i nan h) (kindOf-cons (getD xs i nan) (drop (suc i) xs))
+pub greatest-next : (xs : List Float) (i : ℕ) → i < length xs → code (kindOfNumbers (drop i xs)) ≡ max (code (kindOfNumbers (getD xs i nan ∷ []))) (code (kindOfNumbers (drop (i + 1) xs)))
+greatest-next xs i h = rw (add-one, drop-cons xs i nan h) (kindOfNumbers-cons (getD xs i nan) (drop (suc i) xs))
 
-pub greatest-ends : (xs : List Float) (i : ℕ) → length xs ≤ i → code (kindOf (drop i xs)) ≡ 0
+pub greatest-ends : (xs : List Float) (i : ℕ) → length xs ≤ i → code (kindOfNumbers (drop i xs)) ≡ 0
 unfolding code
-greatest-ends xs i h = ap (λ ys. code (kindOf ys)) (drop-of-length-le xs h)
+greatest-ends xs i h = ap (λ ys. code (kindOfNumbers ys)) (drop-of-length-le xs h)

@@ -8,9 +8,9 @@ use Rattle.number.specs.declared.Class as declared
 use Rattle.number.specs.declared.Class.the-variants.{NotANumber, Infinite, Fraction, Whole, Larger}
 use Rattle.number.specs.declared.Sized.{Sized}
 use Rattle.number.specs.declared.Sized.the-variants.{Size, Refused}
-use Rattle.number.specs.declared.Answer.{Answer}
-use Rattle.number.specs.declared.Answer.the-variants.{Count, Refused as RefusedAt}
-use Rattle.number.specs.declared.Dims.{Dims}
+use Rattle.number.specs.declared.Listing.{Listing}
+use Rattle.number.specs.declared.Listing.the-variants.{Count, Refused as RefusedAt}
+use Rattle.number.specs.declared.ListDims.{ListDims}
 use Rattle.model.specs.Limits.{ones}
 use Rattle.number.specs.Class.{Class, notANumber, infinite, fraction, whole, larger}
 use Rattle.number.specs.Size.{SizeOutcome, size, unknown, refused}
@@ -28,14 +28,14 @@ abbrev pub sizeOutcome : Sized → SizeOutcome
 sizeOutcome (Size n) = cond (eqb n ones) unknown (size n)
 sizeOutcome (Refused k) = refused k
 
-abbrev pub answerOutcome : Answer → List ℕ → SizesOutcome
+abbrev pub answerOutcome : Listing → List ℕ → SizesOutcome
 answerOutcome (Count n) list = sizes (take n list)
 answerOutcome (RefusedAt k p) list = refusedAt k p
 
 -- how many sizes of the array are meant
-abbrev pub countOf : Answer → ℕ
-countOf (Count n) = n
-countOf (RefusedAt k p) = 0
+abbrev pub listCountOf : Listing → ℕ
+listCountOf (Count n) = n
+listCountOf (RefusedAt k p) = 0
 
-abbrev pub dimsOutcome : Dims → SizesOutcome
+abbrev pub dimsOutcome : ListDims → SizesOutcome
 dimsOutcome r = answerOutcome (r .answer) (r .list)

@@ -10,7 +10,7 @@ use Rattle.model.specs.Refusals.{outOfRange, oversized, notASize}
 use Rattle.model.specs.Types.{bool, nat, int, num}
 use Rattle.number.specs.Size.{size, unknown, refused, asDim, listedDim}
 use Rattle.number.specs.Sizes.{sizes, refusedAt, sizesFrom, listedDims}
-use Rattle.number.specs.Kind.{kindOf}
+use Rattle.number.specs.Kind.{kindOfNumbers}
 
 -- ---- how the numbers are written
 
@@ -60,16 +60,16 @@ eightOnes = one ∷ one ∷ one ∷ one ∷ one ∷ one ∷ one ∷ one ∷ []
 
 -- ---- kinds
 
-pub kind-empty : kindOf [] ≡ bool
+pub kind-empty : kindOfNumbers [] ≡ bool
 kind-empty = refl
 
 -- too large for a size, and whole all the same
-pub kind-huge : (kindOf (huge ∷ []) ≡ nat) × (kindOf (minusHuge ∷ []) ≡ int)
+pub kind-huge : (kindOfNumbers (huge ∷ []) ≡ nat) × (kindOfNumbers (minusHuge ∷ []) ≡ int)
 unfolding lt
 kind-huge = (refl, refl)
 
 -- one fraction or NaN outweighs every other number, wherever it stands
-pub kind-mixed : (kindOf (minusOne ∷ two ∷ half ∷ []) ≡ num) × (kindOf (nan ∷ minusOne ∷ []) ≡ num)
+pub kind-mixed : (kindOfNumbers (minusOne ∷ two ∷ half ∷ []) ≡ num) × (kindOfNumbers (nan ∷ minusOne ∷ []) ≡ num)
 unfolding lt
 kind-mixed = (refl, refl)
 

@@ -34,5 +34,5 @@ aboveOne x = lt (fin false 1 (pos 0)) x
 abbrev pub kindBy : Bool → Bool → Bool → Kind
 kindBy p q r = cond p num (cond q int (cond r nat bool))
 
-abbrev pub kindOf : List Float → Kind
-kindOf xs = kindBy (any notWhole xs) (any negative xs) (any aboveOne xs)
+abbrev pub kindOfNumbers : List Float → Kind
+kindOfNumbers xs = kindBy (any notWhole xs) (any negative xs) (any aboveOne xs)

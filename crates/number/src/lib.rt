@@ -21,8 +21,8 @@ ghost use Rattle.format.specs.Records.{code};
 ghost use Rattle.number.specs.Class.{whole, classOfRatio, classOf, magnitude};
 ghost use Rattle.number.specs.Size.{refused, sizeOfWhole, asDim, listedDim};
 ghost use Rattle.number.specs.Sizes.{refusedAt, listedDims};
-ghost use Rattle.number.specs.Kind.{kindOf};
-ghost use Rattle.number.specs.Answers.{classOutcome, sizeOutcome, dimsOutcome, countOf};
+ghost use Rattle.number.specs.Kind.{kindOfNumbers};
+ghost use Rattle.number.specs.Answers.{classOutcome, sizeOutcome, dimsOutcome, listCountOf};
 
 // An f64 is, from its highest bit down, a sign, 11 bits of exponent and 52 digits below a leading one.
 const SIGN: u64 = 9223372036854775808;
@@ -160,19 +160,19 @@ fn cast_whole(x: f64, negative: bool) -> Sized
 }
 
 // How many sizes there are, or a refusal.
-pub enum Answer {
+pub enum Listing {
     Count(usize),
     Refused { number: u8, place: usize },
 }
 
 // An enum cannot hold an array, so the sizes stand beside it: the first Count of the list.
-pub struct Dims {
-    pub answer: Answer,
+pub struct ListDims {
+    pub answer: Listing,
     pub list: [u64; MAX_SIZES],
 }
 
-pub fn dims_of(xs: &[f64]) -> Dims
-    ensures { λ r. ⌜ (dimsOutcome r ≡ listedDims (now (xs .entry))) × (countOf (r .answer) ≤ maxSizes) ⌝ }
+pub fn dims_of(xs: &[f64]) -> ListDims
+    ensures { λ r. ⌜ (dimsOutcome r ≡ listedDims (now (xs .entry))) × (listCountOf (r .answer) ≤ maxSizes) ⌝ }
 {
     // Before any number is looked at.
     if MAX_SIZES < xs.len() {
@@ -191,24 +191,24 @@ pub fn dims_of(xs: &[f64]) -> Dims
         }
         i += 1;
     }
-    Dims {
-        answer: Answer::Count(i),
+    ListDims {
+        answer: Listing::Count(i),
         list,
     }
 }
 
-fn refuse_dims(number: u8, place: usize) -> Dims
-    ensures { λ r. ⌜ (dimsOutcome r ≡ refusedAt number place) × (countOf (r .answer) ≡ 0) ⌝ }
+fn refuse_dims(number: u8, place: usize) -> ListDims
+    ensures { λ r. ⌜ (dimsOutcome r ≡ refusedAt number place) × (listCountOf (r .answer) ≡ 0) ⌝ }
 {
-    Dims {
-        answer: Answer::Refused { number, place },
+    ListDims {
+        answer: Listing::Refused { number, place },
         list: [0u64; MAX_SIZES],
     }
 }
 
 // The code of the kind of a number alone: that of the list of this one number.
 pub fn kind_of_number(x: f64) -> u64
-    ensures { λ r. ⌜ r ≡ code (kindOf (x ∷ [])) ⌝ }
+    ensures { λ r. ⌜ r ≡ code (kindOfNumbers (x ∷ [])) ⌝ }
 {
     match classify(x) {
         Class::NotANumber | Class::Infinite { negative: _ } | Class::Fraction => NUM,
@@ -226,7 +226,7 @@ pub fn kind_of_number(x: f64) -> u64
 
 // The code of a list's kind. Codes are in the order in which one number's kind outweighs another's, so the list has the greatest.
 pub fn kind_of(xs: &[f64]) -> u64
-    ensures { λ r. ⌜ r ≡ code (kindOf (now (xs .entry))) ⌝ }
+    ensures { λ r. ⌜ r ≡ code (kindOfNumbers (now (xs .entry))) ⌝ }
 {
     let mut kind = BOOL;
     let mut i = 0;

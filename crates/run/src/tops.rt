@@ -4,7 +4,7 @@ use join::write_union;
 use known::shape_at;
 use lent::Written;
 use limits::refusal::UNPERVADED;
-use shape::Verdict;
+use shape::Pervasion;
 use shape::pervade_dyn_shapes;
 use stack::Bounds;
 use stack::load;
@@ -119,7 +119,7 @@ fn pervade_types(a: &[u8], b: &[u8], a_fill: bool, b_fill: bool, out: &mut [u8])
 {
     let pervaded = pervade_dyn_shapes(shape_at(a, 0), shape_at(b, 0), a_fill, b_fill);
     let answer = pervaded.answer;
-    if let Verdict::Clash(_) = answer {
+    if let Pervasion::Clash(_) = answer {
         return Written::Refused {
             number: UNPERVADED,
             place: 0,

@@ -19,8 +19,8 @@ use Rattle.rules.specs.PervadeSteps.{pervadeAt, pervade-step, pervade-end, afte
 use Rattle.rules.specs.Sizes.{Order, cmpDim}
 use Rattle.record.proofs.ByValue.{one-more}
 use Rattle.shape.specs.Answers.{sizesBeside, shapeBeside}
-use Rattle.shape.specs.declared.Verdict.{Verdict}
-use Rattle.shape.specs.declared.Verdict.the-variants.{Pervaded as Pervades, Clash}
+use Rattle.shape.specs.declared.Pervasion.{Pervasion}
+use Rattle.shape.specs.declared.Pervasion.the-variants.{Pervaded as Pervades, Clash}
 use Rattle.shape.proofs.SizeLaws.{one-number}
 
 -- ---- two sizes
@@ -147,7 +147,7 @@ pub pervade-beside :
     (f g : Bool)
     (o p : List Dim)
     (c d : Option (List Dim))
-    (v : Verdict)
+    (v : Pervasion)
     {l : List Dim}
     {s : Shape} →
     sizesBeside v l ≡ pervadeDims f g o p →

@@ -1,5 +1,5 @@
 // Lists of sizes by value, index by index: eight-element arrays beside a count.
-use crate::Slot;
+use crate::Spot;
 use crate::sizes::join_sizes;
 use crate::sizes::larger;
 use crate::sizes::row_compatible;
@@ -16,7 +16,7 @@ ghost use Rattle.format.specs.Records.{dimOf};
 ghost use Rattle.record.specs.Answers.{dimsOf};
 ghost use Rattle.rules.specs.Shapes.{compatibleDims, mergeDims, joinDims, joinEnds};
 ghost use Rattle.rules.specs.ShapesSteps.{mergeAt, fromEnd};
-ghost use Rattle.shape.specs.Answers.{slotOf};
+ghost use Rattle.shape.specs.Answers.{spotOf};
 
 // As many sizes as the longer list, the larger at a shared index, the rest from the longer.
 pub fn merge_dims(a: Dims, b: Dims) -> Dims
@@ -35,10 +35,10 @@ pub fn merge_dims(a: Dims, b: Dims) -> Dims
 fn merge_at(a: Dims, b: Dims, i: usize) -> u64
     ensures { λ r. ⌜ dimOf r ≡ mergeAt (getElem? (dimsOf a) i) (getElem? (dimsOf b) i) ⌝ }
 {
-    let Slot::Size(x) = get(a, i) else {
+    let Spot::Size(x) = get(a, i) else {
         return size_at(b, i);
     };
-    let Slot::Size(y) = get(b, i) else {
+    let Spot::Size(y) = get(b, i) else {
         return x;
     };
     larger(x, y)
@@ -120,13 +120,13 @@ pub fn rest_dims(d: Dims) -> Dims
 }
 
 // The size at an index, where the list has one.
-pub fn get(d: Dims, i: usize) -> Slot
-    ensures { λ r. ⌜ slotOf r ≡ getElem? (dimsOf d) i ⌝ }
+pub fn get(d: Dims, i: usize) -> Spot
+    ensures { λ r. ⌜ spotOf r ≡ getElem? (dimsOf d) i ⌝ }
 {
     if i < size_count(d) {
-        return Slot::Size(d.sizes[i]);
+        return Spot::Size(d.sizes[i]);
     }
-    Slot::Absent
+    Spot::Absent
 }
 
 // The same, unknown where the list has none.
@@ -134,8 +134,8 @@ fn size_at(d: Dims, i: usize) -> u64
     ensures { λ r. ⌜ dimOf r ≡ getD (dimsOf d) i unknown ⌝ }
 {
     match get(d, i) {
-        Slot::Absent => UNKNOWN,
-        Slot::Size(size) => size,
+        Spot::Absent => UNKNOWN,
+        Spot::Size(size) => size,
     }
 }
 

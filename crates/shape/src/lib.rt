@@ -30,30 +30,30 @@ pub enum Order {
 }
 
 // What stands at an index of a list.
-enum Slot {
+enum Spot {
     Absent,
     Size(u64),
 }
 
 // What one index of a pervading gives.
-enum Cell {
+enum Meeting {
     Gives(u64),
     Refuses,
 }
 
 // A pervading: clash names the first index that refuses. Sizes stand beside it, since an enum cannot hold an array; where
 // it is a clash they say nothing.
-pub enum Verdict {
+pub enum Pervasion {
     Pervaded,
     Clash(usize),
 }
 
 struct DimsPervaded {
-    pub answer: Verdict,
+    pub answer: Pervasion,
     pub dims: Dims,
 }
 
 pub struct ShapePervaded {
-    pub answer: Verdict,
+    pub answer: Pervasion,
     pub shape: DynShape,
 }

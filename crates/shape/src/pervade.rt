@@ -1,10 +1,10 @@
 // The pervading of two shapes by value.
-use crate::Cell;
 use crate::DimsPervaded;
+use crate::Meeting;
 use crate::Order;
+use crate::Pervasion;
 use crate::ShapePervaded;
-use crate::Slot;
-use crate::Verdict;
+use crate::Spot;
 use crate::dims::get;
 use crate::dims::longer;
 use crate::shapes::of_parts;
@@ -23,7 +23,7 @@ ghost use Rattle.format.specs.Records.{dimOf};
 ghost use Rattle.record.specs.Answers.{dimsOf, closingFor, shapeFor};
 ghost use Rattle.rules.specs.Pervade.{filled, againstAbsent, together, pervadeDims, pervadeClosing, pervade};
 ghost use Rattle.rules.specs.PervadeSteps.{pervadeAt};
-ghost use Rattle.shape.specs.Answers.{slotOf, cellOf, dimsPervadedOf, shapePervadedOf};
+ghost use Rattle.shape.specs.Answers.{spotOf, meetingOf, dimsPervadedOf, shapePervadedOf};
 
 pub fn pervade_dyn_shapes(a: DynShape, b: DynShape, a_fill: bool, b_fill: bool) -> ShapePervaded
     ensures { λ r. ⌜ shapePervadedOf r ≡ pervade «a_fill» «b_fill» (shapeFor a) (shapeFor b) ⌝ }
@@ -70,10 +70,10 @@ pub fn pervade_dims(a: Dims, b: Dims, fill_a: bool, fill_b: bool) -> DimsPervade
             break i;
         }
         match pervade_at(a, b, i, fill_a, fill_b) {
-            Cell::Gives(size) => {
+            Meeting::Gives(size) => {
                 sizes[i] = size;
             }
-            Cell::Refuses => {
+            Meeting::Refuses => {
                 break i;
             }
         }
@@ -81,71 +81,71 @@ pub fn pervade_dims(a: Dims, b: Dims, fill_a: bool, fill_b: bool) -> DimsPervade
     };
     if at < count {
         return DimsPervaded {
-            answer: Verdict::Clash(at),
+            answer: Pervasion::Clash(at),
             dims: no_dims(),
         };
     }
     DimsPervaded {
-        answer: Verdict::Pervaded,
+        answer: Pervasion::Pervaded,
         dims: Dims { sizes, count },
     }
 }
 
-fn pervade_at(a: Dims, b: Dims, i: usize, fill_a: bool, fill_b: bool) -> Cell
-    ensures { λ r. ⌜ cellOf r ≡ pervadeAt «fill_a» «fill_b» (getElem? (dimsOf a) i) (getElem? (dimsOf b) i) ⌝ }
+fn pervade_at(a: Dims, b: Dims, i: usize, fill_a: bool, fill_b: bool) -> Meeting
+    ensures { λ r. ⌜ meetingOf r ≡ pervadeAt «fill_a» «fill_b» (getElem? (dimsOf a) i) (getElem? (dimsOf b) i) ⌝ }
 {
     let x = get(a, i);
     let y = get(b, i);
-    let Slot::Size(p) = x else {
+    let Spot::Size(p) = x else {
         return against_absent(y);
     };
-    let Slot::Size(q) = y else {
+    let Spot::Size(q) = y else {
         return against_absent(x);
     };
     pervade_sizes(p, q, fill_a, fill_b)
 }
 
 // 1 against absent is unknown.
-fn against_absent(x: Slot) -> Cell
-    ensures { λ r. ⌜ cellOf r ≡ Option·map againstAbsent (slotOf x) ⌝ }
+fn against_absent(x: Spot) -> Meeting
+    ensures { λ r. ⌜ meetingOf r ≡ Option·map againstAbsent (spotOf x) ⌝ }
 {
-    let Slot::Size(size) = x else {
-        return Cell::Refuses;
+    let Spot::Size(size) = x else {
+        return Meeting::Refuses;
     };
     if size == 1 {
-        return Cell::Gives(UNKNOWN);
+        return Meeting::Gives(UNKNOWN);
     }
-    Cell::Gives(size)
+    Meeting::Gives(size)
 }
 
 // 1 yields, then the unknown; equal statics stay; else the larger, if the smaller's side is filled.
-fn pervade_sizes(a: u64, b: u64, fill_a: bool, fill_b: bool) -> Cell
-    ensures { λ r. ⌜ cellOf r ≡ together «fill_a» «fill_b» (dimOf a) (dimOf b) ⌝ }
+fn pervade_sizes(a: u64, b: u64, fill_a: bool, fill_b: bool) -> Meeting
+    ensures { λ r. ⌜ meetingOf r ≡ together «fill_a» «fill_b» (dimOf a) (dimOf b) ⌝ }
 {
     if a == 1 {
-        return Cell::Gives(b);
+        return Meeting::Gives(b);
     }
     if b == 1 {
-        return Cell::Gives(a);
+        return Meeting::Gives(a);
     }
     if a == UNKNOWN {
-        return Cell::Gives(b);
+        return Meeting::Gives(b);
     }
     if b == UNKNOWN {
-        return Cell::Gives(a);
+        return Meeting::Gives(a);
     }
     match cmp(a, b) {
         Order::Less => where_filled(fill_a, b),
-        Order::Same => Cell::Gives(a),
+        Order::Same => Meeting::Gives(a),
         Order::More => where_filled(fill_b, a),
     }
 }
 
-fn where_filled(fill: bool, size: u64) -> Cell
-    ensures { λ r. ⌜ cellOf r ≡ filled fill (dimOf size) ⌝ }
+fn where_filled(fill: bool, size: u64) -> Meeting
+    ensures { λ r. ⌜ meetingOf r ≡ filled fill (dimOf size) ⌝ }
 {
     if fill {
-        return Cell::Gives(size);
+        return Meeting::Gives(size);
     }
-    Cell::Refuses
+    Meeting::Refuses
 }

@@ -1,5 +1,5 @@
 // Shapes by value: the methods of `DynShape` and its join.
-use crate::Slot;
+use crate::Spot;
 use crate::dims::compatible_dims;
 use crate::dims::get;
 use crate::dims::join_dims;
@@ -25,7 +25,7 @@ pub fn row_count(shape: DynShape) -> u64
     ensures { λ r. ⌜ dimOf r ≡ rowCount (shapeFor shape) ⌝ }
 {
     let dims = shape.dims;
-    if let Slot::Size(size) = get(dims, 0) {
+    if let Spot::Size(size) = get(dims, 0) {
         return size;
     }
     if shape.closed {

@@ -79,8 +79,8 @@ pub record TwoRead (a b : List ℕ) (read : Lone) : Type 0 where
   pub second : Bytes b
   pub reads : loneOf read ≡ both nothings (lone a) (lone b)
 
-pub two-read : {a b : List ℕ} → Bytes a → Bytes b → (two : Two) → twoOf two ≡ refusalOf (lone a) (lone b) → (read : Lone) → loneOf read ≡ whicheverOf (twoOf two) → TwoRead a b read
-two-read {a} {b} first second two which read either = record { first = first; second = second; reads = both-read (lone a) (lone b) two which read either }
+pub two-read : (a b : List ℕ) → Bytes a → Bytes b → (two : Two) → twoOf two ≡ refusalOf (lone a) (lone b) → (read : Lone) → loneOf read ≡ whicheverOf (twoOf two) → TwoRead a b read
+two-read a b first second two which read either = record { first = first; second = second; reads = both-read (lone a) (lone b) two which read either }
 
 module _ {C : Type 0} (f : Shape → Shape → Outcome C) {a b : List ℕ} {read : Lone} (known : TwoRead a b read) where
   pub shapes-told : {k p : ℕ} → read ≡ Refused k p → onShapes f a b ≡ refused k p

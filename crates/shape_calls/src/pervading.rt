@@ -5,7 +5,7 @@ use limits::refusal::UNPERVADED;
 use record::Lone;
 use record::read_two;
 use record::whichever;
-use shape::Verdict;
+use shape::Pervasion;
 use shape::pervade_dyn_shapes;
 use writer::as_written;
 use writer::write_shape;
@@ -23,8 +23,8 @@ pub fn pervade(a: &[u8], b: &[u8], fill_a: bool, fill_b: bool, result: &mut [u8]
         return as_written(read);
     };
     let pervaded = pervade_dyn_shapes(shape_at(a, 0), shape_at(b, 0), fill_a, fill_b);
-    let verdict = pervaded.answer;
-    if let Verdict::Clash(_) = verdict {
+    let answer = pervaded.answer;
+    if let Pervasion::Clash(_) = answer {
         return Written::Refused {
             number: UNPERVADED,
             place: 0,

@@ -7,7 +7,7 @@ use lib.Ieee.{Float}
 use Rattle.model.specs.Types.{Kind, bool, nat, int, num, complex, ascii, char, stream, any, Ty, ty, scalarOf}
 use Rattle.format.specs.Records.{code, writeScalar}
 use Rattle.format.specs.Outcome.{Outcome, accepted, refused, mapped, lone, scalarRecord}
-use Rattle.number.specs.Kind.{kindOf}
+use Rattle.number.specs.Kind.{kindOfNumbers}
 use Rattle.val.specs.declared.Value as declared
 use Rattle.val.specs.declared.Value.the-variants.{Num, List as Listed, Of}
 use Rattle.val.specs.Answers.{valueOf, kindRecord}
@@ -28,15 +28,15 @@ code-byte char = omega arith
 code-byte stream = omega arith
 code-byte any = omega arith
 
-pub scalar-of-kind : (xs : List Float) {kind : ℕ} → kind ≡ code (kindOf xs) → kindRecord kind ≡ writeScalar (numsScalar xs)
+pub scalar-of-kind : (xs : List Float) {kind : ℕ} → kind ≡ code (kindOfNumbers xs) → kindRecord kind ≡ writeScalar (numsScalar xs)
 unfolding numsScalar
-scalar-of-kind xs e = ap kindRecord e ∙ sym (write-plain (kindOf xs))
+scalar-of-kind xs e = ap kindRecord e ∙ sym (write-plain (kindOfNumbers xs))
 
 module _ (list : List Float) (bytes : List ℕ) where
   abbrev answer : declared.Value → Outcome (List ℕ)
   answer v = mapped writeScalar (mapped valueScalar (valueOf v list bytes))
 
-  pub scalar-number : {v : declared.Value} {x : Float} {kind : ℕ} → v ≡ Num x → kind ≡ code (kindOf (x ∷ [])) → answer v ≡ accepted (kindRecord kind)
+  pub scalar-number : {v : declared.Value} {x : Float} {kind : ℕ} → v ≡ Num x → kind ≡ code (kindOfNumbers (x ∷ [])) → answer v ≡ accepted (kindRecord kind)
   unfolding valueScalar
   scalar-number {x = x} e k = ap (mapped writeScalar) (maps-number valueScalar list bytes e) ∙ ap accepted (sym (scalar-of-kind (x ∷ []) k))
 

@@ -15,8 +15,8 @@ use Rattle.format.specs.Records.{dimOf}
 use Rattle.format.specs.Outcome.{accepted, refused}
 use Rattle.number.specs.declared.Sized.{Sized}
 use Rattle.number.specs.declared.Sized.the-variants.{Size, Refused}
-use Rattle.number.specs.declared.Answer.{Answer}
-use Rattle.number.specs.declared.Answer.the-variants.{Count, Refused as RefusedAt}
+use Rattle.number.specs.declared.Listing.{Listing}
+use Rattle.number.specs.declared.Listing.the-variants.{Count, Refused as RefusedAt}
 use Rattle.number.specs.Answers.{sizeOutcome, answerOutcome}
 use Rattle.number.specs.Size.{SizeOutcome, size, unknown as unknownSize}
 use Rattle.number.specs.Sizes.{SizesOutcome}
@@ -37,7 +37,7 @@ module _ {r : Sized} {o : SizeOutcome} (e : sizeOutcome r ≡ o) where
 
 -- ---- sizes
 
-module _ (list : List ℕ) {r : Answer} {o : SizesOutcome} (e : answerOutcome r list ≡ o) where
+module _ (list : List ℕ) {r : Listing} {o : SizesOutcome} (e : answerOutcome r list ≡ o) where
   pub listed-counted : {n : ℕ} → r ≡ Count n → dimsListed o ≡ accepted (map dimOf (take n list))
   listed-counted h = ap dimsListed (sym e ∙ ap (λ a. answerOutcome a list) h)
 

@@ -9,8 +9,8 @@ use Rattle.format.specs.Records.{code, dimOf, writeTy}
 use Rattle.format.specs.Outcome.{Outcome, accepted, refused, mapped, bound, lone}
 use Rattle.number.specs.declared.Sized.{Sized}
 use Rattle.number.specs.declared.Sized.the-variants.{Size, Refused}
-use Rattle.number.specs.declared.Answer.{Answer}
-use Rattle.number.specs.declared.Answer.the-variants.{Count, Refused as RefusedAt}
+use Rattle.number.specs.declared.Listing.{Listing}
+use Rattle.number.specs.declared.Listing.the-variants.{Count, Refused as RefusedAt}
 use Rattle.number.specs.Answers.{sizeOutcome, answerOutcome}
 use Rattle.number.specs.Size.{listedDim}
 use Rattle.number.specs.Sizes.{listedDims}
@@ -70,7 +70,7 @@ module _ (x : Float) {r : Sized} (e : sizeOutcome r ≡ listedDim x) where
   unfolding valueSpec
   spec-sized h l = ap (λ o. mapped writeTy (mapped anyOfSize o)) (alone-sized e h) ∙ ap accepted (write-closed _ any ∙ written-any _ ∙ ap (λ d. closedRecord d 9) (sym l))
 
-module _ (xs : List Float) (list : List ℕ) {r : Answer} (e : answerOutcome r list ≡ listedDims xs) where
+module _ (xs : List Float) (list : List ℕ) {r : Listing} (e : answerOutcome r list ≡ listedDims xs) where
   pub spec-listed : {n : ℕ} → r ≡ Count n → mapped writeTy (valueSpec (numbers xs)) ≡ accepted (closedRecord (map dimOf (take n list)) 9)
   unfolding valueSpec
   spec-listed h = ap (λ o. mapped writeTy (mapped anySized o)) (listed-counted list e h) ∙ ap accepted (write-closed _ any ∙ written-any _)

@@ -84,23 +84,23 @@ small-within n h = go (eqb n ones)
     go false = h
 
 -- as many as the numbers, and each a size
-record Sized (xs : List Float) (ns : List ℕ) : Type 0 where
+record EachSized (xs : List Float) (ns : List ℕ) : Type 0 where
   many : length (map dimOf ns) ≡ length xs
   each : All DimWithin (map dimOf ns)
 
-sized-cons : (x : Float) (xs : List Float) (n : ℕ) (rest : SizesOutcome) (ns : List ℕ) → DimWithin (dimOf n) → ((ms : List ℕ) → rest ≡ sizes ms → Sized xs ms) → before n rest ≡ sizes ns → Sized (x ∷ xs) ns
+sized-cons : (x : Float) (xs : List Float) (n : ℕ) (rest : SizesOutcome) (ns : List ℕ) → DimWithin (dimOf n) → ((ms : List ℕ) → rest ≡ sizes ms → EachSized xs ms) → before n rest ≡ sizes ns → EachSized (x ∷ xs) ns
 sized-cons x xs n (sizes ms) ns h k e =
     let w : n ∷ ms ≡ ns = cc in
     let s = k ms refl in
     rw (← w) record { many = omega (arith, s .many); each = (h, s .each) }
 sized-cons x xs n (refusedAt j p) ns h k e = let z : _≡_ {A = ℕ} 0 1 = cc in absurd (omega arith)
 
-sizes-within : (xs : List Float) (i : ℕ) (ns : List ℕ) → sizesFrom i xs ≡ sizes ns → Sized xs ns
+sizes-within : (xs : List Float) (i : ℕ) (ns : List ℕ) → sizesFrom i xs ≡ sizes ns → EachSized xs ns
 unfolding sizesFrom
 sizes-within [] i ns e = let w : [] ≡ ns = cc in rw (← w) record { many = refl; each = tt }
 sizes-within (x ∷ xs) i ns e = go (listedDim x) refl e (λ ms f. sizes-within xs (suc i) ms f)
   where
-    go : (o : SizeOutcome) → listedDim x ≡ o → atIndex i o (sizesFrom (suc i) xs) ≡ sizes ns → ((ms : List ℕ) → sizesFrom (suc i) xs ≡ sizes ms → Sized xs ms) → Sized (x ∷ xs) ns
+    go : (o : SizeOutcome) → listedDim x ≡ o → atIndex i o (sizesFrom (suc i) xs) ≡ sizes ns → ((ms : List ℕ) → sizesFrom (suc i) xs ≡ sizes ms → EachSized xs ms) → EachSized (x ∷ xs) ns
     go (size n) f e k = sized-cons x xs n (sizesFrom (suc i) xs) ns (small-within n (size-small x n f)) k e
     go unknownSize f e k = sized-cons x xs ones (sizesFrom (suc i) xs) ns tt k e
     go (noSize j) f e k = let z : _≡_ {A = ℕ} 0 1 = cc in absurd (omega arith)

@@ -13,7 +13,7 @@ use Rattle.model.specs.Refusals.{oversized}
 use Rattle.model.specs.Types.{Dim, static, unknown, shape, num, any, Scalar, plain, Ty, ty, shapeOf, scalarOf}
 use Rattle.format.specs.Records.{dimOf, writeTy}
 use Rattle.format.specs.Outcome.{Outcome, accepted, refused, mapped, Delivery, deliver}
-use Rattle.number.specs.Kind.{kindOf}
+use Rattle.number.specs.Kind.{kindOfNumbers}
 use Rattle.number.specs.Size.{SizeOutcome, size, unknown as unknownSize, refused as noSize, asDim, listedDim}
 use Rattle.number.specs.Sizes.{SizesOutcome, sizes, refusedAt, listedDims}
 use Rattle.rules.specs.Shapes.{scalarShape, rowCount, rank}
@@ -70,7 +70,7 @@ valueSpec (typed t) = accepted t
 -- ---- `scalar`
 
 unfoldable pub numsScalar : List Float → Scalar
-numsScalar xs = plain (kindOf xs)
+numsScalar xs = plain (kindOfNumbers xs)
 
 unfoldable pub valueScalar : Value → Scalar
 valueScalar (number x) = numsScalar (x ∷ [])

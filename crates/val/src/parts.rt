@@ -9,7 +9,7 @@ use lent::Counted;
 use lent::Written;
 use limits::ANY;
 use limits::NUM;
-use number::Answer;
+use number::Listing;
 use number::Sized;
 use number::dims_of;
 use number::kind_of;
@@ -71,11 +71,11 @@ fn spec_of_list(list: &[f64], result: &mut [u8]) -> Written
     let read = dims_of(list);
     let answer = read.answer;
     match answer {
-        Answer::Count(count) => {
+        Listing::Count(count) => {
             let sizes = read.list;
             write_closed(Dims { sizes, count }, ANY as u8, &mut *result)
         }
-        Answer::Refused { number, place } => Written::Refused { number, place },
+        Listing::Refused { number, place } => Written::Refused { number, place },
     }
 }
 

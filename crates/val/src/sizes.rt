@@ -3,7 +3,7 @@ use crate::DimsAnswer;
 use crate::MaybeDim;
 use crate::MaybeDims;
 use crate::Value;
-use number::Answer;
+use number::Listing;
 use number::Sized;
 use number::dims_of;
 use record::Dims;
@@ -76,14 +76,14 @@ fn dims_of_list(list: &[f64]) -> DimsAnswer
     let read = dims_of(list);
     let answer = read.answer;
     match answer {
-        Answer::Count(count) => {
+        Listing::Count(count) => {
             let sizes = read.list;
             DimsAnswer {
                 answer: MaybeDims::Sizes,
                 dims: Dims { sizes, count },
             }
         }
-        Answer::Refused { number, place } => without_dims(MaybeDims::Refused { number, place }),
+        Listing::Refused { number, place } => without_dims(MaybeDims::Refused { number, place }),
     }
 }
 

@@ -7,13 +7,13 @@ use native.Mathlib.Omega.{arith}
 use borrow.Author.Needs.{needs, scaled-fits}
 use lib.ListN.{length, drop}
 use Rattle.format.specs.Records.{code}
-use Rattle.number.specs.Kind.{kindOf}
+use Rattle.number.specs.Kind.{kindOfNumbers}
 use Rattle.number.proofs.Greatest.{greatest-next, greatest-ends}
 use Rattle.number.proofs.kind_of.Statement.{statement}
 use Rattle.number.proofs.kind_of.Tie as tie
 
 abbrev Inv-loop : tie.InvT-loop
-Inv-loop xs kind₀ i₀ kind i = (i ≤ length xs) × (max kind (code (kindOf (drop i xs))) ≡ code (kindOf xs))
+Inv-loop xs kind₀ i₀ kind i = (i ≤ length xs) × (max kind (code (kindOfNumbers (drop i xs))) ≡ code (kindOfNumbers xs))
 
 abbrev μ-loop : tie.MeasureT-loop
 μ-loop xs kind₀ i₀ kind i = length xs - i

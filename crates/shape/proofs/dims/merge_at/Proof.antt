@@ -1,5 +1,5 @@
 use mathlib.Core.Path.{sym, ap, _∙_}
-use Rattle.shape.specs.Answers.{slotOf}
+use Rattle.shape.specs.Answers.{spotOf}
 use Rattle.shape.proofs.DimsLaws.{merge-absent, merge-alone, merge-both}
 use Rattle.record.specs.Answers.{dimsOf}
 use borrow.Author.Needs.{needs}
@@ -23,7 +23,7 @@ returns c =
     let entry = c .before .before .before .before in
     let at-get = c .before .before .before in
     let args = entry .args in
-    merge-absent (dimsOf (args .b)) (args .i) (sym (ap slotOf (c .before .enum-told .given .1)) ∙ at-get .get .ensures) (c .size-at .ensures)
+    merge-absent (dimsOf (args .b)) (args .i) (sym (ap spotOf (c .before .enum-told .given .1)) ∙ at-get .get .ensures) (c .size-at .ensures)
 
 get-requires-2 : tie.Need-get-requires-2
 get-requires-2 c κs = search needs
@@ -39,7 +39,7 @@ returns-2 c =
     let at-get = c .before .before .before .before .before .before in
     let at-x = c .before .before .before .before in
     let at-get2 = c .before .before in
-    merge-alone (sym (ap slotOf (at-x .x .given .1)) ∙ at-get .get .ensures) (sym (ap slotOf (c .enum-told2 .given .1)) ∙ at-get2 .get2 .ensures)
+    merge-alone (sym (ap spotOf (at-x .x .given .1)) ∙ at-get .get .ensures) (sym (ap spotOf (c .enum-told2 .given .1)) ∙ at-get2 .get2 .ensures)
 
 larger-requires : tie.Need-larger-requires
 larger-requires c κs = search needs
@@ -50,7 +50,7 @@ returns-3 c =
     let at-x = c .before .before .before .before .before .before in
     let at-get2 = c .before .before .before .before in
     let at-y = c .before .before in
-    merge-both (sym (ap slotOf (at-x .x .given .1)) ∙ at-get .get .ensures) (sym (ap slotOf (at-y .y .given .1)) ∙ at-get2 .get2 .ensures) (c .larger .ensures)
+    merge-both (sym (ap spotOf (at-x .x .given .1)) ∙ at-get .get .ensures) (sym (ap spotOf (at-y .y .given .1)) ∙ at-get2 .get2 .ensures) (c .larger .ensures)
 
 pub merge-at-spec : {M : Type 1} → statement M
 merge-at-spec =

@@ -1,5 +1,5 @@
 use mathlib.Core.Path.{sym, ap, _∙_}
-use Rattle.shape.specs.Answers.{slotOf}
+use Rattle.shape.specs.Answers.{spotOf}
 use Rattle.shape.proofs.PervadeLaws.{pervade-absent, pervade-alone, pervade-both}
 use borrow.Author.Needs.{needs}
 use Rattle.shape.proofs.pervade.pervade_at.Statement.{statement}
@@ -24,7 +24,7 @@ returns : tie.Need-returns
 returns c =
     let at-get = c .before .before .before .before in
     let at-get2 = c .before .before .before in
-    pervade-absent _ _ (sym (ap slotOf (c .before .enum-told .given .1)) ∙ at-get .get .ensures) (at-get2 .get2 .ensures) (c .against-absent .ensures)
+    pervade-absent _ _ (sym (ap spotOf (c .before .enum-told .given .1)) ∙ at-get .get .ensures) (at-get2 .get2 .ensures) (c .against-absent .ensures)
 
 enum-known-y : tie.Need-enum-known-y
 enum-known-y c = search needs
@@ -40,7 +40,7 @@ returns-2 c =
     let at-get = c .before .before .before .before .before .before .before in
     let at-get2 = c .before .before .before .before .before .before in
     let at-x = c .before .before .before .before in
-    pervade-alone _ _ (sym (ap slotOf (at-x .x .given .1)) ∙ at-get .get .ensures) (sym (ap slotOf (c .before .enum-told2 .given .1)) ∙ at-get2 .get2 .ensures) (c .against-absent2 .ensures)
+    pervade-alone _ _ (sym (ap spotOf (at-x .x .given .1)) ∙ at-get .get .ensures) (sym (ap spotOf (c .before .enum-told2 .given .1)) ∙ at-get2 .get2 .ensures) (c .against-absent2 .ensures)
 
 pervade-sizes-requires : tie.Need-pervade-sizes-requires
 pervade-sizes-requires c κs = search needs
@@ -51,7 +51,7 @@ returns-3 c =
     let at-get2 = c .before .before .before .before .before .before .before in
     let at-x = c .before .before .before .before .before in
     let at-y = c .before .before in
-    pervade-both _ _ (sym (ap slotOf (at-x .x .given .1)) ∙ at-get .get .ensures) (sym (ap slotOf (at-y .y .given .1)) ∙ at-get2 .get2 .ensures) (c .pervade-sizes .ensures)
+    pervade-both _ _ (sym (ap spotOf (at-x .x .given .1)) ∙ at-get .get .ensures) (sym (ap spotOf (at-y .y .given .1)) ∙ at-get2 .get2 .ensures) (c .pervade-sizes .ensures)
 
 pub pervade-at-spec : {M : Type 1} → statement M
 pervade-at-spec =

@@ -6,7 +6,7 @@ use lib.ListN.{length, length-set}
 use mathlib.Core.List.{[]}
 use mathlib.Core.Logic.{⊎-elim}
 use Rattle.record.specs.Answers.{dimsOf}
-use Rattle.shape.specs.Answers.{cellOf}
+use Rattle.shape.specs.Answers.{meetingOf}
 use Rattle.shape.proofs.PervadeLaws.{Walked, walk-start, walk-more, walk-stop, walk-end}
 use Rattle.rules.specs.Pervade.{clash}
 use Rattle.shape.proofs.pervade.pervade_dims.Statement.{statement}
@@ -56,7 +56,7 @@ loop-again c =
       simp length-set (at-loop .loop .inv .1),
       walk-more (args .fill-a) (args .fill-b) (dimsOf (args .a)) (dimsOf (args .b)) (at-loop .loop .sizes) (at-loop .loop .i)
           (omega (arith, at-longer .longer .ensures .0)) (at-pervade-at .pervade-at .ensures) (at-loop .loop .inv .2) (c .before .size .given .0 .0) (omega arith)
-          (sym (ap cellOf (c .before .size .given .1))),
+          (sym (ap meetingOf (c .before .size .given .1))),
     )
 
 no-dims-requires : tie.Need-no-dims-requires Inv-loop μ-loop
@@ -72,7 +72,7 @@ returns c =
     ⊎-elim (λ w. absurd (omega arith))
     (λ w. ap clash (w .4)
     ∙ sym (walk-stop (args .fill-a) (args .fill-b) (dimsOf (args .a)) (dimsOf (args .b)) (at-loop .loop .sizes) (at-loop .loop .i) (omega (arith, at-longer .longer .ensures .0))
-    (w .1 .ensures) (at-loop .loop .inv .2) (omega arith) (sym (ap cellOf (w .3 .given .1))))) (at-if1 .if1 .came)
+    (w .1 .ensures) (at-loop .loop .inv .2) (omega arith) (sym (ap meetingOf (w .3 .given .1))))) (at-if1 .if1 .came)
 
 returns-2 : tie.Need-returns-2 Inv-loop μ-loop
 returns-2 c =

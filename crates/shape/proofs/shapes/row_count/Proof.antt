@@ -1,6 +1,6 @@
 use mathlib.Core.Path.{sym, ap, _∙_}
 use Rattle.record.specs.Answers.{dimsOf, closingFor}
-use Rattle.shape.specs.Answers.{slotOf}
+use Rattle.shape.specs.Answers.{spotOf}
 use Rattle.record.proofs.ByValue.{closed-is, open-is}
 use Rattle.shape.proofs.ShapeLaws.{rows-first, rows-closed, rows-open}
 use borrow.Author.Needs.{needs}
@@ -18,7 +18,7 @@ returns c =
     let entry = c .before .before .before .before .before in
     let at-get = c .before .before .before in
     let args = entry .args in
-    rows-first (dimsOf (args .shape .dims)) (closingFor (args .shape)) (sym (ap slotOf (c .before .size .given .1)) ∙ at-get .get .ensures)
+    rows-first (dimsOf (args .shape .dims)) (closingFor (args .shape)) (sym (ap spotOf (c .before .size .given .1)) ∙ at-get .get .ensures)
 
 enum-told : tie.Need-enum-told
 enum-told c = search needs
@@ -28,14 +28,14 @@ returns-2 c =
     let entry = c .before .before .before .before .before in
     let at-get = c .before .before .before in
     let args = entry .args in
-    rows-closed (dimsOf (args .shape .dims)) (sym (ap slotOf (c .before .enum-told .given .1)) ∙ at-get .get .ensures) (closed-is (args .shape) (c .if1 .taken))
+    rows-closed (dimsOf (args .shape .dims)) (sym (ap spotOf (c .before .enum-told .given .1)) ∙ at-get .get .ensures) (closed-is (args .shape) (c .if1 .taken))
 
 returns-3 : tie.Need-returns-3
 returns-3 c =
     let entry = c .before .before .before .before .before in
     let at-get = c .before .before .before in
     let args = entry .args in
-    rows-open (dimsOf (args .shape .dims)) (sym (ap slotOf (c .before .enum-told .given .1)) ∙ at-get .get .ensures) (open-is (args .shape) (c .if1 .left))
+    rows-open (dimsOf (args .shape .dims)) (sym (ap spotOf (c .before .enum-told .given .1)) ∙ at-get .get .ensures) (open-is (args .shape) (c .if1 .left))
 
 pub row-count-spec : {M : Type 1} → statement M
 row-count-spec =

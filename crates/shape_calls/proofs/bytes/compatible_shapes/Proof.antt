@@ -46,7 +46,7 @@ returns c =
     let at-whichever = c .before .before .before in
     let args = entry .args in
     let known : TwoRead (args .a .now) (args .b .now) (at-whichever .whichever .result) =
-    two-read (λ i. omega (arith, at-shared-slice-known .shared-slice-known .given i)) (λ i. omega (arith, at-shared-slice-known2 .shared-slice-known2 .given i))
+    two-read (args .a .now) (args .b .now) (λ i. omega (arith, at-shared-slice-known .shared-slice-known .given i)) (λ i. omega (arith, at-shared-slice-known2 .shared-slice-known2 .given i))
     (at-read-two .read-two .result) (at-read-two .read-two .ensures) (at-whichever .whichever .result) (at-whichever .whichever .ensures) in
     c .as-tested .ensures ∙ ap (mapped (λ _. true)) (ap loneOf (c .before .enum-told2 .given .1)) ∙ sym (shapes-told (λ s t. accepted (compatibleShapes s t)) known (c .before .enum-told2 .given .1))
 
@@ -60,7 +60,7 @@ shape-at-requires c κs =
     let at-whichever = c .before .before in
     let args = entry .args in
     let known : TwoRead (args .a .now) (args .b .now) (at-whichever .whichever .result) =
-    two-read (λ i. omega (arith, at-shared-slice-known .shared-slice-known .given i)) (λ i. omega (arith, at-shared-slice-known2 .shared-slice-known2 .given i))
+    two-read (args .a .now) (args .b .now) (λ i. omega (arith, at-shared-slice-known .shared-slice-known .given i)) (λ i. omega (arith, at-shared-slice-known2 .shared-slice-known2 .given i))
     (at-read-two .read-two .result) (at-read-two .read-two .ensures) (at-whichever .whichever .result) (at-whichever .whichever .ensures) in
     first-there (λ s t. accepted (compatibleShapes s t)) known (c .enum-told .given .1)
 
@@ -74,7 +74,7 @@ shape-at-requires-2 c κs =
     let at-whichever = c .before .before .before in
     let args = entry .args in
     let known : TwoRead (args .a .now) (args .b .now) (at-whichever .whichever .result) =
-    two-read (λ i. omega (arith, at-shared-slice-known .shared-slice-known .given i)) (λ i. omega (arith, at-shared-slice-known2 .shared-slice-known2 .given i))
+    two-read (args .a .now) (args .b .now) (λ i. omega (arith, at-shared-slice-known .shared-slice-known .given i)) (λ i. omega (arith, at-shared-slice-known2 .shared-slice-known2 .given i))
     (at-read-two .read-two .result) (at-read-two .read-two .ensures) (at-whichever .whichever .result) (at-whichever .whichever .ensures) in
     second-there (λ s t. accepted (compatibleShapes s t)) known (c .before .enum-told .given .1)
 
@@ -99,7 +99,7 @@ returns-2 c =
     let at-shape-at2 = c .before .before in
     let args = entry .args in
     let known : TwoRead (args .a .now) (args .b .now) (at-whichever .whichever .result) =
-    two-read (λ i. omega (arith, at-shared-slice-known .shared-slice-known .given i)) (λ i. omega (arith, at-shared-slice-known2 .shared-slice-known2 .given i))
+    two-read (args .a .now) (args .b .now) (λ i. omega (arith, at-shared-slice-known .shared-slice-known .given i)) (λ i. omega (arith, at-shared-slice-known2 .shared-slice-known2 .given i))
     (at-read-two .read-two .result) (at-read-two .read-two .ensures) (at-whichever .whichever .result) (at-whichever .whichever .ensures) in
     c .tell .ensures ∙ ap accepted (c .before .compatible-with .ensures)
     ∙ sym (shapes-are (λ s t. accepted (compatibleShapes s t)) known (at-enum-told .enum-told .given .1) (at-shape-at .shape-at .result) (at-shape-at2 .shape-at2 .result)

@@ -47,7 +47,7 @@ returns c =
     let at-whichever = c .before .before .before in
     let args = entry .args in
     let known : TwoRead (args .a .now) (args .b .now) (at-whichever .whichever .result) =
-    two-read (λ i. omega (arith, at-shared-slice-known .shared-slice-known .given i)) (λ i. omega (arith, at-shared-slice-known2 .shared-slice-known2 .given i))
+    two-read (args .a .now) (args .b .now) (λ i. omega (arith, at-shared-slice-known .shared-slice-known .given i)) (λ i. omega (arith, at-shared-slice-known2 .shared-slice-known2 .given i))
     (at-read-two .read-two .result) (at-read-two .read-two .ensures) (at-whichever .whichever .result) (at-whichever .whichever .ensures) in
     deliver-handed (args .result .now) (c .as-written .result) (c .as-written .ensures ∙ ap loneOf (c .before .enum-told2 .given .1))
     (shapes-told (λ s t. recorded (joinShapes s t)) known (c .before .enum-told2 .given .1))
@@ -62,7 +62,7 @@ shape-at-requires c κs =
     let at-whichever = c .before .before in
     let args = entry .args in
     let known : TwoRead (args .a .now) (args .b .now) (at-whichever .whichever .result) =
-    two-read (λ i. omega (arith, at-shared-slice-known .shared-slice-known .given i)) (λ i. omega (arith, at-shared-slice-known2 .shared-slice-known2 .given i))
+    two-read (args .a .now) (args .b .now) (λ i. omega (arith, at-shared-slice-known .shared-slice-known .given i)) (λ i. omega (arith, at-shared-slice-known2 .shared-slice-known2 .given i))
     (at-read-two .read-two .result) (at-read-two .read-two .ensures) (at-whichever .whichever .result) (at-whichever .whichever .ensures) in
     first-there (λ s t. recorded (joinShapes s t)) known (c .enum-told .given .1)
 
@@ -76,7 +76,7 @@ shape-at-requires-2 c κs =
     let at-whichever = c .before .before .before in
     let args = entry .args in
     let known : TwoRead (args .a .now) (args .b .now) (at-whichever .whichever .result) =
-    two-read (λ i. omega (arith, at-shared-slice-known .shared-slice-known .given i)) (λ i. omega (arith, at-shared-slice-known2 .shared-slice-known2 .given i))
+    two-read (args .a .now) (args .b .now) (λ i. omega (arith, at-shared-slice-known .shared-slice-known .given i)) (λ i. omega (arith, at-shared-slice-known2 .shared-slice-known2 .given i))
     (at-read-two .read-two .result) (at-read-two .read-two .ensures) (at-whichever .whichever .result) (at-whichever .whichever .ensures) in
     second-there (λ s t. recorded (joinShapes s t)) known (c .before .enum-told .given .1)
 
@@ -107,7 +107,7 @@ returns-2 c =
     let at-write-shape = c .before .before in
     let args = entry .args in
     let known : TwoRead (args .a .now) (args .b .now) (at-whichever .whichever .result) =
-    two-read (λ i. omega (arith, at-shared-slice-known .shared-slice-known .given i)) (λ i. omega (arith, at-shared-slice-known2 .shared-slice-known2 .given i))
+    two-read (args .a .now) (args .b .now) (λ i. omega (arith, at-shared-slice-known .shared-slice-known .given i)) (λ i. omega (arith, at-shared-slice-known2 .shared-slice-known2 .given i))
     (at-read-two .read-two .result) (at-read-two .read-two .ensures) (at-whichever .whichever .result) (at-whichever .whichever .ensures) in
     at-write-shape .write-shape .ensures
     ∙ ap (λ o. deliver o (args .result .now))

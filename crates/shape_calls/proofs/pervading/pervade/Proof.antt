@@ -48,7 +48,7 @@ returns c =
     let at-whichever = c .before .before .before in
     let args = entry .args in
     let known : TwoRead (args .a .now) (args .b .now) (at-whichever .whichever .result) =
-    two-read (λ i. omega (arith, at-shared-slice-known .shared-slice-known .given i)) (λ i. omega (arith, at-shared-slice-known2 .shared-slice-known2 .given i))
+    two-read (args .a .now) (args .b .now) (λ i. omega (arith, at-shared-slice-known .shared-slice-known .given i)) (λ i. omega (arith, at-shared-slice-known2 .shared-slice-known2 .given i))
     (at-read-two .read-two .result) (at-read-two .read-two .ensures) (at-whichever .whichever .result) (at-whichever .whichever .ensures) in
     deliver-handed (args .result .now) (c .as-written .result) (c .as-written .ensures ∙ ap loneOf (c .before .enum-told2 .given .1))
     (shapes-told (λ s t. pervaded (rules.pervade (args .fill-a) (args .fill-b) s t)) known (c .before .enum-told2 .given .1))
@@ -63,7 +63,7 @@ shape-at-requires c κs =
     let at-whichever = c .before .before in
     let args = entry .args in
     let known : TwoRead (args .a .now) (args .b .now) (at-whichever .whichever .result) =
-    two-read (λ i. omega (arith, at-shared-slice-known .shared-slice-known .given i)) (λ i. omega (arith, at-shared-slice-known2 .shared-slice-known2 .given i))
+    two-read (args .a .now) (args .b .now) (λ i. omega (arith, at-shared-slice-known .shared-slice-known .given i)) (λ i. omega (arith, at-shared-slice-known2 .shared-slice-known2 .given i))
     (at-read-two .read-two .result) (at-read-two .read-two .ensures) (at-whichever .whichever .result) (at-whichever .whichever .ensures) in
     first-there (λ s t. pervaded (rules.pervade (args .fill-a) (args .fill-b) s t)) known (c .enum-told .given .1)
 
@@ -77,7 +77,7 @@ shape-at-requires-2 c κs =
     let at-whichever = c .before .before .before in
     let args = entry .args in
     let known : TwoRead (args .a .now) (args .b .now) (at-whichever .whichever .result) =
-    two-read (λ i. omega (arith, at-shared-slice-known .shared-slice-known .given i)) (λ i. omega (arith, at-shared-slice-known2 .shared-slice-known2 .given i))
+    two-read (args .a .now) (args .b .now) (λ i. omega (arith, at-shared-slice-known .shared-slice-known .given i)) (λ i. omega (arith, at-shared-slice-known2 .shared-slice-known2 .given i))
     (at-read-two .read-two .result) (at-read-two .read-two .ensures) (at-whichever .whichever .result) (at-whichever .whichever .ensures) in
     second-there (λ s t. pervaded (rules.pervade (args .fill-a) (args .fill-b) s t)) known (c .before .enum-told .given .1)
 
@@ -103,7 +103,7 @@ returns-2 c =
     let at-pervade-dyn-shapes = c .before .before in
     let args = entry .args in
     let known : TwoRead (args .a .now) (args .b .now) (at-whichever .whichever .result) =
-    two-read (λ i. omega (arith, at-shared-slice-known .shared-slice-known .given i)) (λ i. omega (arith, at-shared-slice-known2 .shared-slice-known2 .given i))
+    two-read (args .a .now) (args .b .now) (λ i. omega (arith, at-shared-slice-known .shared-slice-known .given i)) (λ i. omega (arith, at-shared-slice-known2 .shared-slice-known2 .given i))
     (at-read-two .read-two .result) (at-read-two .read-two .ensures) (at-whichever .whichever .result) (at-whichever .whichever .ensures) in
     sym (deliver-refused (args .result .now)
     (shapes-are (λ s t. pervaded (rules.pervade (args .fill-a) (args .fill-b) s t)) known (at-enum-told .enum-told .given .1) (at-shape-at .shape-at .result)
@@ -138,7 +138,7 @@ returns-3 c =
     let at-write-shape = c .before .before in
     let args = entry .args in
     let known : TwoRead (args .a .now) (args .b .now) (at-whichever .whichever .result) =
-    two-read (λ i. omega (arith, at-shared-slice-known .shared-slice-known .given i)) (λ i. omega (arith, at-shared-slice-known2 .shared-slice-known2 .given i))
+    two-read (args .a .now) (args .b .now) (λ i. omega (arith, at-shared-slice-known .shared-slice-known .given i)) (λ i. omega (arith, at-shared-slice-known2 .shared-slice-known2 .given i))
     (at-read-two .read-two .result) (at-read-two .read-two .ensures) (at-whichever .whichever .result) (at-whichever .whichever .ensures) in
     at-write-shape .write-shape .ensures
     ∙ ap (λ o. deliver o (args .result .now))

@@ -1,6 +1,6 @@
 use native.Mathlib.Omega.{arith}
 use mathlib.Core.Path.{ap, _∙_}
-use Rattle.number.specs.Kind.{kindOf}
+use Rattle.number.specs.Kind.{kindOfNumbers}
 use Rattle.format.specs.Outcome.{accepted, deliver}
 use Rattle.val.proofs.KindLaws.{scalar-of-kind, code-byte}
 use borrow.Author.Needs.{needs}
@@ -15,7 +15,7 @@ kind-of-requires c κs = search needs
 cast-write-kind : tie.Need-cast-write-kind
 cast-write-kind c =
     let entry = c .before .before .before in
-    omega (arith, code-byte (kindOf (entry .args .list .now)), c .kind-of .ensures)
+    omega (arith, code-byte (kindOfNumbers (entry .args .list .now)), c .kind-of .ensures)
 
 write-kind-requires : tie.Need-write-kind-requires
 write-kind-requires c κs = search needs

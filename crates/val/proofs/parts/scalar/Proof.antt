@@ -1,7 +1,7 @@
 use native.Mathlib.Omega.{arith}
 use mathlib.Core.List.{[], _∷_}
 use mathlib.Core.Path.{sym, ap, _∙_}
-use Rattle.number.specs.Kind.{kindOf}
+use Rattle.number.specs.Kind.{kindOfNumbers}
 use Rattle.format.specs.Outcome.{deliver}
 use Rattle.val.proofs.KindLaws.{scalar-number, scalar-list, scalar-type, code-byte}
 use borrow.Author.Needs.{needs}
@@ -19,7 +19,7 @@ kind-of-number-requires c κs = search needs
 cast-write-kind : tie.Need-cast-write-kind
 cast-write-kind c =
     let at-v = c .before .before in
-    omega (arith, code-byte (kindOf (at-v .v .given .0 .0 ∷ [])), c .kind-of-number .ensures)
+    omega (arith, code-byte (kindOfNumbers (at-v .v .given .0 .0 ∷ [])), c .kind-of-number .ensures)
 
 write-kind-requires : tie.Need-write-kind-requires
 write-kind-requires c κs = search needs

@@ -5,7 +5,7 @@ use native.Mathlib.Omega.{arith}
 use mathlib.Core.Bool.{Bool}
 use mathlib.Core.List.{List}
 use mathlib.Core.Option.{Option, none, some}
-use mathlib.Core.Path.{refl}
+use mathlib.Core.Path.{_≡_, refl}
 use lib.Dec.{leb}
 use Rattle.model.specs.Limits.{maxFields}
 use Rattle.model.specs.Refusals.{thirteen, Among}
@@ -19,7 +19,8 @@ use Rattle.rules.specs.Order.{compare}
 use Rattle.rules.specs.Scalars.{supersetOf, compatibleScalars, compatibleWithBoxes, union, unrefine}
 use Rattle.rules.specs.Pervade.{pervade}
 use Rattle.rules.specs.Types.{anyTy, joinTypes, intoRow, intoFirstRow, intoLastRow, intoNthRow, unboxed, copiesFor, asBoxes, Stretch, stretch, fieldPlace}
-use Rattle.validation.specs.CheckShape.{Side, shapeMismatch, checkShape}
+use Rattle.validation.specs.CheckShape.{Side, checkShape}
+use Rattle.validation.specs.CheckShapeLaws.{checkShape-refused}
 use Rattle.validation.specs.Validate.{validate, checkScalarOnly, checkShapeOnly}
 use Rattle.validation.specs.Claims.{ofValidation, Listed}
 use Rattle.validation.specs.RefusalsLaws.{validate-listed, checkScalarOnly-listed}
@@ -178,8 +179,12 @@ scalar-with : (s t : Ty) → RefusedWith ofValidated (mapped writeTy (checkScala
 scalar-with s t = mapped-numbered writeTy (checkScalarOnly s t) (listed-with (checkScalarOnly s t) (checkScalarOnly-listed s t))
 
 shape-with : (side : Side) (s t : Ty) → RefusedWith ofShapeChecked (checkShapeOnly side s t)
-unfolding checkShape checkShapeOnly
-shape-with side (ty s k) (ty t l) = mapped-numbered (λ u. ty u l) (checkShape side s t) (either-numbered (shapeMismatch side s t) (refused-with refl) accepted-with)
+unfolding checkShapeOnly
+shape-with side (ty s k) (ty t l) = mapped-numbered (λ u. ty u l) (checkShape side s t) (go (checkShape side s t) refl)
+  where
+    go : (r : Outcome Shape) → checkShape side s t ≡ r → RefusedWith ofShapeChecked r
+    go (accepted u) e = accepted-with
+    go (refused n p) e = refused-with (rw (checkShape-refused side s t e .0) refl)
 
 -- ---- every call
 

@@ -17,10 +17,10 @@ use Rattle.format.specs.Records.{orStop, writeShape, writeTy, readType}
 use Rattle.format.specs.Outcome.{lone}
 use Rattle.format.specs.ReadWrite.{read-write}
 use Rattle.format.specs.WriteRead.{write-read, write-lone}
-use Rattle.record.specs.Answers.{answerOf}
-use Rattle.record.specs.declared.Answer.{Answer}
-use Rattle.record.specs.declared.Answer.the-variants.{Got, Refused}
-use Rattle.record.proofs.ReadingLaws.{known, told, got-map, stopped-map}
+use Rattle.record.specs.Answers.{readingOf}
+use Rattle.record.specs.declared.Reading.{Reading}
+use Rattle.record.specs.declared.Reading.the-variants.{Got, Refused}
+use Rattle.record.proofs.ReadingLaws.{read-got, read-stopped, got-map, stopped-map}
 use Rattle.machine.specs.Steps.{pervading, aPervading, opcodes, maxFlag, fillsTop, fillsBelow}
 use Rattle.machine.specs.Sheet.{opcodeIn, opcodeFrom, argumentFrom}
 use Rattle.cursor.specs.Answers.{Stretch, TypeIs}
@@ -83,9 +83,9 @@ module _ (s : List ℕ) (at : ℕ) where
         reads = ap lone bytes ∙ write-lone t within;
       }
 
-  module _ {r : Answer} (read : answerOf r ≡ mapRead (λ t. maxTypes - types t) (readType s at)) where
+  module _ {r : Reading} (read : readingOf r ≡ mapRead (λ t. maxTypes - types t) (readType s at)) where
     pub type-read : {v n : ℕ} → Bytes s → r ≡ Got v n → TypeIs (Typed n) s at (readType s at)
-    type-read {v} {n} small e = got-map (λ t. maxTypes - types t) (readType s at) (known read e) λ t g _. (t, g, stretched small n t g)
+    type-read {v} {n} small e = got-map (λ t. maxTypes - types t) (readType s at) (read-got read e) λ t g _. (t, g, stretched small n t g)
 
     pub type-unread : {k p : ℕ} → r ≡ Refused k p → readType s at ≡ stopped k p
-    type-unread e = stopped-map (λ t. maxTypes - types t) (readType s at) (told read e)
+    type-unread e = stopped-map (λ t. maxTypes - types t) (readType s at) (read-stopped read e)

@@ -1,7 +1,7 @@
 // A type inside a sheet.
 use limits::MAX_DEPTH;
 use limits::MAX_TYPES;
-use record::Answer;
+use record::Reading;
 use record::read_type;
 ghost use mathlib.Core.Path.{_≡_};
 ghost use Prim.Native.Nat.{ℕ};
@@ -39,7 +39,7 @@ pub fn read_stretch(s: &[u8], at: usize) -> TypeRead
 {
     let read = read_type(s, at, MAX_DEPTH, MAX_TYPES);
     match read {
-        Answer::Got { value: _, next } => TypeRead::Got { next },
-        Answer::Refused { number, place } => TypeRead::Refused { number, place },
+        Reading::Got { value: _, next } => TypeRead::Got { next },
+        Reading::Refused { number, place } => TypeRead::Refused { number, place },
     }
 }

@@ -28,7 +28,6 @@ module _ (s : List ℕ) (small : Bytes s) where
 
   pub has-type : mapped nothing (lone s) ≡ accepted 0 → HasType s 0 maxDepth
   has-type good = passed-accepted (lone s) good λ t e. record { type = t; there = type-there t e }
-
   -- it reaches to the end
 
 -- ---- its scalar, which begins at `at`

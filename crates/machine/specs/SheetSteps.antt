@@ -105,4 +105,3 @@ module _ (s : List ℕ) where
       pub work-rule : workFrom s st p at ≡ placed (work x st) p end
       unfolding workFrom
       work-rule = rw e
-

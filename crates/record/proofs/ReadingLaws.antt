@@ -3,17 +3,17 @@ use Prim.Native.Nat.{ℕ}
 use native.Mathlib.Omega.{arith}
 use mathlib.Core.Path.{_≡_, sym, _∙_, ap}
 use Rattle.format.specs.Reader.{Read, got, stopped, mapRead}
-use Rattle.record.specs.Answers.{answerOf}
-use Rattle.record.specs.declared.Answer.{Answer}
-use Rattle.record.specs.declared.Answer.the-variants.{Got, Refused}
+use Rattle.record.specs.Answers.{readingOf}
+use Rattle.record.specs.declared.Reading.{Reading}
+use Rattle.record.specs.declared.Reading.the-variants.{Got, Refused}
 
 -- the reader gave that value
-pub known : {r : Answer} {m : Read ℕ} {v n : ℕ} → answerOf r ≡ m → r ≡ Got v n → m ≡ got v n
-known e h = sym e ∙ ap answerOf h
+pub read-got : {r : Reading} {m : Read ℕ} {v n : ℕ} → readingOf r ≡ m → r ≡ Got v n → m ≡ got v n
+read-got e h = sym e ∙ ap readingOf h
 
 -- the reader stopped with that refusal
-pub told : {r : Answer} {m : Read ℕ} {k p : ℕ} → answerOf r ≡ m → r ≡ Refused k p → m ≡ stopped k p
-told e h = sym e ∙ ap answerOf h
+pub read-stopped : {r : Reading} {m : Read ℕ} {k p : ℕ} → readingOf r ≡ m → r ≡ Refused k p → m ≡ stopped k p
+read-stopped e h = sym e ∙ ap readingOf h
 
 -- the same where the answer is made of what was read
 pub stopped-map : {A : Type 0} (f : A → ℕ) (m : Read A) {k p : ℕ} → mapRead f m ≡ stopped k p → m ≡ stopped k p

@@ -8,8 +8,8 @@ use Rattle.model.specs.Types.{Dim, Shape, shape}
 use Rattle.format.specs.Reader.{Read, got, stopped}
 use Rattle.format.specs.Records.{dimOf}
 use Rattle.format.specs.Outcome.{Outcome, accepted, refused, Refusal, neither, first, second}
-use Rattle.record.specs.declared.Answer.{Answer}
-use Rattle.record.specs.declared.Answer.the-variants.{Got, Refused}
+use Rattle.record.specs.declared.Reading.{Reading}
+use Rattle.record.specs.declared.Reading.the-variants.{Got, Refused}
 use Rattle.record.specs.declared.Lone.{Lone}
 use Rattle.record.specs.declared.Lone.the-variants.{Accepted, Refused as Refuses}
 use Rattle.record.specs.declared.Two.{Two}
@@ -17,9 +17,9 @@ use Rattle.record.specs.declared.Two.the-variants.{Accepted as Both, Fir
 use Rattle.record.specs.declared.Dims.{Dims}
 use Rattle.record.specs.declared.DynShape.{DynShape}
 
-abbrev pub answerOf : Answer → Read ℕ
-answerOf (Got v n) = got v n
-answerOf (Refused k p) = stopped k p
+abbrev pub readingOf : Reading → Read ℕ
+readingOf (Got v n) = got v n
+readingOf (Refused k p) = stopped k p
 
 -- for what is passed over, the value is 0
 abbrev pub nothing : {A : Type 0} → A → ℕ

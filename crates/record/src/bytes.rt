@@ -1,6 +1,6 @@
 // Bytes, counts, marks, sizes and names. In each function `place` is the first byte of the record that the bytes at `at`
 // belong to, which its refusals name.
-use crate::Answer;
+use crate::Reading;
 use limits::ABSENT;
 use limits::FIRST_PRINTING;
 use limits::LAST_PRINTING;
@@ -16,7 +16,7 @@ ghost use Prim.Native.Nat.{_+_, _≤_, _<_};
 ghost use lib.ListN.{length};
 ghost use Rattle.format.specs.Reader.{mapRead, byte, judged};
 ghost use Rattle.format.specs.Records.{mark, dimNumber, listCount, isCount, isOptional, isPrinting, readMark, readDim, readName};
-ghost use Rattle.record.specs.Answers.{answerOf, nothing, eightBytes};
+ghost use Rattle.record.specs.Answers.{readingOf, nothing, eightBytes};
 
 // A byte as a number, known to be below 256.
 pub fn wide(x: u8) -> u64
@@ -25,43 +25,43 @@ pub fn wide(x: u8) -> u64
     x as u64
 }
 
-pub fn read_byte(s: &[u8], place: usize, at: usize) -> Answer
-    ensures { λ r. ⌜ answerOf r ≡ byte (now (s .entry)) place at ⌝ }
+pub fn read_byte(s: &[u8], place: usize, at: usize) -> Reading
+    ensures { λ r. ⌜ readingOf r ≡ byte (now (s .entry)) place at ⌝ }
 {
     if at < s.len() {
-        return Answer::Got {
+        return Reading::Got {
             value: wide(s[at]),
             next: at + 1,
         };
     }
-    Answer::Refused {
+    Reading::Refused {
         number: ENDED,
         place,
     }
 }
 
-pub fn read_count(s: &[u8], place: usize, at: usize, most: u64) -> Answer
-    ensures { λ r. ⌜ answerOf r ≡ judged (now (s .entry)) (isCount most) place at ⌝ }
+pub fn read_count(s: &[u8], place: usize, at: usize, most: u64) -> Reading
+    ensures { λ r. ⌜ readingOf r ≡ judged (now (s .entry)) (isCount most) place at ⌝ }
 {
     let b = read_byte(s, place, at);
-    let Answer::Got { value, next: _ } = b else {
+    let Reading::Got { value, next: _ } = b else {
         return b;
     };
     if value <= most {
         return b;
     }
-    Answer::Refused {
+    Reading::Refused {
         number: OUT_OF_RANGE,
         place,
     }
 }
 
 // A count, or the byte for a list that is absent.
-pub fn read_optional(s: &[u8], place: usize, at: usize, most: u64) -> Answer
-    ensures { λ r. ⌜ answerOf r ≡ judged (now (s .entry)) (isOptional most) place at ⌝ }
+pub fn read_optional(s: &[u8], place: usize, at: usize, most: u64) -> Reading
+    ensures { λ r. ⌜ readingOf r ≡ judged (now (s .entry)) (isOptional most) place at ⌝ }
 {
     let b = read_byte(s, place, at);
-    let Answer::Got { value, next: _ } = b else {
+    let Reading::Got { value, next: _ } = b else {
         return b;
     };
     if value <= most {
@@ -70,27 +70,27 @@ pub fn read_optional(s: &[u8], place: usize, at: usize, most: u64) -> Answer
     if value == ABSENT {
         return b;
     }
-    Answer::Refused {
+    Reading::Refused {
         number: OUT_OF_RANGE,
         place,
     }
 }
 
-fn read_printing(s: &[u8], place: usize, at: usize) -> Answer
-    ensures { λ r. ⌜ answerOf r ≡ judged (now (s .entry)) isPrinting place at ⌝ }
+fn read_printing(s: &[u8], place: usize, at: usize) -> Reading
+    ensures { λ r. ⌜ readingOf r ≡ judged (now (s .entry)) isPrinting place at ⌝ }
 {
     let b = read_byte(s, place, at);
-    let Answer::Got { value, next: _ } = b else {
+    let Reading::Got { value, next: _ } = b else {
         return b;
     };
     if value < FIRST_PRINTING {
-        return Answer::Refused {
+        return Reading::Refused {
             number: OUT_OF_RANGE,
             place,
         };
     }
     if LAST_PRINTING < value {
-        return Answer::Refused {
+        return Reading::Refused {
             number: OUT_OF_RANGE,
             place,
         };
@@ -99,15 +99,15 @@ fn read_printing(s: &[u8], place: usize, at: usize) -> Answer
 }
 
 // A mark is judged once both its bytes are there.
-pub fn read_mark(s: &[u8], place: usize, at: usize, due: Mark) -> Answer
-    ensures { λ r. ⌜ answerOf r ≡ mapRead nothing (readMark (now (s .entry)) (mark (due .first) (due .second)) place at) ⌝ }
+pub fn read_mark(s: &[u8], place: usize, at: usize, due: Mark) -> Reading
+    ensures { λ r. ⌜ readingOf r ≡ mapRead nothing (readMark (now (s .entry)) (mark (due .first) (due .second)) place at) ⌝ }
 {
     let a = read_byte(s, place, at);
-    let Answer::Got { value: x, next } = a else {
+    let Reading::Got { value: x, next } = a else {
         return a;
     };
     let b = read_byte(s, place, next);
-    let Answer::Got {
+    let Reading::Got {
         value: y,
         next: end,
     } = b
@@ -116,13 +116,13 @@ pub fn read_mark(s: &[u8], place: usize, at: usize, due: Mark) -> Answer
     };
     if x == wide(due.first) {
         if y == wide(due.second) {
-            return Answer::Got {
+            return Reading::Got {
                 value: 0,
                 next: end,
             };
         }
     }
-    Answer::Refused {
+    Reading::Refused {
         number: UNMARKED,
         place,
     }
@@ -155,53 +155,53 @@ pub fn list_count(n: u64) -> u64
 }
 
 // A size is judged once all its bytes are there.
-pub fn read_size(s: &[u8], place: usize, at: usize) -> Answer
-    ensures { λ r. ⌜ answerOf r ≡ mapRead dimNumber (readDim (now (s .entry)) place at) ⌝ }
+pub fn read_size(s: &[u8], place: usize, at: usize) -> Reading
+    ensures { λ r. ⌜ readingOf r ≡ mapRead dimNumber (readDim (now (s .entry)) place at) ⌝ }
 {
     if s.len() < 8 {
-        return Answer::Refused {
+        return Reading::Refused {
             number: ENDED,
             place,
         };
     }
     if s.len() - 8 < at {
-        return Answer::Refused {
+        return Reading::Refused {
             number: ENDED,
             place,
         };
     }
     let size = number_at(s, at);
     if size <= MAX_SIZE {
-        return Answer::Got {
+        return Reading::Got {
             value: size,
             next: at + 8,
         };
     }
     if size == UNKNOWN {
-        return Answer::Got {
+        return Reading::Got {
             value: size,
             next: at + 8,
         };
     }
-    Answer::Refused {
+    Reading::Refused {
         number: OVERSIZED,
         place,
     }
 }
 
 // The bytes of a name, each judged as it is read.
-pub fn read_name(s: &[u8], place: usize, start: usize, count: u64) -> Answer
-    ensures { λ r. ⌜ answerOf r ≡ mapRead nothing (readName (now (s .entry)) count place start) ⌝ }
+pub fn read_name(s: &[u8], place: usize, start: usize, count: u64) -> Reading
+    ensures { λ r. ⌜ readingOf r ≡ mapRead nothing (readName (now (s .entry)) count place start) ⌝ }
 {
     let mut at = start;
     let mut left = count;
     while 0 < left {
         let b = read_printing(s, place, at);
-        let Answer::Got { value: _, next } = b else {
+        let Reading::Got { value: _, next } = b else {
             return b;
         };
         at = next;
         left -= 1;
     }
-    Answer::Got { value: 0, next: at }
+    Reading::Got { value: 0, next: at }
 }

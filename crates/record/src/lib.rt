@@ -16,7 +16,7 @@ pub use whole::whichever;
 ghost use mathlib.Core.Path.{_≡_};
 
 // A value with the place after it, or a refusal's number and place.
-pub enum Answer {
+pub enum Reading {
     Got { value: u64, next: usize },
     Refused { number: u8, place: usize },
 }

@@ -1,6 +1,6 @@
 // Types: a shape's record and a scalar's, whose box may hold types again, with a falling depth. In each function `left` is
 // how many types may still stand here, and the value answered is how many may still follow.
-use crate::Answer;
+use crate::Reading;
 use crate::bytes::list_count;
 use crate::bytes::read_byte;
 use crate::bytes::read_count;
@@ -23,41 +23,41 @@ ghost use Prim.Native.Nat.{_-_};
 ghost use Rattle.model.specs.Types.{types, inside, among};
 ghost use Rattle.format.specs.Reader.{mapRead};
 ghost use Rattle.format.specs.Records.{readFields, defFrom, boxFrom, scalarFrom, readTy};
-ghost use Rattle.record.specs.Answers.{answerOf};
+ghost use Rattle.record.specs.Answers.{readingOf};
 
 // A type at most `depth` deep. One more of either is refused before its bytes are looked at.
-pub fn read_type(s: &[u8], at: usize, depth: u64, left: u64) -> Answer
-    ensures { λ r. ⌜ answerOf r ≡ mapRead (λ t. left - types t) (readTy (now (s .entry)) depth left at) ⌝ }
+pub fn read_type(s: &[u8], at: usize, depth: u64, left: u64) -> Reading
+    ensures { λ r. ⌜ readingOf r ≡ mapRead (λ t. left - types t) (readTy (now (s .entry)) depth left at) ⌝ }
 {
     if depth == 0 {
-        return Answer::Refused {
+        return Reading::Refused {
             number: TOO_MANY,
             place: at,
         };
     }
     if left == 0 {
-        return Answer::Refused {
+        return Reading::Refused {
             number: TOO_MANY,
             place: at,
         };
     }
     let shape = read_shape(s, at);
-    let Answer::Got { value: _, next } = shape else {
+    let Reading::Got { value: _, next } = shape else {
         return shape;
     };
     read_scalar(s, next, depth - 1, left - 1)
 }
 
 // A scalar, whose contents are at most `depth` deep.
-fn read_scalar(s: &[u8], at: usize, depth: u64, left: u64) -> Answer
-    ensures { λ r. ⌜ answerOf r ≡ mapRead (λ k. left - inside k) (scalarFrom (now (s .entry)) (readTy (now (s .entry)) depth) left at at) ⌝ }
+fn read_scalar(s: &[u8], at: usize, depth: u64, left: u64) -> Reading
+    ensures { λ r. ⌜ readingOf r ≡ mapRead (λ k. left - inside k) (scalarFrom (now (s .entry)) (readTy (now (s .entry)) depth) left at at) ⌝ }
 {
     let mark = read_mark(s, at, at, marks::SCALAR);
-    let Answer::Got { value: _, next: a } = mark else {
+    let Reading::Got { value: _, next: a } = mark else {
         return mark;
     };
     let kind = read_byte(s, at, a);
-    let Answer::Got {
+    let Reading::Got {
         value: code,
         next: b,
     } = kind
@@ -68,26 +68,26 @@ fn read_scalar(s: &[u8], at: usize, depth: u64, left: u64) -> Answer
         return read_box(s, b, depth, left);
     }
     if ANY < code {
-        return Answer::Refused {
+        return Reading::Refused {
             number: OUT_OF_RANGE,
             place: at,
         };
     }
-    Answer::Got {
+    Reading::Got {
         value: left,
         next: b,
     }
 }
 
-fn read_box(s: &[u8], at: usize, depth: u64, left: u64) -> Answer
-    ensures { λ r. ⌜ answerOf r ≡ mapRead (λ k. left - inside k) (boxFrom (now (s .entry)) (readTy (now (s .entry)) depth) left at at) ⌝ }
+fn read_box(s: &[u8], at: usize, depth: u64, left: u64) -> Reading
+    ensures { λ r. ⌜ readingOf r ≡ mapRead (λ k. left - inside k) (boxFrom (now (s .entry)) (readTy (now (s .entry)) depth) left at at) ⌝ }
 {
     let mark = read_mark(s, at, at, marks::BOX);
-    let Answer::Got { value: _, next: a } = mark else {
+    let Reading::Got { value: _, next: a } = mark else {
         return mark;
     };
     let form = read_byte(s, at, a);
-    let Answer::Got {
+    let Reading::Got {
         value: code,
         next: b,
     } = form
@@ -95,7 +95,7 @@ fn read_box(s: &[u8], at: usize, depth: u64, left: u64) -> Answer
         return form;
     };
     if code == BOX_ANY {
-        return Answer::Got {
+        return Reading::Got {
             value: left,
             next: b,
         };
@@ -106,26 +106,26 @@ fn read_box(s: &[u8], at: usize, depth: u64, left: u64) -> Answer
     if code == BOX_DEF {
         return read_def(s, at, b, depth, left);
     }
-    Answer::Refused {
+    Reading::Refused {
         number: OUT_OF_RANGE,
         place: at,
     }
 }
 
 // The rest of a Def, whose box begins at `place`: its name and its fields.
-fn read_def(s: &[u8], place: usize, at: usize, depth: u64, left: u64) -> Answer
-    ensures { λ r. ⌜ answerOf r ≡ mapRead (λ k. left - inside k) (defFrom (now (s .entry)) (readTy (now (s .entry)) depth) left place at) ⌝ }
+fn read_def(s: &[u8], place: usize, at: usize, depth: u64, left: u64) -> Reading
+    ensures { λ r. ⌜ readingOf r ≡ mapRead (λ k. left - inside k) (defFrom (now (s .entry)) (readTy (now (s .entry)) depth) left place at) ⌝ }
 {
     let length = read_optional(s, place, at, MAX_NAME);
-    let Answer::Got { value: n, next: a } = length else {
+    let Reading::Got { value: n, next: a } = length else {
         return length;
     };
     let name = read_name(s, place, a, list_count(n));
-    let Answer::Got { value: _, next: b } = name else {
+    let Reading::Got { value: _, next: b } = name else {
         return name;
     };
     let fields = read_count(s, place, b, MAX_FIELDS);
-    let Answer::Got {
+    let Reading::Got {
         value: count,
         next: c,
     } = fields
@@ -135,22 +135,22 @@ fn read_def(s: &[u8], place: usize, at: usize, depth: u64, left: u64) -> Answer
     read_fields(s, c, depth, left, count)
 }
 
-fn read_fields(s: &[u8], start: usize, depth: u64, left: u64, count: u64) -> Answer
-    ensures { λ r. ⌜ answerOf r ≡ mapRead (λ f. left - among f) (readFields (now (s .entry)) (readTy (now (s .entry)) depth) count left start) ⌝ }
+fn read_fields(s: &[u8], start: usize, depth: u64, left: u64, count: u64) -> Reading
+    ensures { λ r. ⌜ readingOf r ≡ mapRead (λ f. left - among f) (readFields (now (s .entry)) (readTy (now (s .entry)) depth) count left start) ⌝ }
 {
     let mut at = start;
     let mut still = left;
     let mut todo = count;
     while 0 < todo {
         let field = read_type(s, at, depth, still);
-        let Answer::Got { value, next } = field else {
+        let Reading::Got { value, next } = field else {
             return field;
         };
         at = next;
         still = value;
         todo -= 1;
     }
-    Answer::Got {
+    Reading::Got {
         value: still,
         next: at,
     }

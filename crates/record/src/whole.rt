@@ -1,6 +1,6 @@
 // Lone types: whether bytes are one, and of two inputs which is refused.
-use crate::Answer;
 use crate::Lone;
+use crate::Reading;
 use crate::Two;
 use crate::types::read_type;
 use limits::MAX_DEPTH;
@@ -8,14 +8,14 @@ use limits::MAX_TYPES;
 use limits::refusal::TRAILING;
 ghost use mathlib.Core.Path.{_≡_};
 ghost use Rattle.format.specs.Outcome.{mapped, refusalOf, lone};
-ghost use Rattle.record.specs.Answers.{answerOf, loneOf, twoOf, whicheverOf, nothing, passed};
+ghost use Rattle.record.specs.Answers.{readingOf, loneOf, twoOf, whicheverOf, nothing, passed};
 
 // A lone type: nothing may stand after it.
 pub fn read_lone(s: &[u8]) -> Lone
     ensures { λ r. ⌜ loneOf r ≡ mapped nothing (lone (now (s .entry))) ⌝ }
 {
     let answer = read_type(s, 0, MAX_DEPTH, MAX_TYPES);
-    let Answer::Got { value: _, next } = answer else {
+    let Reading::Got { value: _, next } = answer else {
         return as_lone(answer);
     };
     if next < s.len() {
@@ -28,12 +28,12 @@ pub fn read_lone(s: &[u8]) -> Lone
 }
 
 // The same reading, its value and the place after it passed over.
-fn as_lone(answer: Answer) -> Lone
-    ensures { λ r. ⌜ loneOf r ≡ passed (answerOf answer) ⌝ }
+fn as_lone(answer: Reading) -> Lone
+    ensures { λ r. ⌜ loneOf r ≡ passed (readingOf answer) ⌝ }
 {
     match answer {
-        Answer::Got { value: _, next: _ } => Lone::Accepted,
-        Answer::Refused { number, place } => Lone::Refused { number, place },
+        Reading::Got { value: _, next: _ } => Lone::Accepted,
+        Reading::Refused { number, place } => Lone::Refused { number, place },
     }
 }
 

@@ -1,6 +1,6 @@
 use mathlib.Core.Path.{_∙_, sym}
 use borrow.Author.Tests.{le-leb, lt-leb}
-use Rattle.record.proofs.ReadingLaws.{known, told}
+use Rattle.record.proofs.ReadingLaws.{read-got, read-stopped}
 use Rattle.record.proofs.ByteLaws.{judged-stops, judged-allowed, judged-not}
 use borrow.Author.Needs.{needs}
 use Rattle.record.proofs.bytes.read_count.Statement.{statement}
@@ -21,19 +21,19 @@ enum-told c = search needs
 returns : tie.Need-returns
 returns c =
     let at-read-byte = c .before .before in
-    at-read-byte .read-byte .ensures ∙ (told (at-read-byte .read-byte .ensures) (c .enum-told .given .1) ∙ sym (judged-stops _ _ _ _ (told (at-read-byte .read-byte .ensures) (c .enum-told .given .1))))
+    at-read-byte .read-byte .ensures ∙ (read-stopped (at-read-byte .read-byte .ensures) (c .enum-told .given .1) ∙ sym (judged-stops _ _ _ _ (read-stopped (at-read-byte .read-byte .ensures) (c .enum-told .given .1))))
 
 returns-2 : tie.Need-returns-2
 returns-2 c =
     let at-read-byte = c .before .before .before .before in
     let at-b = c .before .before in
-    sym (judged-allowed _ _ _ _ (known (at-read-byte .read-byte .ensures) (at-b .b .given .1)) (le-leb _ _ (c .if1 .taken)))
+    sym (judged-allowed _ _ _ _ (read-got (at-read-byte .read-byte .ensures) (at-b .b .given .1)) (le-leb _ _ (c .if1 .taken)))
 
 returns-3 : tie.Need-returns-3
 returns-3 c =
     let at-read-byte = c .before .before .before .before in
     let at-b = c .before .before in
-    sym (judged-not _ _ _ _ (known (at-read-byte .read-byte .ensures) (at-b .b .given .1)) (lt-leb _ _ (c .if1 .left)))
+    sym (judged-not _ _ _ _ (read-got (at-read-byte .read-byte .ensures) (at-b .b .given .1)) (lt-leb _ _ (c .if1 .left)))
 
 pub read-count-spec : {M : Type 1} → statement M
 read-count-spec =

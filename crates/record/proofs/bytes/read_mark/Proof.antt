@@ -1,5 +1,5 @@
 use mathlib.Core.Path.{_∙_, sym}
-use Rattle.record.proofs.ReadingLaws.{known, told}
+use Rattle.record.proofs.ReadingLaws.{read-got, read-stopped}
 use Rattle.record.proofs.ByteLaws.{mark-first, mark-second, mark-is, mark-not-first, mark-not-second}
 use borrow.Author.Needs.{needs}
 use Rattle.record.proofs.bytes.read_mark.Statement.{statement}
@@ -19,7 +19,7 @@ enum-told c = search needs
 returns : tie.Need-returns
 returns c =
     let at-read-byte = c .before .before in
-    at-read-byte .read-byte .ensures ∙ ((told (at-read-byte .read-byte .ensures) (c .enum-told .given .1)) ∙ sym (mark-first _ _ _ _ _ (told (at-read-byte .read-byte .ensures) (c .enum-told .given .1))))
+    at-read-byte .read-byte .ensures ∙ ((read-stopped (at-read-byte .read-byte .ensures) (c .enum-told .given .1)) ∙ sym (mark-first _ _ _ _ _ (read-stopped (at-read-byte .read-byte .ensures) (c .enum-told .given .1))))
 
 read-byte-requires-2 : tie.Need-read-byte-requires-2
 read-byte-requires-2 c κs = search needs
@@ -35,8 +35,8 @@ returns-2 c =
     let at-read-byte = c .before .before .before .before .before .before in
     let at-a = c .before .before .before .before in
     let at-read-byte2 = c .before .before in
-    let tolds = told (at-read-byte2 .read-byte2 .ensures) (c .enum-told2 .given .1) in
-    at-read-byte2 .read-byte2 .ensures ∙ (tolds ∙ sym (mark-second _ _ _ _ _ (known (at-read-byte .read-byte .ensures) (at-a .a .given .1)) tolds))
+    let tolds = read-stopped (at-read-byte2 .read-byte2 .ensures) (c .enum-told2 .given .1) in
+    at-read-byte2 .read-byte2 .ensures ∙ (tolds ∙ sym (mark-second _ _ _ _ _ (read-got (at-read-byte .read-byte .ensures) (at-a .a .given .1)) tolds))
 
 wide-requires : tie.Need-wide-requires
 wide-requires c κs = search needs
@@ -52,7 +52,7 @@ returns-3 c =
     let at-b = c .before .before .before .before .before in
     let at-wide = c .before .before .before in
     let at-if1 = c .before .before in
-    sym (mark-is _ _ _ _ _ (known (at-read-byte .read-byte .ensures) (at-a .a .given .1)) (known (at-read-byte2 .read-byte2 .ensures) (at-b .b .given .1))
+    sym (mark-is _ _ _ _ _ (read-got (at-read-byte .read-byte .ensures) (at-a .a .given .1)) (read-got (at-read-byte2 .read-byte2 .ensures) (at-b .b .given .1))
     (at-if1 .if1 .taken ∙ at-wide .wide .ensures .0) (c .if2 .taken ∙ c .before .wide2 .ensures .0))
 
 returns-4 : tie.Need-returns-4
@@ -63,7 +63,7 @@ returns-4 c =
     let at-b = c .before .before .before .before .before in
     let at-wide = c .before .before .before in
     let at-if1 = c .before .before in
-    sym (mark-not-second _ _ _ _ _ (known (at-read-byte .read-byte .ensures) (at-a .a .given .1)) (known (at-read-byte2 .read-byte2 .ensures) (at-b .b .given .1))
+    sym (mark-not-second _ _ _ _ _ (read-got (at-read-byte .read-byte .ensures) (at-a .a .given .1)) (read-got (at-read-byte2 .read-byte2 .ensures) (at-b .b .given .1))
     (at-if1 .if1 .taken ∙ at-wide .wide .ensures .0) (λ e. c .if2 .left (e ∙ sym (c .before .wide2 .ensures .0))))
 
 returns-5 : tie.Need-returns-5
@@ -72,7 +72,7 @@ returns-5 c =
     let at-a = c .before .before .before .before .before .before .before in
     let at-read-byte2 = c .before .before .before .before .before in
     let at-b = c .before .before .before in
-    sym (mark-not-first _ _ _ _ _ (known (at-read-byte .read-byte .ensures) (at-a .a .given .1)) (known (at-read-byte2 .read-byte2 .ensures) (at-b .b .given .1)) (λ e. c .if1 .left (e ∙ sym (c .before .wide .ensures .0))))
+    sym (mark-not-first _ _ _ _ _ (read-got (at-read-byte .read-byte .ensures) (at-a .a .given .1)) (read-got (at-read-byte2 .read-byte2 .ensures) (at-b .b .given .1)) (λ e. c .if1 .left (e ∙ sym (c .before .wide .ensures .0))))
 
 pub read-mark-spec : {M : Type 1} → statement M
 read-mark-spec =

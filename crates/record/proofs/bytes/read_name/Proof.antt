@@ -5,7 +5,7 @@ use mathlib.Core.Path.{_≡_, refl}
 use Rattle.format.specs.Reader.{mapRead}
 use Rattle.format.specs.Records.{readName}
 use Rattle.record.specs.Answers.{nothing}
-use Rattle.record.proofs.ReadingLaws.{known, told}
+use Rattle.record.proofs.ReadingLaws.{read-got, read-stopped}
 use Rattle.record.proofs.ByteLaws.{name-ends, name-more, name-stops}
 use Rattle.record.proofs.bytes.read_name.Statement.{statement}
 use Rattle.record.proofs.bytes.read_name.Tie as tie
@@ -37,8 +37,8 @@ returns c =
     let at-loop-test = c .before .before .before in
     let at-read-printing = c .before .before in
     at-read-printing .read-printing .ensures
-    ∙ ((told (at-read-printing .read-printing .ensures) (c .enum-told .given .1))
-    ∙ sym (at-loop .loop .inv ∙ name-stops _ _ _ _ (at-loop-test .loop-test .taken) (told (at-read-printing .read-printing .ensures) (c .enum-told .given .1))))
+    ∙ ((read-stopped (at-read-printing .read-printing .ensures) (c .enum-told .given .1))
+    ∙ sym (at-loop .loop .inv ∙ name-stops _ _ _ _ (at-loop-test .loop-test .taken) (read-stopped (at-read-printing .read-printing .ensures) (c .enum-told .given .1))))
 
 sub-left : tie.Need-sub-left Inv-loop μ-loop
 sub-left c = search needs
@@ -51,7 +51,7 @@ loop-again c =
     let at-loop = c .before .before .before .before .before in
     let at-loop-test = c .before .before .before .before in
     let at-read-printing = c .before .before .before in
-    at-loop .loop .inv ∙ name-more _ _ _ _ (at-loop-test .loop-test .taken) (known (at-read-printing .read-printing .ensures) (c .before .b .given .1))
+    at-loop .loop .inv ∙ name-more _ _ _ _ (at-loop-test .loop-test .taken) (read-got (at-read-printing .read-printing .ensures) (c .before .b .given .1))
 
 returns-2 : tie.Need-returns-2 Inv-loop μ-loop
 returns-2 c = sym (c .before .loop .inv ∙ name-ends _ _ _ _ (omega arith))

@@ -1,7 +1,7 @@
 use mathlib.Core.Path.{_∙_, sym, ap}
 use native.Mathlib.Omega.{arith}
-use Rattle.record.specs.Answers.{answerOf}
-use Rattle.record.proofs.ReadingLaws.{known, told}
+use Rattle.record.specs.Answers.{readingOf}
+use Rattle.record.proofs.ReadingLaws.{read-got, read-stopped}
 use Rattle.record.proofs.ShapeLaws.{opening-few, closing-few, shape-unmarked, shape-uncounted, shape-unclosed, shape-sized}
 use borrow.Author.Needs.{needs}
 use Rattle.record.proofs.shapes.read_shape.Statement.{statement}
@@ -30,7 +30,7 @@ enum-told c = search needs
 returns : tie.Need-returns
 returns c =
     let at-read-mark = c .before .before in
-    ap answerOf (c .enum-told .given .1) ∙ sym (shape-unmarked _ _ (told (at-read-mark .read-mark .ensures) (c .enum-told .given .1)))
+    ap readingOf (c .enum-told .given .1) ∙ sym (shape-unmarked _ _ (read-stopped (at-read-mark .read-mark .ensures) (c .enum-told .given .1)))
 
 -- src/shapes.rt:39:9
 read-count-requires : tie.Need-read-count-requires
@@ -50,7 +50,7 @@ returns-2 c =
     let at-read-mark = c .before .before .before .before .before .before in
     let at-mark = c .before .before .before .before in
     let at-read-count = c .before .before in
-    ap answerOf (c .enum-told2 .given .1) ∙ sym (shape-uncounted _ _ (known (at-read-mark .read-mark .ensures) (at-mark .mark .given .1)) (told (at-read-count .read-count .ensures) (c .enum-told2 .given .1)))
+    ap readingOf (c .enum-told2 .given .1) ∙ sym (shape-uncounted _ _ (read-got (at-read-mark .read-mark .ensures) (at-mark .mark .given .1)) (read-stopped (at-read-count .read-count .ensures) (c .enum-told2 .given .1)))
 
 -- src/shapes.rt:43:9
 read-optional-requires : tie.Need-read-optional-requires
@@ -72,9 +72,9 @@ returns-3 c =
     let at-read-count = c .before .before .before .before .before .before in
     let at-opening = c .before .before .before .before in
     let at-read-optional = c .before .before in
-    ap answerOf (c .enum-told3 .given .1)
-    ∙ sym (shape-unclosed _ _ (known (at-read-mark .read-mark .ensures) (at-mark .mark .given .1)) (known (at-read-count .read-count .ensures) (at-opening .opening .given .1))
-    (told (at-read-optional .read-optional .ensures) (c .enum-told3 .given .1)))
+    ap readingOf (c .enum-told3 .given .1)
+    ∙ sym (shape-unclosed _ _ (read-got (at-read-mark .read-mark .ensures) (at-mark .mark .given .1)) (read-got (at-read-count .read-count .ensures) (at-opening .opening .given .1))
+    (read-stopped (at-read-optional .read-optional .ensures) (c .enum-told3 .given .1)))
 
 -- src/shapes.rt:47:30
 list-count-requires : tie.Need-list-count-requires
@@ -90,9 +90,9 @@ add-read-sizes c =
     omega (
       arith,
       c .list-count .ensures,
-      opening-few _ _ _ (known (at-read-count .read-count .ensures) (at-opening .opening .given .1)),
+      opening-few _ _ _ (read-got (at-read-count .read-count .ensures) (at-opening .opening .given .1)),
       closing-few _ _ _
-          (known (at-read-optional .read-optional .ensures) (at-closing .closing .given .1)),
+          (read-got (at-read-optional .read-optional .ensures) (at-closing .closing .given .1)),
     )
 
 -- src/shapes.rt:47:5
@@ -109,8 +109,8 @@ returns-4 c =
     let at-read-optional = c .before .before .before .before .before in
     let at-closing = c .before .before .before in
     c .read-sizes .ensures
-    ∙ sym (shape-sized _ _ (known (at-read-mark .read-mark .ensures) (at-mark .mark .given .1)) (known (at-read-count .read-count .ensures) (at-opening .opening .given .1))
-    (known (at-read-optional .read-optional .ensures) (at-closing .closing .given .1)) (c .before .list-count .ensures))
+    ∙ sym (shape-sized _ _ (read-got (at-read-mark .read-mark .ensures) (at-mark .mark .given .1)) (read-got (at-read-count .read-count .ensures) (at-opening .opening .given .1))
+    (read-got (at-read-optional .read-optional .ensures) (at-closing .closing .given .1)) (c .before .list-count .ensures))
 
 pub read-shape-spec : {M : Type 1} → statement M
 read-shape-spec =

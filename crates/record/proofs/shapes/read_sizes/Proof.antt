@@ -3,7 +3,7 @@ use native.Mathlib.Omega.{arith}
 use Rattle.format.specs.Reader.{mapRead}
 use Rattle.format.specs.Records.{readDims}
 use Rattle.record.specs.Answers.{nothing}
-use Rattle.record.proofs.ReadingLaws.{known, told}
+use Rattle.record.proofs.ReadingLaws.{read-got, read-stopped}
 use Rattle.record.proofs.ShapeLaws.{sizes-end, sizes-more, sizes-stop}
 use borrow.Author.Needs.{needs}
 use Rattle.record.proofs.shapes.read_sizes.Statement.{statement}
@@ -41,8 +41,8 @@ returns c =
     let at-loop-test = c .before .before .before in
     let at-read-size = c .before .before in
     at-read-size .read-size .ensures
-    ∙ (told (at-read-size .read-size .ensures) (c .enum-told .given .1)
-    ∙ sym (at-loop .loop .inv ∙ sizes-stop _ _ _ _ (at-loop-test .loop-test .taken) (told (at-read-size .read-size .ensures) (c .enum-told .given .1))))
+    ∙ (read-stopped (at-read-size .read-size .ensures) (c .enum-told .given .1)
+    ∙ sym (at-loop .loop .inv ∙ sizes-stop _ _ _ _ (at-loop-test .loop-test .taken) (read-stopped (at-read-size .read-size .ensures) (c .enum-told .given .1))))
 
 -- src/shapes.rt:26:9
 sub-left : tie.Need-sub-left Inv-loop μ-loop
@@ -58,7 +58,7 @@ loop-again c =
     let at-loop = c .before .before .before .before .before in
     let at-loop-test = c .before .before .before .before in
     let at-read-size = c .before .before .before in
-    at-loop .loop .inv ∙ sizes-more _ _ _ _ (at-loop-test .loop-test .taken) (known (at-read-size .read-size .ensures) (c .before .size .given .1))
+    at-loop .loop .inv ∙ sizes-more _ _ _ _ (at-loop-test .loop-test .taken) (read-got (at-read-size .read-size .ensures) (c .before .size .given .1))
 
 -- src/shapes.rt:15:1
 returns-2 : tie.Need-returns-2 Inv-loop μ-loop

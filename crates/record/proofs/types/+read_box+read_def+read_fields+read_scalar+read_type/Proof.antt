@@ -4,10 +4,10 @@ use borrow.Author.Needs.{needs}
 use Rattle.model.specs.Types.{among}
 use Rattle.format.specs.Reader.{mapRead}
 use Rattle.format.specs.Records.{readFields, readTy}
-use Rattle.record.proofs.ReadingLaws.{known, told}
+use Rattle.record.proofs.ReadingLaws.{read-got, read-stopped}
 use Rattle.record.proofs.TypeLaws.{type-deep, type-many, type-unshaped, type-shaped, scalar-unmarked, scalar-ended, scalar-boxed, scalar-kind, scalar-unknown, box-unmarked, box-ended}
 use Rattle.record.proofs.TypeLaws.{box-any, box-all, box-def, box-unformed, def-unnamed, def-misnamed, def-uncounted, def-counted, fields-end, fields-stop, fields-more}
-use Rattle.record.specs.Answers.{answerOf}
+use Rattle.record.specs.Answers.{readingOf}
 use Prim.Native.Nat.{ℕ, _<_, _+_, _-_, _*_}
 use borrow.Fn.Kinds.{In}
 use borrow.Fn.PlainCycle.{Measures, is, falls, and}
@@ -140,7 +140,7 @@ read-box-returns : (t : ℕ) → read-box-lts.Need-returns (
 ) (read-box-at t) read-box.Post
 read-box-returns t c =
     let at-read-mark = c .before .before in
-    at-read-mark .read-mark .ensures ∙ ((told (at-read-mark .read-mark .ensures) (c .enum-told .given .1)) ∙ sym (box-unmarked _ _ _ _ (told (at-read-mark .read-mark .ensures) (c .enum-told .given .1))))
+    at-read-mark .read-mark .ensures ∙ ((read-stopped (at-read-mark .read-mark .ensures) (c .enum-told .given .1)) ∙ sym (box-unmarked _ _ _ _ (read-stopped (at-read-mark .read-mark .ensures) (c .enum-told .given .1))))
 
 read-box-read-byte-requires : (t : ℕ) → read-box-lts.Need-read-byte-requires (
   read-mark-reads.Asked,
@@ -193,8 +193,8 @@ read-box-returns-2 t c =
     let at-mark = c .before .before .before .before in
     let at-read-byte = c .before .before in
     at-read-byte .read-byte .ensures
-    ∙ ((told (at-read-byte .read-byte .ensures) (c .enum-told2 .given .1))
-    ∙ sym (box-ended _ _ _ _ (known (at-read-mark .read-mark .ensures) (at-mark .mark .given .1)) (told (at-read-byte .read-byte .ensures) (c .enum-told2 .given .1))))
+    ∙ ((read-stopped (at-read-byte .read-byte .ensures) (c .enum-told2 .given .1))
+    ∙ sym (box-ended _ _ _ _ (read-got (at-read-mark .read-mark .ensures) (at-mark .mark .given .1)) (read-stopped (at-read-byte .read-byte .ensures) (c .enum-told2 .given .1))))
 
 read-box-returns-3 : (t : ℕ) → read-box-lts.Need-returns-3 (
   read-mark-reads.Asked,
@@ -211,7 +211,7 @@ read-box-returns-3 t c =
     let at-mark = c .before .before .before .before .before .before in
     let at-read-byte = c .before .before .before .before in
     let at-form = c .before .before in
-    sym (box-any _ _ _ _ (known (at-read-mark .read-mark .ensures) (at-mark .mark .given .1)) (known (at-read-byte .read-byte .ensures) (at-form .form .given .1)) (c .if1 .taken))
+    sym (box-any _ _ _ _ (read-got (at-read-mark .read-mark .ensures) (at-mark .mark .given .1)) (read-got (at-read-byte .read-byte .ensures) (at-form .form .given .1)) (c .if1 .taken))
 
 read-box-read-type-requires : (t : ℕ) → read-box-lts.Need-read-type-requires (
   read-mark-reads.Asked,
@@ -240,7 +240,7 @@ read-box-returns-4 t c =
     let at-mark = c .before .before .before .before .before .before .before .before in
     let at-read-byte = c .before .before .before .before .before .before in
     let at-form = c .before .before .before .before in
-    c .read-type .ensures ∙ sym (box-all _ _ _ _ (known (at-read-mark .read-mark .ensures) (at-mark .mark .given .1)) (known (at-read-byte .read-byte .ensures) (at-form .form .given .1)) (c .before .if2 .taken))
+    c .read-type .ensures ∙ sym (box-all _ _ _ _ (read-got (at-read-mark .read-mark .ensures) (at-mark .mark .given .1)) (read-got (at-read-byte .read-byte .ensures) (at-form .form .given .1)) (c .before .if2 .taken))
 
 read-box-read-def-requires : (t : ℕ) → read-box-lts.Need-read-def-requires (
   read-mark-reads.Asked,
@@ -269,7 +269,7 @@ read-box-returns-5 t c =
     let at-mark = c .before .before .before .before .before .before .before .before .before in
     let at-read-byte = c .before .before .before .before .before .before .before in
     let at-form = c .before .before .before .before .before in
-    c .read-def .ensures ∙ sym (box-def _ _ _ _ (known (at-read-mark .read-mark .ensures) (at-mark .mark .given .1)) (known (at-read-byte .read-byte .ensures) (at-form .form .given .1)) (c .before .if3 .taken))
+    c .read-def .ensures ∙ sym (box-def _ _ _ _ (read-got (at-read-mark .read-mark .ensures) (at-mark .mark .given .1)) (read-got (at-read-byte .read-byte .ensures) (at-form .form .given .1)) (c .before .if3 .taken))
 
 read-box-returns-6 : (t : ℕ) → read-box-lts.Need-returns-6 (
   read-mark-reads.Asked,
@@ -287,7 +287,7 @@ read-box-returns-6 t c =
     let at-read-byte = c .before .before .before .before .before .before in
     let at-form = c .before .before .before .before in
     let at-if1 = c .before .before in
-    sym (box-unformed _ _ _ _ (known (at-read-mark .read-mark .ensures) (at-mark .mark .given .1)) (known (at-read-byte .read-byte .ensures) (at-form .form .given .1)) (at-if1 .if1 .left) (c .before .if2 .left) (c .if3 .left))
+    sym (box-unformed _ _ _ _ (read-got (at-read-mark .read-mark .ensures) (at-mark .mark .given .1)) (read-got (at-read-byte .read-byte .ensures) (at-form .form .given .1)) (at-if1 .if1 .left) (c .before .if2 .left) (c .if3 .left))
 
 read-def-read-optional-requires : (t : ℕ) → read-def-lts.Need-read-optional-requires (
   read-optional-reads.Asked,
@@ -345,7 +345,7 @@ read-def-returns : (t : ℕ) → read-def-lts.Need-returns (
 ) (read-def-at t) read-def.Post
 read-def-returns t c =
     let at-read-optional = c .before .before in
-    at-read-optional .read-optional .ensures ∙ ((told (at-read-optional .read-optional .ensures) (c .enum-told .given .1)) ∙ sym (def-unnamed _ _ _ _ _ (told (at-read-optional .read-optional .ensures) (c .enum-told .given .1))))
+    at-read-optional .read-optional .ensures ∙ ((read-stopped (at-read-optional .read-optional .ensures) (c .enum-told .given .1)) ∙ sym (def-unnamed _ _ _ _ _ (read-stopped (at-read-optional .read-optional .ensures) (c .enum-told .given .1))))
 
 read-def-list-count-requires : (t : ℕ) → read-def-lts.Need-list-count-requires (
   read-optional-reads.Asked,
@@ -421,9 +421,9 @@ read-def-returns-2 t c =
     let at-list-count = c .before .before .before in
     let at-read-name = c .before .before in
     at-read-name .read-name .ensures
-    ∙ ((told (at-read-name .read-name .ensures) (c .enum-told2 .given .1))
-    ∙ sym (def-misnamed _ _ _ _ _ (known (at-read-optional .read-optional .ensures) (at-length .length .given .1)) (at-list-count .list-count .ensures)
-    (told (at-read-name .read-name .ensures) (c .enum-told2 .given .1))))
+    ∙ ((read-stopped (at-read-name .read-name .ensures) (c .enum-told2 .given .1))
+    ∙ sym (def-misnamed _ _ _ _ _ (read-got (at-read-optional .read-optional .ensures) (at-length .length .given .1)) (at-list-count .list-count .ensures)
+    (read-stopped (at-read-name .read-name .ensures) (c .enum-told2 .given .1))))
 
 read-def-read-count-requires : (t : ℕ) → read-def-lts.Need-read-count-requires (
   read-optional-reads.Asked,
@@ -487,9 +487,9 @@ read-def-returns-3 t c =
     let at-name = c .before .before .before .before in
     let at-read-count = c .before .before in
     at-read-count .read-count .ensures
-    ∙ ((told (at-read-count .read-count .ensures) (c .enum-told3 .given .1))
-    ∙ sym (def-uncounted _ _ _ _ _ (known (at-read-optional .read-optional .ensures) (at-length .length .given .1)) (at-list-count .list-count .ensures)
-    (known (at-read-name .read-name .ensures) (at-name .name .given .1)) (told (at-read-count .read-count .ensures) (c .enum-told3 .given .1))))
+    ∙ ((read-stopped (at-read-count .read-count .ensures) (c .enum-told3 .given .1))
+    ∙ sym (def-uncounted _ _ _ _ _ (read-got (at-read-optional .read-optional .ensures) (at-length .length .given .1)) (at-list-count .list-count .ensures)
+    (read-got (at-read-name .read-name .ensures) (at-name .name .given .1)) (read-stopped (at-read-count .read-count .ensures) (c .enum-told3 .given .1))))
 
 read-def-read-fields-requires : (t : ℕ) → read-def-lts.Need-read-fields-requires (
   read-optional-reads.Asked,
@@ -526,8 +526,8 @@ read-def-returns-4 t c =
     let at-read-count = c .before .before .before .before in
     let at-fields = c .before .before in
     c .read-fields .ensures
-    ∙ sym (def-counted _ _ _ _ _ (known (at-read-optional .read-optional .ensures) (at-length .length .given .1)) (at-list-count .list-count .ensures)
-    (known (at-read-name .read-name .ensures) (at-name .name .given .1)) (known (at-read-count .read-count .ensures) (at-fields .fields .given .1)))
+    ∙ sym (def-counted _ _ _ _ _ (read-got (at-read-optional .read-optional .ensures) (at-length .length .given .1)) (at-list-count .list-count .ensures)
+    (read-got (at-read-name .read-name .ensures) (at-name .name .given .1)) (read-got (at-read-count .read-count .ensures) (at-fields .fields .given .1)))
 
 abbrev read-fields-Inv-loop : read-fields-lts.InvT-loop
 read-fields-Inv-loop s start depth left count at₀ still₀ todo₀ at still todo =
@@ -573,8 +573,8 @@ read-fields-returns t c =
     let at-loop-test = c .before .before .before in
     let at-read-type = c .before .before in
     at-read-type .read-type .ensures
-    ∙ ((told (at-read-type .read-type .ensures) (c .enum-told .given .1))
-    ∙ sym (at-loop .loop .inv ∙ fields-stop _ _ _ _ _ (at-loop-test .loop-test .taken) (told (at-read-type .read-type .ensures) (c .enum-told .given .1))))
+    ∙ ((read-stopped (at-read-type .read-type .ensures) (c .enum-told .given .1))
+    ∙ sym (at-loop .loop .inv ∙ fields-stop _ _ _ _ _ (at-loop-test .loop-test .taken) (read-stopped (at-read-type .read-type .ensures) (c .enum-told .given .1))))
 
 read-fields-sub-todo :
     (t : ℕ) →
@@ -600,7 +600,7 @@ read-fields-loop-again t c =
     let at-loop = c .before .before .before .before .before in
     let at-loop-test = c .before .before .before .before in
     let at-read-type = c .before .before .before in
-    at-loop .loop .inv ∙ fields-more _ _ _ _ _ (at-loop-test .loop-test .taken) (known (at-read-type .read-type .ensures) (c .before .field .given .1))
+    at-loop .loop .inv ∙ fields-more _ _ _ _ _ (at-loop-test .loop-test .taken) (read-got (at-read-type .read-type .ensures) (c .before .field .given .1))
 
 read-fields-returns-2 : (t : ℕ) → read-fields-lts.Need-returns-2 (
   read-type-below t,
@@ -648,7 +648,7 @@ read-scalar-returns : (t : ℕ) → read-scalar-lts.Need-returns (
 ) (read-scalar-at t) read-scalar.Post
 read-scalar-returns t c =
     let at-read-mark = c .before .before in
-    at-read-mark .read-mark .ensures ∙ ((told (at-read-mark .read-mark .ensures) (c .enum-told .given .1)) ∙ sym (scalar-unmarked _ _ _ _ (told (at-read-mark .read-mark .ensures) (c .enum-told .given .1))))
+    at-read-mark .read-mark .ensures ∙ ((read-stopped (at-read-mark .read-mark .ensures) (c .enum-told .given .1)) ∙ sym (scalar-unmarked _ _ _ _ (read-stopped (at-read-mark .read-mark .ensures) (c .enum-told .given .1))))
 
 read-scalar-read-byte-requires : (t : ℕ) → read-scalar-lts.Need-read-byte-requires (
   read-mark-reads.Asked,
@@ -693,8 +693,8 @@ read-scalar-returns-2 t c =
     let at-mark = c .before .before .before .before in
     let at-read-byte = c .before .before in
     at-read-byte .read-byte .ensures
-    ∙ ((told (at-read-byte .read-byte .ensures) (c .enum-told2 .given .1))
-    ∙ sym (scalar-ended _ _ _ _ (known (at-read-mark .read-mark .ensures) (at-mark .mark .given .1)) (told (at-read-byte .read-byte .ensures) (c .enum-told2 .given .1))))
+    ∙ ((read-stopped (at-read-byte .read-byte .ensures) (c .enum-told2 .given .1))
+    ∙ sym (scalar-ended _ _ _ _ (read-got (at-read-mark .read-mark .ensures) (at-mark .mark .given .1)) (read-stopped (at-read-byte .read-byte .ensures) (c .enum-told2 .given .1))))
 
 read-scalar-read-box-requires : (t : ℕ) → read-scalar-lts.Need-read-box-requires (
   read-mark-reads.Asked,
@@ -719,7 +719,7 @@ read-scalar-returns-3 t c =
     let at-mark = c .before .before .before .before .before .before .before in
     let at-read-byte = c .before .before .before .before .before in
     let at-kind = c .before .before .before in
-    c .read-box .ensures ∙ sym (scalar-boxed _ _ _ _ (known (at-read-mark .read-mark .ensures) (at-mark .mark .given .1)) (known (at-read-byte .read-byte .ensures) (at-kind .kind .given .1)) (c .before .if1 .taken))
+    c .read-box .ensures ∙ sym (scalar-boxed _ _ _ _ (read-got (at-read-mark .read-mark .ensures) (at-mark .mark .given .1)) (read-got (at-read-byte .read-byte .ensures) (at-kind .kind .given .1)) (c .before .if1 .taken))
 
 read-scalar-returns-4 : (t : ℕ) → read-scalar-lts.Need-returns-4 (
   read-mark-reads.Asked,
@@ -734,7 +734,7 @@ read-scalar-returns-4 t c =
     let at-mark = c .before .before .before .before .before .before .before in
     let at-read-byte = c .before .before .before .before .before in
     let at-kind = c .before .before .before in
-    sym (scalar-unknown _ _ _ _ (known (at-read-mark .read-mark .ensures) (at-mark .mark .given .1)) (known (at-read-byte .read-byte .ensures) (at-kind .kind .given .1)) (c .if2 .taken))
+    sym (scalar-unknown _ _ _ _ (read-got (at-read-mark .read-mark .ensures) (at-mark .mark .given .1)) (read-got (at-read-byte .read-byte .ensures) (at-kind .kind .given .1)) (c .if2 .taken))
 
 read-scalar-returns-5 : (t : ℕ) → read-scalar-lts.Need-returns-5 (
   read-mark-reads.Asked,
@@ -749,7 +749,7 @@ read-scalar-returns-5 t c =
     let at-mark = c .before .before .before .before .before .before .before in
     let at-read-byte = c .before .before .before .before .before in
     let at-kind = c .before .before .before in
-    sym (scalar-kind _ _ _ _ (known (at-read-mark .read-mark .ensures) (at-mark .mark .given .1)) (known (at-read-byte .read-byte .ensures) (at-kind .kind .given .1)) (c .before .if1 .left) (c .if2 .left))
+    sym (scalar-kind _ _ _ _ (read-got (at-read-mark .read-mark .ensures) (at-mark .mark .given .1)) (read-got (at-read-byte .read-byte .ensures) (at-kind .kind .given .1)) (c .before .if1 .left) (c .if2 .left))
 
 read-type-returns : (t : ℕ) → read-type-lts.Need-returns (
   read-shape-reads.Asked,
@@ -801,7 +801,7 @@ read-type-returns-3 t c =
     let at-if1 = c .before .before .before .before in
     let at-if2 = c .before .before .before in
     let at-read-shape = c .before .before in
-    ap answerOf (c .enum-told .given .1) ∙ sym (type-unshaped _ _ _ _ (at-if1 .if1 .left) (at-if2 .if2 .left) (told (at-read-shape .read-shape .ensures) (c .enum-told .given .1)))
+    ap readingOf (c .enum-told .given .1) ∙ sym (type-unshaped _ _ _ _ (at-if1 .if1 .left) (at-if2 .if2 .left) (read-stopped (at-read-shape .read-shape .ensures) (c .enum-told .given .1)))
 
 read-type-sub-read-scalar : (t : ℕ) → read-type-lts.Need-sub-read-scalar (
   read-shape-reads.Asked,
@@ -838,7 +838,7 @@ read-type-returns-4 t c =
     let at-if2 = c .before .before .before .before .before in
     let at-read-shape = c .before .before .before .before in
     let at-shape = c .before .before in
-    c .read-scalar .ensures ∙ sym (type-shaped _ _ _ _ (at-if1 .if1 .left) (at-if2 .if2 .left) (known (at-read-shape .read-shape .ensures) (at-shape .shape .given .1)))
+    c .read-scalar .ensures ∙ sym (type-shaped _ _ _ _ (at-if1 .if1 .left) (at-if2 .if2 .left) (read-got (at-read-shape .read-shape .ensures) (at-shape .shape .given .1)))
 
 pub +read-box+read-def+read-fields+read-scalar+read-type-spec : {M : Type 1} → statement M
 +read-box+read-def+read-fields+read-scalar+read-type-spec =

@@ -1,5 +1,5 @@
 use mathlib.Core.Path.{sym, ap}
-use Rattle.record.specs.Answers.{answerOf, passed}
+use Rattle.record.specs.Answers.{readingOf, passed}
 use borrow.Author.Needs.{needs}
 use Rattle.record.proofs.whole.as_lone.Statement.{statement}
 use Rattle.record.proofs.whole.as_lone.Tie as tie
@@ -16,7 +16,7 @@ returns : tie.Need-returns
 returns c = search needs
 
 returns-2 : tie.Need-returns-2
-returns-2 c = sym (ap (λ a. passed (answerOf a)) (c .before .answer .given .1))
+returns-2 c = sym (ap (λ a. passed (readingOf a)) (c .before .answer .given .1))
 
 pub as-lone-spec : {M : Type 1} → statement M
 as-lone-spec = tie.close (tie.spec enum-told enum-known-answer returns returns-2)

@@ -1,6 +1,6 @@
-use Rattle.record.specs.Answers.{answerOf, passed}
+use Rattle.record.specs.Answers.{readingOf, passed}
 use mathlib.Core.Path.{sym, ap, _∙_}
-use Rattle.record.proofs.ReadingLaws.{known, told}
+use Rattle.record.proofs.ReadingLaws.{read-got, read-stopped}
 use Rattle.record.proofs.LoneLaws.{lone-trailing, lone-whole, lone-stopped}
 use borrow.Author.Needs.{needs}
 use Rattle.record.proofs.whole.read_lone.Statement.{statement}
@@ -23,19 +23,19 @@ as-lone-requires c κs = search needs
 returns : tie.Need-returns
 returns c =
     let at-read-type = c .before .before .before in
-    c .as-lone .ensures ∙ ap (λ a. passed (answerOf a)) (c .before .enum-told .given .1) ∙ sym (lone-stopped _ _ (told (at-read-type .read-type .ensures) (c .before .enum-told .given .1)))
+    c .as-lone .ensures ∙ ap (λ a. passed (readingOf a)) (c .before .enum-told .given .1) ∙ sym (lone-stopped _ _ (read-stopped (at-read-type .read-type .ensures) (c .before .enum-told .given .1)))
 
 returns-2 : tie.Need-returns-2
 returns-2 c =
     let at-read-type = c .before .before .before .before in
     let at-answer = c .before .before in
-    sym (lone-trailing _ _ (known (at-read-type .read-type .ensures) (at-answer .answer .given .1)) (c .if1 .taken))
+    sym (lone-trailing _ _ (read-got (at-read-type .read-type .ensures) (at-answer .answer .given .1)) (c .if1 .taken))
 
 returns-3 : tie.Need-returns-3
 returns-3 c =
     let at-read-type = c .before .before .before .before in
     let at-answer = c .before .before in
-    sym (lone-whole _ _ (known (at-read-type .read-type .ensures) (at-answer .answer .given .1)) (c .if1 .left))
+    sym (lone-whole _ _ (read-got (at-read-type .read-type .ensures) (at-answer .answer .given .1)) (c .if1 .left))
 
 pub read-lone-spec : {M : Type 1} → statement M
 read-lone-spec =

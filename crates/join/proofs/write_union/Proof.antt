@@ -55,10 +55,13 @@ sub-write-parts c =
     let at-shared-slice-known = c .before .before .before .before .before .before .before .before in
     let at-shared-slice-known2 = c .before .before .before .before .before .before .before in
     let at-scalar-at = c .before .before .before .before .before in
+    let at-scalar-at2 = c .before .before .before .before in
     let args = entry .args in
     let small : Bytes (args .a .now) = λ i. omega (arith, at-shared-slice-known .shared-slice-known .given i) in
     let small′ : Bytes (args .b .now) = λ i. omega (arith, at-shared-slice-known2 .shared-slice-known2 .given i) in
-    first-within (args .a .now) (args .b .now) (entry .pre) small small′ (at-scalar-at .scalar-at .ensures)
+    let first = first-within (args .a .now) (args .b .now) (entry .pre) small small′ (at-scalar-at .scalar-at .ensures) in
+    let second = second-within (args .a .now) (args .b .now) (entry .pre) small small′ (at-scalar-at2 .scalar-at2 .ensures) in
+    search needs
 
 part-write-parts-start : tie.Need-part-write-parts-start
 part-write-parts-start c =
@@ -66,10 +69,13 @@ part-write-parts-start c =
     let at-shared-slice-known = c .before .before .before .before .before .before .before .before in
     let at-shared-slice-known2 = c .before .before .before .before .before .before .before in
     let at-scalar-at = c .before .before .before .before .before in
+    let at-scalar-at2 = c .before .before .before .before in
     let args = entry .args in
     let small : Bytes (args .a .now) = λ i. omega (arith, at-shared-slice-known .shared-slice-known .given i) in
     let small′ : Bytes (args .b .now) = λ i. omega (arith, at-shared-slice-known2 .shared-slice-known2 .given i) in
-    first-within (args .a .now) (args .b .now) (entry .pre) small small′ (at-scalar-at .scalar-at .ensures)
+    let first = first-within (args .a .now) (args .b .now) (entry .pre) small small′ (at-scalar-at .scalar-at .ensures) in
+    let second = second-within (args .a .now) (args .b .now) (entry .pre) small small′ (at-scalar-at2 .scalar-at2 .ensures) in
+    search needs
 
 part-write-parts-end : tie.Need-part-write-parts-end
 part-write-parts-end c = search needs

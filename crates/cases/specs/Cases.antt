@@ -48,27 +48,27 @@ pub data Claim : Type 0 where
   theShapeCheck : Side → Shape → Shape → Outcome Shape → Claim
 
 -- a pervading that gives nothing is refusal 8
-abbrev answered : Option Shape → Outcome Shape
-answered none = refused unpervaded 0
-answered (some s) = accepted s
+abbrev pervadingOutcome : Option Shape → Outcome Shape
+pervadingOutcome none = refused unpervaded 0
+pervadingOutcome (some s) = accepted s
 
 -- that the rule gives it
-abbrev pub Given : Claim → Type 0
-Given (theLarger d e x) = (larger d e ≡ x) × (larger e d ≡ x)
-Given (theJoin s t x) = joinShapes s t ≡ x
-Given (theRow s x) = rowShape s ≡ x
-Given (theUnion k l x) = (s : Shape) (j : Scalar) → union (k s j) (l s j) ≡ x s j
-Given (theKind xs k) = numsScalar xs ≡ plain k
-Given (theSize v x) = valueAsDim v ≡ x
-Given (theSizes v x) = valueAsDims v ≡ x
-Given (theSpec v x) = valueSpec v ≡ x
-Given (thePervading f g s t x) = answered (pervade f g s t) ≡ x
-Given (everyPervading s t x) = (f g : Bool) → answered (pervade f g s t) ≡ x
-Given (theValidation side s t x) = validate side s t ≡ x
-Given (theShapeCheck side s t x) = checkShape side s t ≡ x
+abbrev pub Says : Claim → Type 0
+Says (theLarger d e x) = (larger d e ≡ x) × (larger e d ≡ x)
+Says (theJoin s t x) = joinShapes s t ≡ x
+Says (theRow s x) = rowShape s ≡ x
+Says (theUnion k l x) = (s : Shape) (j : Scalar) → union (k s j) (l s j) ≡ x s j
+Says (theKind xs k) = numsScalar xs ≡ plain k
+Says (theSize v x) = valueAsDim v ≡ x
+Says (theSizes v x) = valueAsDims v ≡ x
+Says (theSpec v x) = valueSpec v ≡ x
+Says (thePervading f g s t x) = pervadingOutcome (pervade f g s t) ≡ x
+Says (everyPervading s t x) = (f g : Bool) → pervadingOutcome (pervade f g s t) ≡ x
+Says (theValidation side s t x) = validate side s t ≡ x
+Says (theShapeCheck side s t x) = checkShape side s t ≡ x
 
 abbrev pub AllGiven : List Claim → Type 0
-AllGiven claims = All Given claims
+AllGiven claims = All Says claims
 
 unfoldable pub cases : List (List Claim)
 cases =

@@ -45,8 +45,8 @@ openSteps = put (openNums 2) ∷ put (openNums 3) ∷ join ∷ put closedDef ∷
 abbrev openSize : ℕ → List ℕ
 openSize n = 0x53 ∷ 0x48 ∷ 0x01 ∷ 0x00 ∷ n ∷ 0 ∷ 0 ∷ 0 ∷ 0 ∷ 0 ∷ 0 ∷ 0 ∷ 0x53 ∷ 0x43 ∷ 0x03 ∷ []
 
-abbrev scalarRecord : ℕ → List ℕ
-scalarRecord kind = 0x53 ∷ 0x48 ∷ 0x00 ∷ 0xFF ∷ 0x53 ∷ 0x43 ∷ kind ∷ []
+abbrev scalarTypeBytes : ℕ → List ℕ
+scalarTypeBytes kind = 0x53 ∷ 0x48 ∷ 0x00 ∷ 0xFF ∷ 0x53 ∷ 0x43 ∷ kind ∷ []
 
 abbrev pub openBytes : List ℕ
 openBytes =
@@ -54,8 +54,8 @@ openBytes =
     ++ ((0x50 ∷ 0x55 ∷ openSize 3)
     ++ ((0x4A ∷ 0x4E ∷ [])
     ++ ((0x50 ∷ 0x55 ∷ 0x53 ∷ 0x48 ∷ 0x01 ∷ 0xFF ∷ 0x02 ∷ 0 ∷ 0 ∷ 0 ∷ 0 ∷ 0 ∷ 0 ∷ 0 ∷ 0x53 ∷ 0x43 ∷ 0x08 ∷ 0x42 ∷ 0x58 ∷ 0x02 ∷ 0xFF ∷ 0x02 ∷ [])
-    ++ (scalarRecord 0x03
-    ++ (scalarRecord 0x06
+    ++ (scalarTypeBytes 0x03
+    ++ (scalarTypeBytes 0x06
     ++ (0x52 ∷ 0x57 ∷ []))))))
 
 -- the types left, bottom first: [?..] Num, and the Def's row, [] All of [] Num

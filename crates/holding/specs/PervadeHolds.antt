@@ -13,7 +13,7 @@ use Rattle.rules.specs.PervadeLaws.{together-unknown, together-unfilled, togeth
 use Rattle.machine.specs.Real.{RealShape, fits, realDim, realPervade}
 use Rattle.machine.specs.RealLaws.{consBoth-some}
 use Rattle.holding.specs.Fitting.{Fit}
-use Rattle.holding.specs.Bare.{isOpen, BareClosing, Bare, Rest, Begins, begins-of, of-begins}
+use Rattle.holding.specs.Bare.{isOpen, BareClosing, Bare, Rest, StartsWith, begins-of, of-begins}
 
 -- ---- real pervading
 
@@ -80,7 +80,7 @@ rests false false [] (n ∷ q) z h k y = absurd k
 rests false false (m ∷ r) q z h k y = absurd h
 
 -- where the first shape has no more opening sizes
-begins-right : (a b : Bool) (p x : List Dim) (r q z : RealShape) → Rest a r → Begins b p q → pervadeDims false false [] p ≡ sizes x → realPervade r q ≡ some z → Begins (a || b) x z
+begins-right : (a b : Bool) (p x : List Dim) (r q z : RealShape) → Rest a r → StartsWith b p q → pervadeDims false false [] p ≡ sizes x → realPervade r q ≡ some z → StartsWith (a || b) x z
 unfolding realPervade pervadeDims
 begins-right a b [] x r q z h k e y = let w : [] ≡ x = cc in rw (← w) (rests a b r q z h k y)
 begins-right a b (d ∷ p) x r [] z h k e y = absurd k
@@ -96,7 +96,7 @@ begins-right true b (d ∷ p) x (m ∷ r) (n ∷ q) z h k e y =
     rw (← v, ← w, ← u) (fit-against d m n z₀ (k .0) y₀, begins-right true b p x₁ r q z₁ tt (k .1) e₁ y₁)
 begins-right false b (d ∷ p) x (m ∷ r) (n ∷ q) z h k e y = absurd h
 
-begins-pervade : (a b : Bool) (o p x : List Dim) (r q z : RealShape) → Begins a o r → Begins b p q → pervadeDims false false o p ≡ sizes x → realPervade r q ≡ some z → Begins (a || b) x z
+begins-pervade : (a b : Bool) (o p x : List Dim) (r q z : RealShape) → StartsWith a o r → StartsWith b p q → pervadeDims false false o p ≡ sizes x → realPervade r q ≡ some z → StartsWith (a || b) x z
 unfolding realPervade pervadeDims
 begins-pervade a b [] p x r q z h k e y = begins-right a b p x r q z h k e y
 begins-pervade a b (d ∷ o) [] x r q z h k e y =

@@ -16,7 +16,7 @@ use Rattle.rules.specs.SizesLaws.{larger-either}
 use Rattle.machine.specs.Real.{RealShape, fits, realRow, JoinSide, theTop, theOneBelow, keeps}
 use Rattle.machine.specs.Conditions.{Alike}
 use Rattle.holding.specs.Fitting.{Fit}
-use Rattle.holding.specs.Bare.{isOpen, BareClosing, Bare, Rest, Begins, begins-of, of-begins}
+use Rattle.holding.specs.Bare.{isOpen, BareClosing, Bare, Rest, StartsWith, begins-of, of-begins}
 
 -- ---- row
 
@@ -24,7 +24,7 @@ pub row-holds : (s : Shape) (r : RealShape) → Bare s → fits s r ≡ true →
 unfolding rowShape
 row-holds (shape (d ∷ o) c) r u h = go r (begins-of (d ∷ o) c r h)
   where
-    go : (r : RealShape) → Begins (isOpen c) (d ∷ o) r → (fits (shape o c) (realRow r) ≡ true) × BareClosing c
+    go : (r : RealShape) → StartsWith (isOpen c) (d ∷ o) r → (fits (shape o c) (realRow r) ≡ true) × BareClosing c
     go [] b = absurd b
     go (n ∷ r) b = (of-begins o c r u (b .1), u)
 row-holds (shape [] none) r u h = go r (begins-of [] none r h)
@@ -58,14 +58,14 @@ fit-join-second (static m) (static k) n h = go (eqb m k) refl
     go false e = tt
 
 -- two open shapes
-open-first : (a : Bool) (o p : List Dim) (r : RealShape) → Begins a o r → Begins true (joinDims o p) r
+open-first : (a : Bool) (o p : List Dim) (r : RealShape) → StartsWith a o r → StartsWith true (joinDims o p) r
 unfolding joinDims
 open-first a [] p r h = tt
 open-first a (d ∷ o) [] r h = tt
 open-first a (d ∷ o) (e ∷ p) [] h = absurd h
 open-first a (d ∷ o) (e ∷ p) (n ∷ r) h = (fit-join-first d e n (h .0), open-first a o p r (h .1))
 
-open-second : (a : Bool) (o p : List Dim) (r : RealShape) → Begins a p r → Begins true (joinDims o p) r
+open-second : (a : Bool) (o p : List Dim) (r : RealShape) → StartsWith a p r → StartsWith true (joinDims o p) r
 unfolding joinDims
 open-second a [] p r h = tt
 open-second a (d ∷ o) [] r h = tt
@@ -73,14 +73,14 @@ open-second a (d ∷ o) (e ∷ p) [] h = absurd h
 open-second a (d ∷ o) (e ∷ p) (n ∷ r) h = (fit-join-second d e n (h .0), open-second a o p r (h .1))
 
 -- two closed shapes of equal count
-closed-first : (o p : List Dim) (r : RealShape) → length o ≡ length p → Begins false o r → Begins false (joinDims o p) r
+closed-first : (o p : List Dim) (r : RealShape) → length o ≡ length p → StartsWith false o r → StartsWith false (joinDims o p) r
 unfolding joinDims
 closed-first [] p r l h = h
 closed-first (d ∷ o) [] r l h = absurd (omega arith)
 closed-first (d ∷ o) (e ∷ p) [] l h = absurd h
 closed-first (d ∷ o) (e ∷ p) (n ∷ r) l h = (fit-join-first d e n (h .0), closed-first o p r (omega arith) (h .1))
 
-closed-second : (o p : List Dim) (r : RealShape) → length o ≡ length p → Begins false p r → Begins false (joinDims o p) r
+closed-second : (o p : List Dim) (r : RealShape) → length o ≡ length p → StartsWith false p r → StartsWith false (joinDims o p) r
 unfolding joinDims
 closed-second [] [] r l h = h
 closed-second [] (e ∷ p) r l h = absurd (omega arith)
@@ -102,13 +102,13 @@ join-holds side (shape o (some [])) (shape p (some (x ∷ d))) r q u v l h k = a
 
 -- ---- merge
 
-begins-open : (a : Bool) (o : List Dim) (r : RealShape) → Begins a o r → Begins true o r
+begins-open : (a : Bool) (o : List Dim) (r : RealShape) → StartsWith a o r → StartsWith true o r
 begins-open a [] r h = tt
 begins-open a (d ∷ o) [] h = absurd h
 begins-open a (d ∷ o) (n ∷ r) h = (h .0, begins-open a o r (h .1))
 
 -- a real shape that begins with both begins with what they are merged to; what may follow is the second's
-begins-merge : (a b : Bool) (o p : List Dim) (r : RealShape) → Begins a o r → Begins b p r → Begins b (mergeDims o p) r
+begins-merge : (a b : Bool) (o p : List Dim) (r : RealShape) → StartsWith a o r → StartsWith b p r → StartsWith b (mergeDims o p) r
 unfolding mergeDims
 begins-merge a b [] p r h k = k
 begins-merge a b (d ∷ o) [] [] h k = absurd h

@@ -5,12 +5,16 @@ use mathlib.Core.Path.{_≡_, sym, _∙_, ap}
 use lib.ListN.{length}
 use borrow.Author.Tests.{le-leb, lt-leb}
 use Rattle.model.specs.Refusals.{tooShort}
-use Rattle.format.specs.Outcome.{Outcome, accepted, refused, delivery, deliver}
+use Rattle.format.specs.Outcome.{Outcome, accepted, refused, Delivery, delivery, deliver}
 use Rattle.lent.specs.Over.{over, over-front}
 use Rattle.lent.specs.Written.{writtenOf, delivered}
 use Rattle.lent.specs.declared.Written.{Written}
 
 module _ (buffer : List ℕ) where
+  -- the same delivery under another name for its outcome
+  pub deliver-as : {d : Delivery} {o p : Outcome (List ℕ)} → d ≡ deliver o buffer → p ≡ o → d ≡ deliver p buffer
+  deliver-as e f = e ∙ ap (λ x. deliver x buffer) (sym f)
+
   pub deliver-refused : {o : Outcome (List ℕ)} {k p : ℕ} → o ≡ refused k p → deliver o buffer ≡ delivery (refused k p) buffer
   unfolding deliver
   deliver-refused e = rw e
@@ -24,10 +28,10 @@ module _ (buffer : List ℕ) where
     unfolding deliver
     deliver-short h = rw (e, lt-leb (length w) (length buffer) h)
 
-    pub deliver-fits : length w ≤ length buffer → deliver o buffer ≡ delivery (accepted (length w)) (over buffer 0 w)
+    pub deliver-whole : length w ≤ length buffer → deliver o buffer ≡ delivery (accepted (length w)) (over buffer 0 w)
     unfolding deliver
-    deliver-fits h = rw (e, le-leb (length w) (length buffer) h) (ap (delivery (accepted (length w))) (sym (over-front buffer w)))
+    deliver-whole h = rw (e, le-leb (length w) (length buffer) h) (ap (delivery (accepted (length w))) (sym (over-front buffer w)))
 
     -- a count and a buffer that are those of the bytes written
     pub deliver-wrote : {n : ℕ} {after : List ℕ} → length w ≤ length buffer → n ≡ length w → after ≡ over buffer 0 w → delivery (accepted n) after ≡ deliver o buffer
-    deliver-wrote {n} {after} h same laid = ap (λ k. delivery (accepted k) after) same ∙ ap (delivery (accepted (length w))) laid ∙ sym (deliver-fits h)
+    deliver-wrote {n} {after} h same laid = ap (λ k. delivery (accepted k) after) same ∙ ap (delivery (accepted (length w))) laid ∙ sym (deliver-whole h)

@@ -8,7 +8,7 @@ use Rattle.model.specs.Limits.{maxDepth}
 use Rattle.model.specs.Types.{any, Scalar, plain, boxAny}
 use Rattle.format.specs.Reader.{Bytes}
 use Rattle.format.specs.Records.{writeScalar}
-use Rattle.format.specs.Outcome.{Outcome, accepted, both, lone, Delivery, deliver}
+use Rattle.format.specs.Outcome.{Outcome, accepted, both, lone}
 use Rattle.format.specs.Views.{rest-is}
 use Rattle.rules.specs.Order.{codeOf}
 use Rattle.rules.specs.Scalars.{supersetCodes, compatibleCodes, supersetOf, compatibleScalars, compatibleWithBoxes, union}
@@ -20,10 +20,6 @@ use Rattle.known.specs.WholeLaws.{Begins, scalar-inside, first-good, second-goo
 use Rattle.scalar.specs.Calls.{unitedOf}
 use Rattle.scalar.specs.declared.United.{United}
 use Rattle.scalar.specs.declared.United.the-variants.{First, Second, BoxAny, Any}
-
--- what a call delivers, said of other bytes that are the same
-pub delivered-as : (buffer : List ℕ) {d : Delivery} {o p : Outcome (List ℕ)} → d ≡ deliver o buffer → p ≡ o → d ≡ deliver p buffer
-delivered-as buffer e f = e ∙ ap (λ x. deliver x buffer) (sym f)
 
 module _ (a b : List ℕ) (good : both nothings (lone a) (lone b) ≡ accepted 0) (small : Bytes a) (small′ : Bytes b) where
   pub first-type : (d : ℕ) × HasType a 0 d

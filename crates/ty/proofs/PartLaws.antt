@@ -10,7 +10,7 @@ use Rattle.model.specs.Limits.{maxDepth}
 use Rattle.model.specs.Types.{Shape, Kind, Scalar, plain, boxAny, boxAll, Ty, ty, scalarOf}
 use Rattle.format.specs.Reader.{Bytes}
 use Rattle.format.specs.Records.{writeScalar, writeTy}
-use Rattle.format.specs.Outcome.{Outcome, accepted, mapped, lone, Delivery, deliver}
+use Rattle.format.specs.Outcome.{accepted, mapped, lone}
 use Rattle.record.specs.Answers.{nothing}
 use Rattle.record.proofs.LoneLaws.{passed-accepted}
 use Rattle.rules.specs.Types.{beforeFields, boxes, writeBoxes}
@@ -20,10 +20,6 @@ use Rattle.known.specs.WholeLaws.{type-there, has-type, Begins, record-there, s
 use Rattle.known.specs.declared.View.{View}
 use Rattle.known.specs.declared.View.the-variants.{Plain, BoxAny, BoxAll, BoxDef}
 use Rattle.ty.specs.Parts.{LoneDef}
-
--- what a call delivers, said of other bytes that are the same
-pub delivers : (buffer : List ℕ) {d : Delivery} {o p : Outcome (List ℕ)} → d ≡ deliver o buffer → p ≡ o → d ≡ deliver p buffer
-delivers buffer e f = e ∙ ap (λ x. deliver x buffer) (sym f)
 
 -- ---- the type is known, and so is its scalar, which begins at `at`
 

@@ -1,7 +1,8 @@
 use native.Mathlib.Omega.{arith}
 use Rattle.format.specs.Reader.{Bytes}
 use Rattle.record.specs.Answers.{shapeFor}
-use Rattle.scalar.proofs.CallLaws.{delivered-as, first-type, second-type}
+use Rattle.lent.specs.Delivers.{deliver-as}
+use Rattle.scalar.proofs.CallLaws.{first-type, second-type}
 use Rattle.join.proofs.Laws.{joined}
 use borrow.Author.Needs.{needs}
 use Rattle.join.proofs.join_known.Statement.{statement}
@@ -49,7 +50,7 @@ returns c =
     let args = entry .args in
     let small : Bytes (args .a .now) = λ i. omega (arith, at-shared-slice-known .shared-slice-known .given i) in
     let small′ : Bytes (args .b .now) = λ i. omega (arith, at-shared-slice-known2 .shared-slice-known2 .given i) in
-    delivered-as (args .result .now) (at-write-union .write-union .ensures)
+    deliver-as (args .result .now) (at-write-union .write-union .ensures)
     (joined (args .a .now) (args .b .now) (entry .pre) small small′ (at-shape-at .shape-at .result) (at-shape-at2 .shape-at2 .result) (at-shape-at .shape-at .ensures)
     (at-shape-at2 .shape-at2 .ensures) (shapeFor (at-join .join .result)) (at-join .join .ensures))
 

@@ -3,7 +3,8 @@ use Rattle.format.specs.Reader.{Bytes}
 use Rattle.format.specs.Records.{code, writeScalar}
 use Rattle.record.specs.Answers.{shapeFor}
 use Rattle.known.specs.WholeLaws.{has-scalars}
-use Rattle.scalar.proofs.CallLaws.{delivered-as, first-type, second-type, first-within, second-within}
+use Rattle.lent.specs.Delivers.{deliver-as}
+use Rattle.scalar.proofs.CallLaws.{first-type, second-type, first-within, second-within}
 use Rattle.join.proofs.Laws.{union-first, union-second, union-box-any, union-any}
 use borrow.Author.Needs.{needs}
 use Rattle.join.proofs.write_union.Statement.{statement}
@@ -157,7 +158,7 @@ returns c =
     let args = entry .args in
     let small : Bytes (args .a .now) = λ i. omega (arith, at-shared-slice-known .shared-slice-known .given i) in
     let small′ : Bytes (args .b .now) = λ i. omega (arith, at-shared-slice-known2 .shared-slice-known2 .given i) in
-    delivered-as (args .result .now) (at-write-parts .write-parts .ensures)
+    deliver-as (args .result .now) (at-write-parts .write-parts .ensures)
     (union-first (args .a .now) (args .b .now) (entry .pre) small small′ (shapeFor (args .shape)) (at-scalar-at .scalar-at .ensures) (at-scalar-at2 .scalar-at2 .ensures)
     (at-unite .unite .result) (at-unite .unite .ensures) (at-enum-told .enum-told .given .1))
 
@@ -177,7 +178,7 @@ returns-2 c =
     let args = entry .args in
     let small : Bytes (args .a .now) = λ i. omega (arith, at-shared-slice-known .shared-slice-known .given i) in
     let small′ : Bytes (args .b .now) = λ i. omega (arith, at-shared-slice-known2 .shared-slice-known2 .given i) in
-    delivered-as (args .result .now) (at-write-parts2 .write-parts2 .ensures)
+    deliver-as (args .result .now) (at-write-parts2 .write-parts2 .ensures)
     (union-second (args .a .now) (args .b .now) (entry .pre) small small′ (shapeFor (args .shape)) (at-scalar-at .scalar-at .ensures) (at-scalar-at2 .scalar-at2 .ensures)
     (at-unite .unite .result) (at-unite .unite .ensures) (at-enum-told2 .enum-told2 .given .1))
 
@@ -198,7 +199,7 @@ returns-3 c =
     let args = entry .args in
     let small : Bytes (args .a .now) = λ i. omega (arith, at-shared-slice-known .shared-slice-known .given i) in
     let small′ : Bytes (args .b .now) = λ i. omega (arith, at-shared-slice-known2 .shared-slice-known2 .given i) in
-    delivered-as (args .result .now) (at-write-parts3 .write-parts3 .ensures)
+    deliver-as (args .result .now) (at-write-parts3 .write-parts3 .ensures)
     (union-box-any (args .a .now) (args .b .now) (entry .pre) small small′ (shapeFor (args .shape)) (at-scalar-at .scalar-at .ensures) (at-scalar-at2 .scalar-at2 .ensures)
     (at-unite .unite .result) (at-unite .unite .ensures) (at-enum-told3 .enum-told3 .given .1))
 
@@ -219,7 +220,7 @@ returns-4 c =
     let args = entry .args in
     let small : Bytes (args .a .now) = λ i. omega (arith, at-shared-slice-known .shared-slice-known .given i) in
     let small′ : Bytes (args .b .now) = λ i. omega (arith, at-shared-slice-known2 .shared-slice-known2 .given i) in
-    delivered-as (args .result .now) (at-write-parts4 .write-parts4 .ensures)
+    deliver-as (args .result .now) (at-write-parts4 .write-parts4 .ensures)
     (union-any (args .a .now) (args .b .now) (entry .pre) small small′ (shapeFor (args .shape)) (at-scalar-at .scalar-at .ensures) (at-scalar-at2 .scalar-at2 .ensures)
     (at-unite .unite .result) (at-unite .unite .ensures) (at-enum-told4 .enum-told4 .given .1))
 

@@ -1,7 +1,7 @@
 use mathlib.Core.Path.{refl, sym, ap, _∙_}
 use lib.ListN.{length}
 use Rattle.format.specs.Outcome.{accepted, delivery}
-use Rattle.lent.specs.Delivers.{deliver-short, deliver-fits}
+use Rattle.lent.specs.Delivers.{deliver-short, deliver-whole}
 use borrow.Author.Needs.{needs}
 use Rattle.lent.proofs.hand_over.Statement.{statement}
 use Rattle.lent.proofs.hand_over.Tie as tie
@@ -23,7 +23,7 @@ returns-2 c =
     let entry = c .before .before .before .before .before .before .before in
     let at-if1 = c .before .before .before .before in
     let at-lay = c .before .before in
-    ap (delivery (accepted (length (entry .args .src .now)))) (at-lay .lay .ensures) ∙ sym (deliver-fits _ refl (at-if1 .if1 .left))
+    ap (delivery (accepted (length (entry .args .src .now)))) (at-lay .lay .ensures) ∙ sym (deliver-whole _ refl (at-if1 .if1 .left))
 
 pub hand-over-spec : {M : Type 1} → statement M
 hand-over-spec = tie.close (tie.spec returns lay-requires same-length returns-2)

@@ -5,11 +5,11 @@ use Rattle.format.specs.Reader.{Bytes}
 use Rattle.format.specs.Records.{writeScalar}
 use Rattle.format.specs.Outcome.{accepted, lone}
 use Rattle.rules.specs.Scalars.{union}
-use Rattle.lent.specs.Delivers.{deliver-handed}
+use Rattle.lent.specs.Delivers.{deliver-as, deliver-handed}
 use Rattle.record.specs.Answers.{loneOf}
 use Rattle.record.proofs.LoneLaws.{both-refused, both-read}
 use Rattle.known.specs.WholeLaws.{has-scalars}
-use Rattle.scalar.proofs.CallLaws.{delivered-as, first-type, second-type, first-within, second-within, union-first, union-second, union-box-any, union-any}
+use Rattle.scalar.proofs.CallLaws.{first-type, second-type, first-within, second-within, union-first, union-second, union-box-any, union-any}
 use borrow.Author.Needs.{needs}
 use Rattle.scalar.proofs.unions.union.Statement.{statement}
 use Rattle.scalar.proofs.unions.union.Tie as tie
@@ -203,7 +203,7 @@ returns-2 c =
     let small′ : Bytes (args .b .now) = λ i. omega (arith, at-shared-slice-known2 .shared-slice-known2 .given i) in
     let read = both-read (lone (args .a .now)) (lone (args .b .now)) (at-read-two .read-two .result) (at-read-two .read-two .ensures) (at-whichever .whichever .result) (at-whichever .whichever .ensures) in
     let good = sym read ∙ ap loneOf (at-enum-told .enum-told .given .1) in
-    delivered-as (args .result .now) (at-hand-over .hand-over .ensures)
+    deliver-as (args .result .now) (at-hand-over .hand-over .ensures)
     (union-first (args .a .now) (args .b .now) good small small′ (at-scalar-at .scalar-at .ensures) (at-scalar-at2 .scalar-at2 .ensures) (at-unite .unite .result) (at-unite .unite .ensures) (at-enum-told3 .enum-told3 .given .1))
 
 same-length-2 : tie.Need-same-length-2
@@ -227,7 +227,7 @@ returns-3 c =
     let small′ : Bytes (args .b .now) = λ i. omega (arith, at-shared-slice-known2 .shared-slice-known2 .given i) in
     let read = both-read (lone (args .a .now)) (lone (args .b .now)) (at-read-two .read-two .result) (at-read-two .read-two .ensures) (at-whichever .whichever .result) (at-whichever .whichever .ensures) in
     let good = sym read ∙ ap loneOf (at-enum-told .enum-told .given .1) in
-    delivered-as (args .result .now) (at-hand-over2 .hand-over2 .ensures)
+    deliver-as (args .result .now) (at-hand-over2 .hand-over2 .ensures)
     (union-second (args .a .now) (args .b .now) good small small′ (at-scalar-at .scalar-at .ensures) (at-scalar-at2 .scalar-at2 .ensures) (at-unite .unite .result) (at-unite .unite .ensures) (at-enum-told4 .enum-told4 .given .1))
 
 same-length-3 : tie.Need-same-length-3
@@ -251,7 +251,7 @@ returns-4 c =
     let small′ : Bytes (args .b .now) = λ i. omega (arith, at-shared-slice-known2 .shared-slice-known2 .given i) in
     let read = both-read (lone (args .a .now)) (lone (args .b .now)) (at-read-two .read-two .result) (at-read-two .read-two .ensures) (at-whichever .whichever .result) (at-whichever .whichever .ensures) in
     let good = sym read ∙ ap loneOf (at-enum-told .enum-told .given .1) in
-    delivered-as (args .result .now) (at-hand-box-any .hand-box-any .ensures)
+    deliver-as (args .result .now) (at-hand-box-any .hand-box-any .ensures)
     (union-box-any (args .a .now) (args .b .now) good small small′ (at-scalar-at .scalar-at .ensures) (at-scalar-at2 .scalar-at2 .ensures) (at-unite .unite .result) (at-unite .unite .ensures) (at-enum-told5 .enum-told5 .given .1))
 
 same-length-4 : tie.Need-same-length-4
@@ -275,7 +275,7 @@ returns-5 c =
     let small′ : Bytes (args .b .now) = λ i. omega (arith, at-shared-slice-known2 .shared-slice-known2 .given i) in
     let read = both-read (lone (args .a .now)) (lone (args .b .now)) (at-read-two .read-two .result) (at-read-two .read-two .ensures) (at-whichever .whichever .result) (at-whichever .whichever .ensures) in
     let good = sym read ∙ ap loneOf (at-enum-told .enum-told .given .1) in
-    delivered-as (args .result .now) (at-hand-any .hand-any .ensures)
+    deliver-as (args .result .now) (at-hand-any .hand-any .ensures)
     (union-any (args .a .now) (args .b .now) good small small′ (at-scalar-at .scalar-at .ensures) (at-scalar-at2 .scalar-at2 .ensures) (at-unite .unite .result) (at-unite .unite .ensures) (at-enum-told6 .enum-told6 .given .1))
 
 pub union-spec : {M : Type 1} → statement M

@@ -5,10 +5,10 @@ use Rattle.format.specs.Records.{writeTy}
 use Rattle.format.specs.Outcome.{lone}
 use Rattle.record.specs.Answers.{loneOf}
 use Rattle.record.proofs.LoneLaws.{passed-refused, mapped-refused}
-use Rattle.lent.specs.Delivers.{deliver-handed}
+use Rattle.lent.specs.Delivers.{deliver-as, deliver-handed}
 use Rattle.rules.specs.Types.{unboxed}
 use Rattle.known.specs.WholeLaws.{whole-shape}
-use Rattle.ty.proofs.PartLaws.{delivers, type-known}
+use Rattle.ty.proofs.PartLaws.{type-known}
 use Rattle.ty.proofs.ContentLaws.{unboxed-in, unboxed-out}
 use borrow.Author.Needs.{needs}
 use Rattle.ty.proofs.content.unboxed.Statement.{statement}
@@ -72,7 +72,7 @@ returns-2 c =
     let small : Bytes (args .ty .now) = λ i. omega (arith, at-shared-slice-known .shared-slice-known .given i) in
     let good = sym (at-read-lone .read-lone .ensures) ∙ ap loneOf (at-enum-told .enum-told .given .1) in
     let shaped = whole-shape (args .ty .now) small good (at-shape-at .shape-at .result) (at-shape-at .shape-at .ensures) in
-    delivers (args .result .now) (at-write-content .write-content .ensures) (unboxed-in (args .ty .now) shaped (sym (at-is-scalar .is-scalar .ensures) ∙ at-if1 .if1 .taken))
+    deliver-as (args .result .now) (at-write-content .write-content .ensures) (unboxed-in (args .ty .now) shaped (sym (at-is-scalar .is-scalar .ensures) ∙ at-if1 .if1 .taken))
 
 hand-over-requires : tie.Need-hand-over-requires
 hand-over-requires c κs = search needs
@@ -94,7 +94,7 @@ returns-3 c =
     let small : Bytes (args .ty .now) = λ i. omega (arith, at-shared-slice-known .shared-slice-known .given i) in
     let good = sym (at-read-lone .read-lone .ensures) ∙ ap loneOf (at-enum-told .enum-told .given .1) in
     let shaped = whole-shape (args .ty .now) small good (at-shape-at .shape-at .result) (at-shape-at .shape-at .ensures) in
-    delivers (args .result .now) (at-hand-over .hand-over .ensures) (unboxed-out (args .ty .now) shaped small (sym (at-is-scalar .is-scalar .ensures) ∙ at-if1 .if1 .left))
+    deliver-as (args .result .now) (at-hand-over .hand-over .ensures) (unboxed-out (args .ty .now) shaped small (sym (at-is-scalar .is-scalar .ensures) ∙ at-if1 .if1 .left))
 
 pub unboxed-spec : {M : Type 1} → statement M
 unboxed-spec =

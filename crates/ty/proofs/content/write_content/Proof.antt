@@ -3,7 +3,8 @@ use native.Mathlib.Omega.{arith}
 use Rattle.format.specs.Reader.{Bytes}
 use Rattle.format.specs.Outcome.{accepted}
 use Rattle.ty.specs.Parts.{partOf}
-use Rattle.ty.proofs.PartLaws.{delivers, type-known, scalar-known, inside, the-all, the-def}
+use Rattle.lent.specs.Delivers.{deliver-as}
+use Rattle.ty.proofs.PartLaws.{type-known, scalar-known, inside, the-all, the-def}
 use Rattle.ty.proofs.ContentLaws.{field-there, content-all, content-plain, content-any, content-first, content-none}
 use borrow.Author.Needs.{needs}
 use Rattle.ty.proofs.content.write_content.Statement.{statement}
@@ -151,7 +152,7 @@ returns c =
     let args = entry .args in
     let small : Bytes (args .ty .now) = λ i. omega (arith, at-shared-slice-known .shared-slice-known .given i) in
     let held = inside (args .ty .now) small (entry .pre) (at-scalar-at .scalar-at .ensures) (at-look .look .ensures) (at-enum-told .enum-told .given .1) in
-    delivers (args .result .now) (at-hand-over .hand-over .ensures) (content-plain (args .ty .now) small held)
+    deliver-as (args .result .now) (at-hand-over .hand-over .ensures) (content-plain (args .ty .now) small held)
 
 same-length-2 : tie.Need-same-length-2
 same-length-2 c = search needs
@@ -167,7 +168,7 @@ returns-2 c =
     let args = entry .args in
     let small : Bytes (args .ty .now) = λ i. omega (arith, at-shared-slice-known .shared-slice-known .given i) in
     let held = inside (args .ty .now) small (entry .pre) (at-scalar-at .scalar-at .ensures) (at-look .look .ensures) (at-enum-told2 .enum-told2 .given .1) in
-    delivers (args .result .now) (at-hand-over2 .hand-over2 .ensures) (content-any (args .ty .now) small held)
+    deliver-as (args .result .now) (at-hand-over2 .hand-over2 .ensures) (content-any (args .ty .now) small held)
 
 same-length-3 : tie.Need-same-length-3
 same-length-3 c = search needs
@@ -183,7 +184,7 @@ returns-3 c =
     let args = entry .args in
     let small : Bytes (args .ty .now) = λ i. omega (arith, at-shared-slice-known .shared-slice-known .given i) in
     let held = inside (args .ty .now) small (entry .pre) (at-scalar-at .scalar-at .ensures) (at-look .look .ensures) (at-held .held .given .1) in
-    delivers (args .result .now) (at-hand-over3 .hand-over3 .ensures) (content-all (args .ty .now) (the-all held))
+    deliver-as (args .result .now) (at-hand-over3 .hand-over3 .ensures) (content-all (args .ty .now) (the-all held))
 
 same-length-4 : tie.Need-same-length-4
 same-length-4 c = search needs
@@ -203,7 +204,7 @@ returns-4 c =
     let held = inside (args .ty .now) small (entry .pre) (at-scalar-at .scalar-at .ensures) (at-look .look .ensures) (at-held2 .held2 .given .1) in
     let def = the-def held in
     let found = at-find-field .find-field .ensures ∙ ap (λ p. accepted (partOf p)) (at-part .part .given .1) in
-    delivers (args .result .now) (at-hand-over4 .hand-over4 .ensures) (content-first (args .ty .now) small def found)
+    deliver-as (args .result .now) (at-hand-over4 .hand-over4 .ensures) (content-first (args .ty .now) small def found)
 
 same-length-5 : tie.Need-same-length-5
 same-length-5 c = search needs
@@ -222,7 +223,7 @@ returns-5 c =
     let small : Bytes (args .ty .now) = λ i. omega (arith, at-shared-slice-known .shared-slice-known .given i) in
     let held = inside (args .ty .now) small (entry .pre) (at-scalar-at .scalar-at .ensures) (at-look .look .ensures) (at-held2 .held2 .given .1) in
     let lacks = at-find-field .find-field .ensures ∙ ap (λ p. accepted (partOf p)) (at-enum-told3 .enum-told3 .given .1) in
-    delivers (args .result .now) (at-hand-over5 .hand-over5 .ensures) (content-none (args .ty .now) small (the-def held) lacks)
+    deliver-as (args .result .now) (at-hand-over5 .hand-over5 .ensures) (content-none (args .ty .now) small (the-def held) lacks)
 
 pub write-content-spec : {M : Type 1} → statement M
 write-content-spec =

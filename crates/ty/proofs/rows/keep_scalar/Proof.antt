@@ -2,7 +2,8 @@ use native.Mathlib.Omega.{arith}
 use Rattle.format.specs.Reader.{Bytes}
 use Rattle.record.specs.Answers.{shapeFor}
 use Rattle.known.specs.WholeLaws.{scalar-inside}
-use Rattle.ty.proofs.PartLaws.{delivers, type-known}
+use Rattle.lent.specs.Delivers.{deliver-as}
+use Rattle.ty.proofs.PartLaws.{type-known}
 use Rattle.ty.proofs.RowLaws.{keep-bytes}
 use borrow.Author.Needs.{needs}
 use Rattle.ty.proofs.rows.keep_scalar.Statement.{statement}
@@ -53,7 +54,7 @@ returns c =
     let at-write-parts = c .before .before in
     let args = entry .args in
     let small : Bytes (args .ty .now) = λ i. omega (arith, at-shared-slice-known .shared-slice-known .given i) in
-    delivers (args .result .now) (at-write-parts .write-parts .ensures) (keep-bytes (args .ty .now) small (entry .pre) (at-scalar-at .scalar-at .ensures) (shapeFor (args .row)))
+    deliver-as (args .result .now) (at-write-parts .write-parts .ensures) (keep-bytes (args .ty .now) small (entry .pre) (at-scalar-at .scalar-at .ensures) (shapeFor (args .row)))
 
 pub keep-scalar-spec : {M : Type 1} → statement M
 keep-scalar-spec =

@@ -2,7 +2,8 @@ use mathlib.Core.Path.{sym, _∙_}
 use native.Mathlib.Omega.{arith}
 use Rattle.format.specs.Reader.{Bytes}
 use Rattle.known.specs.WholeLaws.{whole-shape}
-use Rattle.ty.proofs.PartLaws.{delivers, type-known, scalar-known, inside, the-def}
+use Rattle.lent.specs.Delivers.{deliver-as}
+use Rattle.ty.proofs.PartLaws.{type-known, scalar-known, inside, the-def}
 use Rattle.ty.proofs.RowLaws.{row-ranked, row-kept, row-taken}
 use borrow.Author.Needs.{needs}
 use Rattle.ty.proofs.rows.row_known.Statement.{statement}
@@ -41,7 +42,7 @@ returns c =
     let args = entry .args in
     let small : Bytes (args .ty .now) = λ i. omega (arith, at-shared-slice-known .shared-slice-known .given i) in
     let shaped = whole-shape (args .ty .now) small (entry .pre) (at-shape-at .shape-at .result) (at-shape-at .shape-at .ensures) in
-    delivers (args .result .now) (at-keep-scalar .keep-scalar .ensures)
+    deliver-as (args .result .now) (at-keep-scalar .keep-scalar .ensures)
     (row-ranked (args .ty .now) shaped (at-into-row .into-row .ensures) (args .which) (λ e. at-if1 .if1 .taken (at-rank .rank .ensures .0 ∙ e)))
 
 scalar-at-requires : tie.Need-scalar-at-requires
@@ -110,7 +111,7 @@ returns-2 c =
     let small : Bytes (args .ty .now) = λ i. omega (arith, at-shared-slice-known .shared-slice-known .given i) in
     let held = inside (args .ty .now) small (entry .pre) (at-scalar-at .scalar-at .ensures) (at-look .look .ensures) (at-enum-told .enum-told .given .1) in
     let shaped = whole-shape (args .ty .now) small (entry .pre) (at-shape-at .shape-at .result) (at-shape-at .shape-at .ensures) in
-    delivers (args .result .now) (at-keep-scalar2 .keep-scalar2 .ensures) (row-kept (args .ty .now) shaped (at-into-row .into-row .ensures) (args .which) held tt)
+    deliver-as (args .result .now) (at-keep-scalar2 .keep-scalar2 .ensures) (row-kept (args .ty .now) shaped (at-into-row .into-row .ensures) (args .which) held tt)
 
 same-length-3 : tie.Need-same-length-3
 same-length-3 c = search needs
@@ -129,7 +130,7 @@ returns-3 c =
     let small : Bytes (args .ty .now) = λ i. omega (arith, at-shared-slice-known .shared-slice-known .given i) in
     let held = inside (args .ty .now) small (entry .pre) (at-scalar-at .scalar-at .ensures) (at-look .look .ensures) (at-enum-told2 .enum-told2 .given .1) in
     let shaped = whole-shape (args .ty .now) small (entry .pre) (at-shape-at .shape-at .result) (at-shape-at .shape-at .ensures) in
-    delivers (args .result .now) (at-keep-scalar3 .keep-scalar3 .ensures) (row-kept (args .ty .now) shaped (at-into-row .into-row .ensures) (args .which) held tt)
+    deliver-as (args .result .now) (at-keep-scalar3 .keep-scalar3 .ensures) (row-kept (args .ty .now) shaped (at-into-row .into-row .ensures) (args .which) held tt)
 
 same-length-4 : tie.Need-same-length-4
 same-length-4 c = search needs
@@ -148,7 +149,7 @@ returns-4 c =
     let small : Bytes (args .ty .now) = λ i. omega (arith, at-shared-slice-known .shared-slice-known .given i) in
     let held = inside (args .ty .now) small (entry .pre) (at-scalar-at .scalar-at .ensures) (at-look .look .ensures) (at-enum-told3 .enum-told3 .given .1) in
     let shaped = whole-shape (args .ty .now) small (entry .pre) (at-shape-at .shape-at .result) (at-shape-at .shape-at .ensures) in
-    delivers (args .result .now) (at-keep-scalar4 .keep-scalar4 .ensures) (row-kept (args .ty .now) shaped (at-into-row .into-row .ensures) (args .which) held tt)
+    deliver-as (args .result .now) (at-keep-scalar4 .keep-scalar4 .ensures) (row-kept (args .ty .now) shaped (at-into-row .into-row .ensures) (args .which) held tt)
 
 same-length-5 : tie.Need-same-length-5
 same-length-5 c = search needs
@@ -169,7 +170,7 @@ returns-5 c =
     let small : Bytes (args .ty .now) = λ i. omega (arith, at-shared-slice-known .shared-slice-known .given i) in
     let held = inside (args .ty .now) small (entry .pre) (at-scalar-at .scalar-at .ensures) (at-look .look .ensures) (at-held .held .given .1) in
     let shaped = whole-shape (args .ty .now) small (entry .pre) (at-shape-at .shape-at .result) (at-shape-at .shape-at .ensures) in
-    delivers (args .result .now) (at-take-field .take-field .ensures)
+    deliver-as (args .result .now) (at-take-field .take-field .ensures)
     (row-taken (args .ty .now) shaped (at-into-row .into-row .ensures) (args .which) (the-def held) (sym (at-rank .rank .ensures .0) ∙ at-if1 .if1 .left))
 
 pub row-known-spec : {M : Type 1} → statement M

@@ -4,7 +4,7 @@ use Rattle.format.specs.Reader.{Bytes}
 use Rattle.format.specs.Outcome.{accepted}
 use Rattle.record.specs.Answers.{shapeFor}
 use Rattle.ty.specs.Parts.{partOf}
-use Rattle.ty.proofs.PartLaws.{delivers}
+use Rattle.lent.specs.Delivers.{deliver-as}
 use Rattle.ty.proofs.ContentLaws.{field-there}
 use Rattle.ty.proofs.RowLaws.{take-found, take-none}
 use borrow.Author.Needs.{needs}
@@ -83,7 +83,7 @@ returns c =
     let args = entry .args in
     let small : Bytes (args .ty .now) = λ i. omega (arith, at-shared-slice-known .shared-slice-known .given i) in
     let found = at-find-field .find-field .ensures ∙ ap (λ p. accepted (partOf p)) (at-part .part .given .1) in
-    delivers (args .result .now) (at-write-parts .write-parts .ensures)
+    deliver-as (args .result .now) (at-write-parts .write-parts .ensures)
     (take-found (args .ty .now) small (entry .pre) (shapeFor (args .row)) (args .which) (at-index-of .index-of .ensures) found)
 
 same-length-2 : tie.Need-same-length-2
@@ -100,7 +100,7 @@ returns-2 c =
     let args = entry .args in
     let small : Bytes (args .ty .now) = λ i. omega (arith, at-shared-slice-known .shared-slice-known .given i) in
     let lacks = at-find-field .find-field .ensures ∙ ap (λ p. accepted (partOf p)) (at-enum-told .enum-told .given .1) in
-    delivers (args .result .now) (at-write-parts2 .write-parts2 .ensures)
+    deliver-as (args .result .now) (at-write-parts2 .write-parts2 .ensures)
     (take-none (args .ty .now) small (entry .pre) (shapeFor (args .row)) (args .which) (at-index-of .index-of .ensures) lacks)
 
 pub take-field-spec : {M : Type 1} → statement M

@@ -3,7 +3,7 @@ use crate::words::nth;
 use crate::words::part;
 use limits::UNKNOWN;
 use streams::write_out;
-use text::Placed;
+use text::Rendered;
 use text::put_bytes;
 use text::put_decimal;
 use text::put_hex;
@@ -13,7 +13,7 @@ use velgrodis::VALUE;
 
 // What a line comes to. Bytes, and those of a stretch, a type, a text or a whole line, are the first of the result; a size is all ones for
 // unknown; a fault is one of `fault`.
-pub enum Answer {
+pub enum Reply {
     Bytes(usize),
     Stretch { start: usize, length: usize },
     Number(u64),
@@ -29,50 +29,50 @@ pub enum Answer {
 }
 
 // What a call wrote to its result.
-pub(crate) fn delivered(a: Crossed) -> Answer {
+pub(crate) fn delivered(a: Crossed) -> Reply {
     if a.kind == VALUE {
-        return Answer::Bytes(a.first as usize);
+        return Reply::Bytes(a.first as usize);
     }
     without_value(a)
 }
 
 // A number: a count, or 1 and 0 for yes and no.
-pub(crate) fn counted(a: Crossed) -> Answer {
+pub(crate) fn counted(a: Crossed) -> Reply {
     if a.kind == VALUE {
-        return Answer::Number(a.first);
+        return Reply::Number(a.first);
     }
     without_value(a)
 }
 
-pub(crate) fn sized(a: Crossed) -> Answer {
+pub(crate) fn sized(a: Crossed) -> Reply {
     if a.kind == VALUE {
-        return Answer::Size(a.first);
+        return Reply::Size(a.first);
     }
     without_value(a)
 }
 
 // An order, which is 0 for less, 1 for the same and 2 for more.
-pub(crate) fn compared(a: Crossed) -> Answer {
+pub(crate) fn compared(a: Crossed) -> Reply {
     if a.kind == VALUE {
         return sign(a.first);
     }
     without_value(a)
 }
 
-fn sign(order: u64) -> Answer {
+fn sign(order: u64) -> Reply {
     match order {
-        0 => Answer::Less,
-        1 => Answer::Number(0),
-        _ => Answer::Number(1),
+        0 => Reply::Less,
+        1 => Reply::Number(0),
+        _ => Reply::Number(1),
     }
 }
 
 // The refusal, or none.
-pub(crate) fn without_value(a: Crossed) -> Answer {
+pub(crate) fn without_value(a: Crossed) -> Reply {
     if a.kind == NOTHING {
-        return Answer::Nothing;
+        return Reply::Nothing;
     }
-    Answer::Refused {
+    Reply::Refused {
         number: a.number,
         place: a.place,
     }
@@ -80,20 +80,20 @@ pub(crate) fn without_value(a: Crossed) -> Answer {
 
 // One line, after the answers that stand in `out` up to `at`. Answers where it ends. Apart from what stands in the result
 // a line takes less than 64 bytes.
-pub(crate) fn say(answer: Answer, result: &[u8], out: &mut [u8], at: usize) -> usize {
+pub(crate) fn say(answer: Reply, result: &[u8], out: &mut [u8], at: usize) -> usize {
     match answer {
-        Answer::Bytes(n) => say_bytes(part(result, 0, n), out, at),
-        Answer::Stretch { start, length } => say_stretch(start, part(result, 0, length), out, at),
-        Answer::Number(n) => say_number(n, out, at),
-        Answer::Size(n) => say_size(n, out, at),
-        Answer::Bits(bits) => say_bits(bits, out, at),
-        Answer::Typed(n) => say_typed(part(result, 0, n), out, at),
-        Answer::Text(n) => say_text(part(result, 0, n), out, at),
-        Answer::Line(n) => say_line(part(result, 0, n), out, at),
-        Answer::Less => put(b"ok -1\n", out, at),
-        Answer::Nothing => put(b"ok none\n", out, at),
-        Answer::Refused { number, place } => say_refused(number, place, out, at),
-        Answer::Bad(fault) => say_bad(fault, out, at),
+        Reply::Bytes(n) => say_bytes(part(result, 0, n), out, at),
+        Reply::Stretch { start, length } => say_stretch(start, part(result, 0, length), out, at),
+        Reply::Number(n) => say_number(n, out, at),
+        Reply::Size(n) => say_size(n, out, at),
+        Reply::Bits(bits) => say_bits(bits, out, at),
+        Reply::Typed(n) => say_typed(part(result, 0, n), out, at),
+        Reply::Text(n) => say_text(part(result, 0, n), out, at),
+        Reply::Line(n) => say_line(part(result, 0, n), out, at),
+        Reply::Less => put(b"ok -1\n", out, at),
+        Reply::Nothing => put(b"ok none\n", out, at),
+        Reply::Refused { number, place } => say_refused(number, place, out, at),
+        Reply::Bad(fault) => say_bad(fault, out, at),
     }
 }
 
@@ -179,9 +179,9 @@ pub(crate) fn put(bytes: &[u8], out: &mut [u8], at: usize) -> usize {
     after(put_bytes(bytes, out, at))
 }
 
-pub(crate) fn after(placed: Placed) -> usize {
+pub(crate) fn after(placed: Rendered) -> usize {
     match placed {
-        Placed::To(next) => next,
-        Placed::NoRoom => 0,
+        Rendered::To(next) => next,
+        Rendered::NoRoom => 0,
     }
 }

@@ -1,10 +1,10 @@
 // NAME N HEX: requests with a number on one type.
-use crate::answers::Answer;
+use crate::answers::Reply;
 use crate::answers::delivered;
 use crate::answers::without_value;
 use crate::arguments::hex;
 use crate::fault;
-use crate::words::Found;
+use crate::words::WordPlace;
 use crate::words::count;
 use crate::words::find;
 use crate::words::nth;
@@ -18,41 +18,41 @@ use velgrodis::vg_field;
 use velgrodis::vg_nth_row;
 
 // In the order of `call`'s arms.
-pub(crate) fn number(name: &[u8]) -> Found {
+pub(crate) fn number(name: &[u8]) -> WordPlace {
     find(b"nth_row field", name)
 }
 
-pub(crate) fn answered(k: usize, line: &[u8], input: &mut [u8], result: &mut [u8]) -> Answer {
+pub(crate) fn answered(k: usize, line: &[u8], input: &mut [u8], result: &mut [u8]) -> Reply {
     if count(line) != 3 {
-        return Answer::Bad(fault::WORDS);
+        return Reply::Bad(fault::WORDS);
     }
     let parsed = parse_decimal(nth(line, 1));
     let Number::Value(n) = parsed else {
-        return Answer::Bad(fault::NUMBER);
+        return Reply::Bad(fault::NUMBER);
     };
     let decoded = hex(nth(line, 2), &mut *input, 0);
     let Decoded::To(end) = decoded else {
-        return Answer::Bad(fault::HEX);
+        return Reply::Bad(fault::HEX);
     };
     call(k, n, part(&*input, 0, end), result)
 }
 
-fn call(k: usize, n: u64, a: &[u8], result: &mut [u8]) -> Answer {
+fn call(k: usize, n: u64, a: &[u8], result: &mut [u8]) -> Reply {
     match k {
         0 => delivered(vg_nth_row(a, n, result)),
         1 => field(n, a, result),
-        _ => Answer::Bad(fault::REQUEST),
+        _ => Reply::Bad(fault::REQUEST),
     }
 }
 
 // A field is answered by its place and its bytes.
-fn field(n: u64, a: &[u8], result: &mut [u8]) -> Answer {
+fn field(n: u64, a: &[u8], result: &mut [u8]) -> Reply {
     let answer = vg_field(a, n);
     if answer.kind == VALUE {
         let start = answer.first as usize;
         let length = answer.second as usize;
         hand_over(part(a, start, after(start, length)), result);
-        return Answer::Stretch { start, length };
+        return Reply::Stretch { start, length };
     }
     without_value(answer)
 }

@@ -16,29 +16,29 @@ const INFINITY_BITS: u64 = 9218868437227405312;
 const NAN_BITS: u64 = 9221120237041090560;
 
 // How many numbers were read.
-pub enum Listed {
+pub enum NumbersRead {
     Count(usize),
     Other,
 }
 
 // The words of a line from a place on, as numbers.
-pub(crate) fn parse_numbers(line: &[u8], from: usize, list: &mut [f64]) -> Listed {
+pub(crate) fn parse_numbers(line: &[u8], from: usize, list: &mut [f64]) -> NumbersRead {
     let mut n = 0usize;
     let mut at = from;
     while at < line.len() {
         let end = find_space(line, at);
         let parsed = parse_bits(part(line, at, end));
         let Number::Value(bits) = parsed else {
-            return Listed::Other;
+            return NumbersRead::Other;
         };
         if list.len() <= n {
-            return Listed::Other;
+            return NumbersRead::Other;
         }
         list[n] = of_bits(bits);
         n += 1;
         at = end + 1;
     }
-    Listed::Count(n)
+    NumbersRead::Count(n)
 }
 
 // The first n numbers, where there are so many.

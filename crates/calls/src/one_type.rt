@@ -1,12 +1,12 @@
 // NAME HEX: requests on one type.
-use crate::answers::Answer;
+use crate::answers::Reply;
 use crate::answers::counted;
 use crate::answers::delivered;
 use crate::answers::sized;
 use crate::answers::without_value;
 use crate::arguments::hex;
 use crate::fault;
-use crate::words::Found;
+use crate::words::WordPlace;
 use crate::words::count;
 use crate::words::find;
 use crate::words::nth;
@@ -28,25 +28,25 @@ use velgrodis::vg_unboxed;
 use velgrodis::vg_unrefine;
 
 // In the order of `call`'s arms.
-pub(crate) fn number(name: &[u8]) -> Found {
+pub(crate) fn number(name: &[u8]) -> WordPlace {
     find(
         b"read row_shape shape_is_any shape_is_scalar row_count rank row first_row last_row unboxed as_boxes unrefine",
         name,
     )
 }
 
-pub(crate) fn answered(k: usize, line: &[u8], input: &mut [u8], result: &mut [u8]) -> Answer {
+pub(crate) fn answered(k: usize, line: &[u8], input: &mut [u8], result: &mut [u8]) -> Reply {
     if count(line) != 2 {
-        return Answer::Bad(fault::WORDS);
+        return Reply::Bad(fault::WORDS);
     }
     let decoded = hex(nth(line, 1), &mut *input, 0);
     let Decoded::To(end) = decoded else {
-        return Answer::Bad(fault::HEX);
+        return Reply::Bad(fault::HEX);
     };
     call(k, part(&*input, 0, end), result)
 }
 
-fn call(k: usize, a: &[u8], result: &mut [u8]) -> Answer {
+fn call(k: usize, a: &[u8], result: &mut [u8]) -> Reply {
     match k {
         0 => read(a, result),
         1 => delivered(vg_row_shape(a, result)),
@@ -60,16 +60,16 @@ fn call(k: usize, a: &[u8], result: &mut [u8]) -> Answer {
         9 => delivered(vg_unboxed(a, result)),
         10 => delivered(vg_as_boxes(a, result)),
         11 => delivered(vg_unrefine(a, result)),
-        _ => Answer::Bad(fault::REQUEST),
+        _ => Reply::Bad(fault::REQUEST),
     }
 }
 
 // A type that is read is answered as it stands.
-fn read(a: &[u8], result: &mut [u8]) -> Answer {
+fn read(a: &[u8], result: &mut [u8]) -> Reply {
     let answer = vg_read(a);
     if answer.kind == VALUE {
         hand_over(a, result);
-        return Answer::Bytes(a.len());
+        return Reply::Bytes(a.len());
     }
     without_value(answer)
 }

@@ -1,6 +1,6 @@
 // The requests by the arguments that they take. A request's number is its place among those that take the same.
 use crate::MAX_LINE;
-use crate::answers::Answer;
+use crate::answers::Reply;
 use crate::fault;
 use crate::number_list;
 use crate::numbered;
@@ -12,48 +12,48 @@ use crate::sided;
 use crate::sizes;
 use crate::two_types;
 use crate::values;
-use crate::words::Found;
+use crate::words::WordPlace;
 use crate::words::nth;
 
-pub(crate) fn answered(line: &[u8], input: &mut [u8], result: &mut [u8]) -> Answer {
+pub(crate) fn answered(line: &[u8], input: &mut [u8], result: &mut [u8]) -> Reply {
     if MAX_LINE < line.len() {
-        return Answer::Bad(fault::LONG);
+        return Reply::Bad(fault::LONG);
     }
     let name = nth(line, 0);
-    if let Found::At(k) = one_type::number(name) {
+    if let WordPlace::At(k) = one_type::number(name) {
         return one_type::answered(k, line, input, result);
     }
-    if let Found::At(k) = two_types::number(name) {
+    if let WordPlace::At(k) = two_types::number(name) {
         return two_types::answered(k, line, input, result);
     }
-    if let Found::At(_) = pervading::number(name) {
+    if let WordPlace::At(_) = pervading::number(name) {
         return pervading::answered(line, input, result);
     }
-    if let Found::At(k) = sided::number(name) {
+    if let WordPlace::At(k) = sided::number(name) {
         return sided::answered(k, line, input, result);
     }
-    if let Found::At(k) = numbered::number(name) {
+    if let WordPlace::At(k) = numbered::number(name) {
         return numbered::answered(k, line, input, result);
     }
     answered_otherwise(name, line, input, result)
 }
 
 // Requests that are not on types alone.
-fn answered_otherwise(name: &[u8], line: &[u8], input: &mut [u8], result: &mut [u8]) -> Answer {
-    if let Found::At(k) = values::number(name) {
+fn answered_otherwise(name: &[u8], line: &[u8], input: &mut [u8], result: &mut [u8]) -> Reply {
+    if let WordPlace::At(k) = values::number(name) {
         return values::answered(k, line, input, result);
     }
-    if let Found::At(_) = number_list::number(name) {
+    if let WordPlace::At(_) = number_list::number(name) {
         return number_list::answered(line, result);
     }
-    if let Found::At(k) = sizes::number(name) {
+    if let WordPlace::At(k) = sizes::number(name) {
         return sizes::answered(k, line);
     }
-    if let Found::At(k) = records::number(name) {
+    if let WordPlace::At(k) = records::number(name) {
         return records::answered(k, line, input, result);
     }
-    if let Found::At(k) = sheets::number(name) {
+    if let WordPlace::At(k) = sheets::number(name) {
         return sheets::answered(k, line, input, result);
     }
-    Answer::Bad(fault::REQUEST)
+    Reply::Bad(fault::REQUEST)
 }

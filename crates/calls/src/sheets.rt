@@ -1,10 +1,10 @@
 // NAME HEX and NAME SCRATCH RESULT HEX: a sheet, checked with buffers that suffice or with buffers of these lengths. The answer
 // is what the program `sheet` prints, its lines joined by a bar.
-use crate::answers::Answer;
+use crate::answers::Reply;
 use crate::arguments::decimal;
 use crate::arguments::hex;
 use crate::fault;
-use crate::words::Found;
+use crate::words::WordPlace;
 use crate::words::count;
 use crate::words::find;
 use crate::words::front;
@@ -21,28 +21,28 @@ use text::Number;
 const MAX_ROOM: u64 = 65536;
 
 // In the order of `answered`'s arms.
-pub(crate) fn number(name: &[u8]) -> Found {
+pub(crate) fn number(name: &[u8]) -> WordPlace {
     find(b"sheet sheet_call", name)
 }
 
-pub(crate) fn answered(k: usize, line: &[u8], input: &mut [u8], result: &mut [u8]) -> Answer {
+pub(crate) fn answered(k: usize, line: &[u8], input: &mut [u8], result: &mut [u8]) -> Reply {
     match k {
         0 => whole(line, input, result),
         1 => lent(line, input, result),
-        _ => Answer::Bad(fault::REQUEST),
+        _ => Reply::Bad(fault::REQUEST),
     }
 }
 
-fn whole(line: &[u8], input: &mut [u8], result: &mut [u8]) -> Answer {
+fn whole(line: &[u8], input: &mut [u8], result: &mut [u8]) -> Reply {
     if count(line) != 2 {
-        return Answer::Bad(fault::WORDS);
+        return Reply::Bad(fault::WORDS);
     }
     let decoded = hex(nth(line, 1), &mut *input, 0);
     let Decoded::To(end) = decoded else {
-        return Answer::Bad(fault::HEX);
+        return Reply::Bad(fault::HEX);
     };
     if MAX_SHEET < end {
-        return Answer::Refused {
+        return Reply::Refused {
             number: TOO_SHORT as u64,
             place: 0,
         };
@@ -50,21 +50,21 @@ fn whole(line: &[u8], input: &mut [u8], result: &mut [u8]) -> Answer {
     call(part(&*input, 0, end), SCRATCH_BYTES, SCRATCH_BYTES, result)
 }
 
-fn lent(line: &[u8], input: &mut [u8], result: &mut [u8]) -> Answer {
+fn lent(line: &[u8], input: &mut [u8], result: &mut [u8]) -> Reply {
     if count(line) != 4 {
-        return Answer::Bad(fault::WORDS);
+        return Reply::Bad(fault::WORDS);
     }
     let first = decimal(nth(line, 1), MAX_ROOM);
     let Number::Value(scratch) = first else {
-        return Answer::Bad(fault::NUMBER);
+        return Reply::Bad(fault::NUMBER);
     };
     let second = decimal(nth(line, 2), MAX_ROOM);
     let Number::Value(room) = second else {
-        return Answer::Bad(fault::NUMBER);
+        return Reply::Bad(fault::NUMBER);
     };
     let decoded = hex(nth(line, 3), &mut *input, 0);
     let Decoded::To(end) = decoded else {
-        return Answer::Bad(fault::HEX);
+        return Reply::Bad(fault::HEX);
     };
     call(
         part(&*input, 0, end),
@@ -74,9 +74,9 @@ fn lent(line: &[u8], input: &mut [u8], result: &mut [u8]) -> Answer {
     )
 }
 
-fn call(sheet: &[u8], scratch: usize, room: usize, text: &mut [u8]) -> Answer {
+fn call(sheet: &[u8], scratch: usize, room: usize, text: &mut [u8]) -> Reply {
     if text.len() < CALL_TEXT {
-        return Answer::Bad(fault::REQUEST);
+        return Reply::Bad(fault::REQUEST);
     }
     let mut lent = [0u8; 65536];
     let mut types = [0u8; 65536];
@@ -87,5 +87,5 @@ fn call(sheet: &[u8], scratch: usize, room: usize, text: &mut [u8]) -> Answer {
         b" | ",
         text,
     );
-    Answer::Line(n)
+    Reply::Line(n)
 }

@@ -1,12 +1,12 @@
 // NAME HEX HEX: requests on two types.
-use crate::answers::Answer;
+use crate::answers::Reply;
 use crate::answers::compared;
 use crate::answers::counted;
 use crate::answers::delivered;
 use crate::arguments::Both;
 use crate::arguments::two_hex;
 use crate::fault;
-use crate::words::Found;
+use crate::words::WordPlace;
 use crate::words::count;
 use crate::words::find;
 use crate::words::nth;
@@ -23,20 +23,20 @@ use velgrodis::vg_superset;
 use velgrodis::vg_union;
 
 // In the order of `call`'s arms.
-pub(crate) fn number(name: &[u8]) -> Found {
+pub(crate) fn number(name: &[u8]) -> WordPlace {
     find(
         b"merge join_shapes compatible_shapes superset compatible_scalars compatible_with_boxes compare union join check_scalar",
         name,
     )
 }
 
-pub(crate) fn answered(k: usize, line: &[u8], input: &mut [u8], result: &mut [u8]) -> Answer {
+pub(crate) fn answered(k: usize, line: &[u8], input: &mut [u8], result: &mut [u8]) -> Reply {
     if count(line) != 3 {
-        return Answer::Bad(fault::WORDS);
+        return Reply::Bad(fault::WORDS);
     }
     let decoded = two_hex(nth(line, 1), nth(line, 2), &mut *input);
     let Both::To { middle, end } = decoded else {
-        return Answer::Bad(fault::HEX);
+        return Reply::Bad(fault::HEX);
     };
     call(
         k,
@@ -46,7 +46,7 @@ pub(crate) fn answered(k: usize, line: &[u8], input: &mut [u8], result: &mut [u8
     )
 }
 
-fn call(k: usize, a: &[u8], b: &[u8], result: &mut [u8]) -> Answer {
+fn call(k: usize, a: &[u8], b: &[u8], result: &mut [u8]) -> Reply {
     match k {
         0 => delivered(vg_merge(a, b, result)),
         1 => delivered(vg_join_shapes(a, b, result)),
@@ -58,6 +58,6 @@ fn call(k: usize, a: &[u8], b: &[u8], result: &mut [u8]) -> Answer {
         7 => delivered(vg_union(a, b, result)),
         8 => delivered(vg_join(a, b, result)),
         9 => delivered(vg_check_scalar(a, b, result)),
-        _ => Answer::Bad(fault::REQUEST),
+        _ => Reply::Bad(fault::REQUEST),
     }
 }

@@ -1,19 +1,19 @@
 // NAME VALUE: requests on a value handed in, which is `num BITS`, `list BITS..` or `type HEX`.
-use crate::answers::Answer;
+use crate::answers::Reply;
 use crate::answers::counted;
 use crate::answers::delivered;
 use crate::answers::sized;
 use crate::answers::without_value;
 use crate::arguments::hex;
 use crate::fault;
-use crate::numbers::Listed;
+use crate::numbers::NumbersRead;
 use crate::numbers::MAX_NUMBERS;
 use crate::numbers::bits_of;
 use crate::numbers::first_numbers;
 use crate::numbers::of_bits;
 use crate::numbers::parse_numbers;
 use crate::size_list::list_sizes;
-use crate::words::Found;
+use crate::words::WordPlace;
 use crate::words::count;
 use crate::words::find;
 use crate::words::nth;
@@ -37,7 +37,7 @@ use velgrodis::vg_val_spec;
 use velgrodis::vg_val_ty;
 
 // In the order of `call`'s arms.
-pub(crate) fn number(name: &[u8]) -> Found {
+pub(crate) fn number(name: &[u8]) -> WordPlace {
     find(
         b"val_ty val_spec val_scalar val_row_count val_rank val_row val_first_row val_last_row as_dim as_dims",
         name,
@@ -46,7 +46,7 @@ pub(crate) fn number(name: &[u8]) -> Found {
 
 // A value: its kind, by the place of its first word among the three, and the number; and how many numbers and bytes are lent
 // beside it.
-enum Handed {
+enum ValueRead {
     In {
         kind: u64,
         x: f64,
@@ -56,11 +56,11 @@ enum Handed {
     Bad(usize),
 }
 
-pub(crate) fn answered(k: usize, line: &[u8], input: &mut [u8], result: &mut [u8]) -> Answer {
+pub(crate) fn answered(k: usize, line: &[u8], input: &mut [u8], result: &mut [u8]) -> Reply {
     let mut list = [0.0f64; MAX_NUMBERS];
     let handed = hand_in(line, &mut list, &mut *input);
     match handed {
-        Handed::In {
+        ValueRead::In {
             kind,
             x,
             numbers,
@@ -73,25 +73,25 @@ pub(crate) fn answered(k: usize, line: &[u8], input: &mut [u8], result: &mut [u8
             part(&*input, 0, bytes),
             result,
         ),
-        Handed::Bad(fault) => Answer::Bad(fault),
+        ValueRead::Bad(fault) => Reply::Bad(fault),
     }
 }
 
 // A value's first word is judged before the number of its words.
-fn hand_in(line: &[u8], list: &mut [f64], input: &mut [u8]) -> Handed {
+fn hand_in(line: &[u8], list: &mut [f64], input: &mut [u8]) -> ValueRead {
     let n = count(line);
     if n < 2 {
-        return Handed::Bad(fault::WORDS);
+        return ValueRead::Bad(fault::WORDS);
     }
     let found = find(b"num list type", nth(line, 1));
-    let Found::At(kind) = found else {
-        return Handed::Bad(fault::VALUE);
+    let WordPlace::At(kind) = found else {
+        return ValueRead::Bad(fault::VALUE);
     };
     if kind == 1 {
         return list_in(line, list);
     }
     if n != 3 {
-        return Handed::Bad(fault::WORDS);
+        return ValueRead::Bad(fault::WORDS);
     }
     if kind == 0 {
         return number_in(nth(line, 2));
@@ -99,12 +99,12 @@ fn hand_in(line: &[u8], list: &mut [f64], input: &mut [u8]) -> Handed {
     type_in(nth(line, 2), input)
 }
 
-fn number_in(word: &[u8]) -> Handed {
+fn number_in(word: &[u8]) -> ValueRead {
     let parsed = parse_bits(word);
     let Number::Value(bits) = parsed else {
-        return Handed::Bad(fault::HEX);
+        return ValueRead::Bad(fault::HEX);
     };
-    Handed::In {
+    ValueRead::In {
         kind: 0,
         x: of_bits(bits),
         numbers: 0,
@@ -112,12 +112,12 @@ fn number_in(word: &[u8]) -> Handed {
     }
 }
 
-fn list_in(line: &[u8], list: &mut [f64]) -> Handed {
+fn list_in(line: &[u8], list: &mut [f64]) -> ValueRead {
     let read = parse_numbers(line, start(line, 2), list);
-    let Listed::Count(numbers) = read else {
-        return Handed::Bad(fault::HEX);
+    let NumbersRead::Count(numbers) = read else {
+        return ValueRead::Bad(fault::HEX);
     };
-    Handed::In {
+    ValueRead::In {
         kind: 1,
         x: 0.0,
         numbers,
@@ -125,12 +125,12 @@ fn list_in(line: &[u8], list: &mut [f64]) -> Handed {
     }
 }
 
-fn type_in(word: &[u8], input: &mut [u8]) -> Handed {
+fn type_in(word: &[u8], input: &mut [u8]) -> ValueRead {
     let decoded = hex(word, input, 0);
     let Decoded::To(bytes) = decoded else {
-        return Handed::Bad(fault::HEX);
+        return ValueRead::Bad(fault::HEX);
     };
-    Handed::In {
+    ValueRead::In {
         kind: 2,
         x: 0.0,
         numbers: 0,
@@ -139,7 +139,7 @@ fn type_in(word: &[u8], input: &mut [u8]) -> Handed {
 }
 
 // What is lent for another kind of value is not looked at.
-fn call(k: usize, kind: u64, x: f64, list: &[f64], bytes: &[u8], result: &mut [u8]) -> Answer {
+fn call(k: usize, kind: u64, x: f64, list: &[f64], bytes: &[u8], result: &mut [u8]) -> Reply {
     match k {
         0 => delivered(vg_val_ty(kind, x, list, bytes, result)),
         1 => delivered(vg_val_spec(kind, x, list, bytes, result)),
@@ -151,41 +151,41 @@ fn call(k: usize, kind: u64, x: f64, list: &[f64], bytes: &[u8], result: &mut [u
         7 => last_row(kind, x, list, bytes, result),
         8 => sized(vg_as_dim(kind, x, list, bytes)),
         9 => dims(kind, x, list, bytes, result),
-        _ => Answer::Bad(fault::REQUEST),
+        _ => Reply::Bad(fault::REQUEST),
     }
 }
 
 // A row that is a number is handed over beside the result.
-fn row(kind: u64, x: f64, list: &[f64], bytes: &[u8], result: &mut [u8]) -> Answer {
+fn row(kind: u64, x: f64, list: &[f64], bytes: &[u8], result: &mut [u8]) -> Reply {
     let mut number = 0.0f64;
     let answer = vg_val_row(kind, x, list, bytes, &mut number, result);
     in_row(answer, number)
 }
 
-fn first_row(kind: u64, x: f64, list: &[f64], bytes: &[u8], result: &mut [u8]) -> Answer {
+fn first_row(kind: u64, x: f64, list: &[f64], bytes: &[u8], result: &mut [u8]) -> Reply {
     let mut number = 0.0f64;
     let answer = vg_val_first_row(kind, x, list, bytes, &mut number, result);
     in_row(answer, number)
 }
 
-fn last_row(kind: u64, x: f64, list: &[f64], bytes: &[u8], result: &mut [u8]) -> Answer {
+fn last_row(kind: u64, x: f64, list: &[f64], bytes: &[u8], result: &mut [u8]) -> Reply {
     let mut number = 0.0f64;
     let answer = vg_val_last_row(kind, x, list, bytes, &mut number, result);
     in_row(answer, number)
 }
 
 // A row's second number says whether it is a number.
-fn in_row(answer: Crossed, number: f64) -> Answer {
+fn in_row(answer: Crossed, number: f64) -> Reply {
     if answer.kind == VALUE {
         if answer.second == 1 {
-            return Answer::Bits(bits_of(number));
+            return Reply::Bits(bits_of(number));
         }
-        return Answer::Typed(answer.first as usize);
+        return Reply::Typed(answer.first as usize);
     }
     without_value(answer)
 }
 
-fn dims(kind: u64, x: f64, list: &[f64], bytes: &[u8], result: &mut [u8]) -> Answer {
+fn dims(kind: u64, x: f64, list: &[f64], bytes: &[u8], result: &mut [u8]) -> Reply {
     let mut sizes = [0u64; MAX_SIZES];
     let answer = vg_as_dims(kind, x, list, bytes, &mut sizes);
     if answer.kind == VALUE {

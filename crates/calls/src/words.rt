@@ -4,7 +4,7 @@ ghost use Prim.Native.Nat.{_≤_};
 ghost use lib.ListN.{length};
 
 // The place of a word among those of a list.
-pub enum Found {
+pub enum WordPlace {
     At(usize),
     Nowhere,
 }
@@ -62,18 +62,18 @@ pub(crate) fn find_space(text: &[u8], from: usize) -> usize
     i
 }
 
-pub(crate) fn find(list: &[u8], word: &[u8]) -> Found {
+pub(crate) fn find(list: &[u8], word: &[u8]) -> WordPlace {
     let mut k = 0usize;
     let mut at = 0usize;
     while at <= list.len() {
         let end = find_space(list, at);
         if same(part(list, at, end), word) {
-            return Found::At(k);
+            return WordPlace::At(k);
         }
         k += 1;
         at = end + 1;
     }
-    Found::Nowhere
+    WordPlace::Nowhere
 }
 
 // The bytes from a place up to another, where both are places of s.

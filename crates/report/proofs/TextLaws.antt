@@ -12,8 +12,8 @@ use Rattle.lent.specs.Over.{over, over-over}
 use Rattle.text.specs.Digits.{hexOf, decimalWithin, decimalOf}
 use Rattle.text.specs.Place.{placed, noRoom, place}
 use Rattle.text.specs.Answers.{placing}
-use Rattle.text.specs.declared.Placed.{Placed}
-use Rattle.text.specs.declared.Placed.the-variants.{To, NoRoom}
+use Rattle.text.specs.declared.Rendered.{Rendered}
+use Rattle.text.specs.declared.Rendered.the-variants.{To, NoRoom}
 use Rattle.text.specs.RoundTrips.{length-hexOf}
 use Rattle.report.specs.Laid.{Laid}
 use Rattle.report.specs.Report.{space, headed, typeLine}
@@ -35,12 +35,12 @@ module _ (at : ℕ) (d v : List ℕ) (fits : at + length v ≤ length d) where
   has-room = rw (le-leb (at + length v) (length d) fits)
 
   -- A placing that has room is a text laid.
-  pub placed-laid : {r : Placed} {next : ℕ} {after : List ℕ} → r ≡ To next → placing r after ≡ place d at v → Laid next at d after v
+  pub placed-laid : {r : Rendered} {next : ℕ} {after : List ℕ} → r ≡ To next → placing r after ≡ place d at v → Laid next at d after v
   placed-laid {r} {next} {after} h e =
       let f : placed next after ≡ placed (at + length v) (over d at v) = ap (λ p. placing p after) (sym h) ∙ e ∙ has-room in
       record { ends = cc; laid = cc }
 
-  pub never-short : {r : Placed} {next : ℕ} {after : List ℕ} → r ≡ NoRoom → placing r after ≡ place d at v → Laid next at d after v
+  pub never-short : {r : Rendered} {next : ℕ} {after : List ℕ} → r ≡ NoRoom → placing r after ≡ place d at v → Laid next at d after v
   never-short {r} {next} {after} h e =
       let f : noRoom after ≡ placed (at + length v) (over d at v) = ap (λ p. placing p after) (sym h) ∙ e ∙ has-room in
       let z : _≡_ {A = ℕ} 0 1 = cc in

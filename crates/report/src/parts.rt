@@ -1,6 +1,6 @@
 // Parts of a text, put into a buffer from a place on, where there is room for them. Each answers the place after it.
 use lent::lay;
-use text::Placed;
+use text::Rendered;
 use text::put_decimal;
 ghost use Prim.Native.Nat.{_+_, _*_, _≤_};
 ghost use lib.ListN.{length};
@@ -22,8 +22,8 @@ pub fn put_number(n: u64, out: &mut [u8], at: usize) -> usize
 {
     let placed = put_decimal(n, &mut *out, at);
     match placed {
-        Placed::To(next) => next,
-        Placed::NoRoom => at,
+        Rendered::To(next) => next,
+        Rendered::NoRoom => at,
     }
 }
 
@@ -33,7 +33,7 @@ pub fn put_hex(bytes: &[u8], out: &mut [u8], at: usize) -> usize
 {
     let placed = text::put_hex(bytes, &mut *out, at);
     match placed {
-        Placed::To(next) => next,
-        Placed::NoRoom => at,
+        Rendered::To(next) => next,
+        Rendered::NoRoom => at,
     }
 }

@@ -5,8 +5,8 @@ use mathlib.Core.Option.{Option, none, some}
 use Rattle.text.specs.Place.{Placing, placed, noRoom, notHex}
 use Rattle.text.specs.declared.Number.{Number}
 use Rattle.text.specs.declared.Number.the-variants.{Value, Other}
-use Rattle.text.specs.declared.Placed.{Placed}
-use Rattle.text.specs.declared.Placed.the-variants.{To, NoRoom}
+use Rattle.text.specs.declared.Rendered.{Rendered}
+use Rattle.text.specs.declared.Rendered.the-variants.{To, NoRoom}
 use Rattle.text.specs.declared.Decoded.{Decoded}
 use Rattle.text.specs.declared.Decoded.the-variants.{To as DecodedTo, NoRoom as NoRoomFor, NotHex}
 
@@ -14,7 +14,7 @@ abbrev pub numberOf : Number → Option ℕ
 numberOf (Value n) = some n
 numberOf Other = none
 
-abbrev pub placing : Placed → List ℕ → Placing
+abbrev pub placing : Rendered → List ℕ → Placing
 placing (To next) buffer = placed next buffer
 placing NoRoom buffer = noRoom buffer
 

@@ -16,7 +16,7 @@ pub enum Number {
 }
 
 // The place after what was put into a buffer, or that it has no room there.
-pub enum Placed {
+pub enum Rendered {
     To(usize),
     NoRoom,
 }

@@ -1,5 +1,5 @@
 // Text put into a buffer from a place on, if it has room there whole. A refusal leaves the buffer as lent.
-use crate::Placed;
+use crate::Rendered;
 use lent::lay;
 ghost use mathlib.Core.Path.{_≡_};
 ghost use Prim.Native.Nat.{_+_, _*_, _≤_, _<_};
@@ -11,37 +11,37 @@ ghost use Rattle.text.specs.Place.{place};
 ghost use Rattle.text.specs.Answers.{placing};
 
 // Bytes as they are.
-pub fn put_bytes(bytes: &[u8], out: &mut [u8], at: usize) -> Placed
+pub fn put_bytes(bytes: &[u8], out: &mut [u8], at: usize) -> Rendered
     ensures { λ r. ⌜ placing r (now (out .exit)) ≡ place (now (out .entry)) at (now (bytes .entry)) ⌝ }
 {
     let n = bytes.len();
     if out.len() < n {
-        return Placed::NoRoom;
+        return Rendered::NoRoom;
     }
     if out.len() - n < at {
-        return Placed::NoRoom;
+        return Rendered::NoRoom;
     }
     lay(bytes, &mut *out, at);
-    Placed::To(at + n)
+    Rendered::To(at + n)
 }
 
 // Bytes as hexadecimal digits in lower case, two each.
-pub fn put_hex(bytes: &[u8], out: &mut [u8], at: usize) -> Placed
+pub fn put_hex(bytes: &[u8], out: &mut [u8], at: usize) -> Rendered
     ensures { λ r. ⌜ placing r (now (out .exit)) ≡ place (now (out .entry)) at (hexOf (now (bytes .entry))) ⌝ }
 {
     let n = bytes.len();
     if out.len() < at {
-        return Placed::NoRoom;
+        return Rendered::NoRoom;
     }
     if (out.len() - at) / 2 < n {
-        return Placed::NoRoom;
+        return Rendered::NoRoom;
     }
     lay_hex(bytes, &mut *out, at);
-    Placed::To(at + 2 * n)
+    Rendered::To(at + 2 * n)
 }
 
 // A number in decimal, with no zero before another digit.
-pub fn put_decimal(n: u64, out: &mut [u8], at: usize) -> Placed
+pub fn put_decimal(n: u64, out: &mut [u8], at: usize) -> Rendered
     ensures { λ r. ⌜ placing r (now (out .exit)) ≡ place (now (out .entry)) at (decimalOf n) ⌝ }
 {
     let mut digits = [0u8; 20];

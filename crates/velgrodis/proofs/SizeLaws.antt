@@ -18,7 +18,7 @@ use Rattle.ty.specs.Calls.{offered}
 use Rattle.val.specs.Answers.{maybeDims}
 use Rattle.val.specs.declared.MaybeDims.{MaybeDims}
 use Rattle.val.specs.declared.MaybeDims.the-variants.{Sizes, Nothing, Refused}
-use Rattle.velgrodis.specs.Answers.{no, value, nothing, handed, written, listed, deliverSizes}
+use Rattle.velgrodis.specs.Answers.{no, value, noneAnswer, handed, written, listed, deliverSizes}
 use Rattle.velgrodis.specs.AnswersLaws.{dims-numbers}
 use Rattle.velgrodis.specs.declared.Answer.{Answer}
 
@@ -75,7 +75,7 @@ module _ (buffer : List ℕ) (ds : List Dim) {m : MaybeDims} {r : Answer} where
   unfolding deliverSizes
   beside-sizes e h = h ∙ offers (deliver (accepted (map dimNumber ds)) buffer) ∙ ap (λ k. listed (deliverSizes (maybeDims k ds) buffer)) (sym e)
 
-  pub beside-nothing : m ≡ Nothing → r ≡ nothing → handed r buffer ≡ listed (deliverSizes (maybeDims m ds) buffer)
+  pub beside-nothing : m ≡ Nothing → r ≡ noneAnswer → handed r buffer ≡ listed (deliverSizes (maybeDims m ds) buffer)
   unfolding deliverSizes
   beside-nothing e h = rw (h, e)
 

@@ -25,15 +25,15 @@ abbrev pub value : ℕ → ℕ → Answer
 value a b = record { kind = 1; number = 0; place = 0; first = a; second = b }
 
 -- 2: none
-abbrev pub nothing : Answer
-nothing = record { kind = 2; number = 0; place = 0; first = 0; second = 0 }
+abbrev pub noneAnswer : Answer
+noneAnswer = record { kind = 2; number = 0; place = 0; first = 0; second = 0 }
 
 abbrev pub answered : {A : Type 0} → (A → Answer) → Outcome A → Answer
 answered f (accepted a) = f a
 answered f (refused k p) = no k p
 
 abbrev pub orNothing : {A : Type 0} → (A → Answer) → Option A → Answer
-orNothing f none = nothing
+orNothing f none = noneAnswer
 orNothing f (some a) = f a
 
 -- ---- answers alone

@@ -85,10 +85,10 @@ listed-back (given (refused k p) buffer) = refl
 -- ---- a value's row, beside the number and the result that are lent for it
 
 -- `second` tells a row that is a number
-abbrev pub rowBy : RowHanded → RowDelivery
-rowBy (rowHanded r x buffer) = cond (eqb (r .second) 1) (rowNumber x buffer) (rowWritten (deliveryBy (handed r buffer)))
+abbrev pub rowFrom : RowHanded → RowDelivery
+rowFrom (rowHanded r x buffer) = cond (eqb (r .second) 1) (rowNumber x buffer) (rowWritten (deliveryBy (handed r buffer)))
 
-pub rowed-back : (before : Float) (d : RowDelivery) → rowBy (rowed before d) ≡ d
+pub rowed-back : (before : Float) (d : RowDelivery) → rowFrom (rowed before d) ≡ d
 rowed-back before (rowNumber x buffer) = refl
 rowed-back before (rowWritten (delivery (accepted n) buffer)) = refl
 rowed-back before (rowWritten (delivery (refused k p) buffer)) = refl

@@ -27,7 +27,7 @@ ghost use Rattle.shape.specs.Answers.{orderOf};
 ghost use Rattle.shape_calls.specs.Answers.{orderedOf};
 ghost use Rattle.ty.specs.Calls.{boxesOf, foundOf, given};
 ghost use Rattle.val.specs.Answers.{maybeDim, rowDelivered};
-ghost use Rattle.velgrodis.specs.Answers.{no, value, nothing, ordered, counted, tested, sized, sizedOrNone, compared, found, handed, written, listed, rowHanded, rowed, returned, checked};
+ghost use Rattle.velgrodis.specs.Answers.{no, value, noneAnswer, ordered, counted, tested, sized, sizedOrNone, compared, found, handed, written, listed, rowHanded, rowed, returned, checked};
 
 pub fn of_written(w: Written) -> Answer
     ensures { λ r. ⌜ ((buffer : List ℕ) → handed r buffer ≡ written (delivered w buffer)) ⌝ }
@@ -187,7 +187,7 @@ pub fn give(first: u64, second: u64) -> Answer
 }
 
 pub fn nothing() -> Answer
-    ensures { λ r. ⌜ r ≡ nothing ⌝ }
+    ensures { λ r. ⌜ r ≡ noneAnswer ⌝ }
 {
     Answer {
         kind: NOTHING,

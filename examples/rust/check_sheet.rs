@@ -5,7 +5,7 @@ mod velgrodis;
 
 use std::io::Write;
 use std::process::ExitCode;
-use velgrodis::{check_sheet, read, Refusal, PROGRAM_SHEET_BYTES, SCRATCH_BYTES};
+use velgrodis::{check_sheet, read, Refusal, PROGRAM_SHEET_BYTES, RESULT_BYTES, SCRATCH_BYTES};
 
 /// The length of the first of the types that stand one after the other: all bytes, or those before the first extra one.
 fn first_length(types: &[u8]) -> usize {
@@ -17,7 +17,7 @@ fn first_length(types: &[u8]) -> usize {
 
 /// What is printed of a sheet.
 fn report(sheet: &[u8]) -> String {
-    let mut result = vec![0u8; SCRATCH_BYTES];
+    let mut result = vec![0u8; RESULT_BYTES];
     let mut scratch = vec![0u8; SCRATCH_BYTES];
     let checked = if sheet.len() > PROGRAM_SHEET_BYTES {
         Err(Refusal { number: 7, place: 0 })

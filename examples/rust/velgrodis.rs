@@ -5,8 +5,11 @@
 const MAX_STACK: usize = 8;
 const TYPE_BYTES: usize = 4992;
 
-/// Bytes that the sheet check asks for as a scratch; as many always suffice for its result.
+/// Bytes that the sheet check asks for as a scratch.
 pub const SCRATCH_BYTES: usize = MAX_STACK * TYPE_BYTES;
+
+/// Bytes that always suffice for the types that a sheet leaves.
+pub const RESULT_BYTES: usize = MAX_STACK * TYPE_BYTES;
 
 /// Bytes of a sheet that the program `sheet` reads; a longer one it refuses 7 at 0. The library has no such limit.
 pub const PROGRAM_SHEET_BYTES: usize = 49152;

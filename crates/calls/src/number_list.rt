@@ -2,8 +2,8 @@
 use crate::answers::Reply;
 use crate::answers::delivered;
 use crate::fault;
-use crate::numbers::NumbersRead;
 use crate::numbers::MAX_NUMBERS;
+use crate::numbers::NumbersRead;
 use crate::numbers::first_numbers;
 use crate::numbers::parse_numbers;
 use crate::words::WordPlace;

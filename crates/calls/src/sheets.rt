@@ -11,6 +11,7 @@ use crate::words::front;
 use crate::words::nth;
 use crate::words::part;
 use limits::MAX_SHEET;
+use limits::RESULT_BYTES;
 use limits::SCRATCH_BYTES;
 use limits::refusal::TOO_SHORT;
 use printer::CALL_TEXT;
@@ -47,7 +48,7 @@ fn whole(line: &[u8], input: &mut [u8], result: &mut [u8]) -> Reply {
             place: 0,
         };
     }
-    call(part(&*input, 0, end), SCRATCH_BYTES, SCRATCH_BYTES, result)
+    call(part(&*input, 0, end), SCRATCH_BYTES, RESULT_BYTES, result)
 }
 
 fn lent(line: &[u8], input: &mut [u8], result: &mut [u8]) -> Reply {

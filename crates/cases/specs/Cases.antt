@@ -67,8 +67,8 @@ Says (everyPervading s t x) = (f g : Bool) → pervadingOutcome (pervade f g s t
 Says (theValidation side s t x) = validate side s t ≡ x
 Says (theShapeCheck side s t x) = checkShape side s t ≡ x
 
-abbrev pub AllGiven : List Claim → Type 0
-AllGiven claims = All Says claims
+abbrev pub AllSay : List Claim → Type 0
+AllSay claims = All Says claims
 
 unfoldable pub cases : List (List Claim)
 cases =
@@ -136,7 +136,7 @@ pub cases-thirteen : length cases ≡ 13
 unfolding cases
 cases-thirteen = refl
 
-pub cases-hold : All AllGiven cases
+pub cases-hold : All AllSay cases
 unfolding cases inside below cmpDim larger compatible rowShape isAny rank mergeDims mergeClosing mergeFrom joinDim joinDims joinLonger joinEnds
     joinClosing joinShapes code codeOf supersetCodes supersetOf union whollyAny againstAbsent together pervadeDims pervadeClosing pervade numsScalar
     lt sizesFrom valueSpec valueAsDim valueAsDims agree equalDim equalDims mismatch shapeMismatch sidedShape checkShape keepsLimits checkScalar

@@ -23,7 +23,7 @@ use Rattle.record.specs.declared.Reading.the-variants.{Got, Refused}
 use Rattle.record.proofs.ReadingLaws.{read-got, read-stopped, got-map, stopped-map}
 use Rattle.machine.specs.Steps.{pervading, aPervading, opcodes, maxFlag, fillsTop, fillsBelow}
 use Rattle.machine.specs.Sheet.{opcodeIn, opcodeFrom, argumentFrom}
-use Rattle.cursor.specs.Answers.{Stretch, TypeIs}
+use Rattle.cursor.specs.Answers.{TypeStands, TypeIs}
 use Rattle.cursor.specs.declared.types.TypeRead.the-variants.{Got as Typed}
 
 module _ (s : List ℕ) (at : ℕ) where
@@ -69,7 +69,7 @@ module _ (s : List ℕ) (at : ℕ) where
   unfolding writeTy writeShape
   some-bytes (ty (shape o c) k) = omega arith
 
-  pub stretched : Bytes s → (end : ℕ) (t : Ty) → readType s at ≡ got t end → Stretch s at end t
+  pub stretched : Bytes s → (end : ℕ) (t : Ty) → readType s at ≡ got t end → TypeStands s at end t
   stretched small end t e =
       let (took, within) = read-write s small at t end e in
       let again : readType s at ≡ got t (at + length (writeTy t)) = write-read s t within .run at (drop end s) (took .is) in

@@ -1,12 +1,12 @@
 -- What is read of a sheet, in the terms of the definitions: for each case of each answer, what the reading of that record gives
 -- (document 01, "The sheet, added": the mark, then a type, a flag byte or nothing).
-use Prim.Native.Nat.{ℕ, _-_, _≤_}
+use Prim.Native.Nat.{ℕ, _≤_}
 use mathlib.Core.List.{List}
 use mathlib.Core.Path.{_≡_}
-use lib.ListN.{length, take, drop}
+use lib.ListN.{length}
 use Rattle.model.specs.Types.{Ty}
 use Rattle.format.specs.Reader.{Read, got, stopped}
-use Rattle.format.specs.Outcome.{accepted, lone}
+use Rattle.known.specs.Whole.{Between}
 use Rattle.machine.specs.Steps as steps
 use Rattle.machine.specs.Steps.{Step, put, row, pervading, join, validating, aPut, aRow, aPervading, aJoin, aValidating}
 use Rattle.cursor.specs.declared.marks.Operation.{Operation}
@@ -39,24 +39,24 @@ fillsOf (Unflagged k) p = stopped k p
 
 -- ---- a type
 
--- The bytes from start to end are those of a lone type.
-pub record Stretch (s : List ℕ) (start end : ℕ) (t : Ty) : Type 0 where
+-- A type stands from start to end, both of them places of s.
+pub record TypeStands (s : List ℕ) (start end : ℕ) (t : Ty) : Type 0 where
   pub forth : start ≤ end
   pub there : end ≤ length s
-  pub reads : lone (take (end - start) (drop start s)) ≡ accepted t
+  pub reads : Between s start end t
 
 -- What was read from a place on is the type whose bytes stand there.
 abbrev pub TypeIs : TypeRead → List ℕ → ℕ → Read Ty → Type 0
-TypeIs (Typed next) s at o = (t : Ty) × (o ≡ got t next) × Stretch s at next t
+TypeIs (Typed next) s at o = (t : Ty) × (o ≡ got t next) × TypeStands s at next t
 TypeIs (Untyped k p) s at o = o ≡ stopped k p
 
 -- ---- a step
 
 -- The step that was read; if it has a type, that is the one whose bytes stand from start to next.
 abbrev pub StepIs : StepRead → List ℕ → Read Step → Type 0
-StepIs (APut start next) s o = (t : Ty) × (o ≡ got (put t) next) × Stretch s start next t
+StepIs (APut start next) s o = (t : Ty) × (o ≡ got (put t) next) × TypeStands s start next t
 StepIs (ARow next) s o = o ≡ got row next
 StepIs (APervading f g next) s o = o ≡ got (pervading f g) next
 StepIs (AJoin next) s o = o ≡ got join next
-StepIs (AValidating start next) s o = (t : Ty) × (o ≡ got (validating t) next) × Stretch s start next t
+StepIs (AValidating start next) s o = (t : Ty) × (o ≡ got (validating t) next) × TypeStands s start next t
 StepIs (Refused k p) s o = o ≡ stopped k p

@@ -54,7 +54,7 @@ module _ (d : List ℕ) where
 
 -- ---- the call
 
--- an answer that is no acceptance; and one whose bytes are w, if it is one, and which is no refusal
+-- `NotAccepted`: no acceptance. `AcceptedOf`: no refusal, and an acceptance counts the bytes w.
 abbrev NotAccepted : Outcome Tally → Type 0
 NotAccepted o = (n b : ℕ) → o ≡ accepted (tally n b) → ⊥
 

@@ -20,7 +20,7 @@ use Rattle.demand.specs.SecondCalls.{not-both, one-of-two, verdict-same,
 -- ---- the first half
 
 -- "For every list of puts, rows, pervadings, joins and validations that, worked in order from an empty stack, makes an accepted sheet":
--- xs, whose bytes the call c accepts, whatever result and scratch held, and which leaves the types ts, bottom first (`MakesAccepted`).
+-- xs, whose bytes the call c accepts, whatever result and scratch held, and which leave the types ts, bottom first (`MakesAccepted`).
 -- "Names no closing sizes, fills nothing, takes no row of an open Def, and joins only closed shapes of equal count or two open ones":
 -- `FirstConditions`, a field for each.
 -- "Whatever real arrays fit the puts and whichever side each join keeps, if they get through the steps": f, a real shape for each put and

@@ -252,8 +252,8 @@ pub skim-numbered : (s : List ℕ) → RefusedWith ofReading (skim s)
 unfolding skim skimFrom
 skim-numbered s = outcome-number ofReading (skimMore s maxSteps (fresh 0) 0) (stops-skim s maxSteps (fresh 0) .number-is 0)
 
--- "Meets none of 1 to 5, 11 and 12, and both buffers hold the bytes that are asked for": with such buffers a sheet of any bytes is well-formed, or
--- its reading meets one of these.
+-- "Meets none of 1 to 5, 11 and 12 .. and both buffers hold 39,936 bytes": with buffers that are long enough a sheet of any bytes is
+-- well-formed, or its reading meets one of these.
 pub well-formed-or-refused : (s result scratch : List ℕ) → resultBytes ≤ length result → scratchBytes ≤ length scratch
     → ((xs : List Step) × WellFormed s result scratch xs) ⊎ ((k : ℕ) × (p : ℕ) × (skim s ≡ refused k p) × Among ofReading k)
 well-formed-or-refused s result scratch r c = go (skim s) refl

@@ -56,9 +56,9 @@ module _ {s : List ℕ} where
   pub reads-need : {B : Type 0} (t : Bool) (k p : ℕ) {q : Reader B} {ys : List ℕ} {b : B} → t ≡ true → Reads s q ys b → Reads s (need t k p >> q) ys b
   reads-need t k p e h = record { run = λ at rest d. rw e (h .run at rest d) }
 
-  pub reads-judged : {B : Type 0} (fits : ℕ → Bool) (p : ℕ) (f : ℕ → Reader B) {x : ℕ} {ys : List ℕ} {b : B} → fits x ≡ true → Reads s (f x) ys b → Reads s (judged s fits p >>= f) (x ∷ ys) b
+  pub reads-judged : {B : Type 0} (allowed : ℕ → Bool) (p : ℕ) (f : ℕ → Reader B) {x : ℕ} {ys : List ℕ} {b : B} → allowed x ≡ true → Reads s (f x) ys b → Reads s (judged s allowed p >>= f) (x ∷ ys) b
   unfolding judged
-  reads-judged fits p f {x} e k = reads-bind f (reads-byte p _ (reads-need (fits x) outOfRange p e reads-give)) k
+  reads-judged allowed p f {x} e k = reads-bind f (reads-byte p _ (reads-need (allowed x) outOfRange p e reads-give)) k
 
   pub reads-here : {A : Type 0} (f : ℕ → Reader A) {w : List ℕ} {a : A} → ((p : ℕ) → Reads s (f p) w a) → Reads s (here f) w a
   reads-here f h = record { run = λ at rest e. h at .run at rest e }
@@ -107,11 +107,11 @@ module _ (s : List ℕ) (small : Bytes s) where
           (record { is = rw (y, ← x) (drop-cons s at 0 (ltb-true at (length s) h)) }, rw x at (small at))
       go false h e = let z : _≡_ {A = ℕ} 0 1 = cc in absurd (omega arith)
 
-  pub took-judged : (fits : ℕ → Bool) (p at b n : ℕ) → judged s fits p at ≡ got b n → Took s at (b ∷ []) n × (fits b ≡ true)
+  pub took-judged : (allowed : ℕ → Bool) (p at b n : ℕ) → judged s allowed p at ≡ got b n → Took s at (b ∷ []) n × (allowed b ≡ true)
   unfolding judged
-  took-judged fits p at b n e =
+  took-judged allowed p at b n e =
       split (byte s p at) e λ x m e₁ e₂.
-      needed (fits x) _ _ _ _ e₂ λ t e₃.
+      needed (allowed x) _ _ _ _ e₂ λ t e₃.
       gave e₃ λ w y.
       rw (← w, ← y) (took-byte p at x m e₁ .0, t)
 

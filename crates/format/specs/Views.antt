@@ -1,5 +1,4 @@
--- Where written bytes stand inside others, and what stands at the places within them: what a walk over bytes that were once
--- read goes by.
+-- Where written bytes stand inside others, and what stands at the places within them: what a look at known bytes goes by.
 use Prim.Native.Nat.{ℕ, _+_, _-_, _≤_, _<_}
 use native.Mathlib.Omega.{arith}
 use native.Mathlib.Nat.{zero-add, add-zero}

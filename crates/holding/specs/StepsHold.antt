@@ -49,11 +49,11 @@ bare-of (shape o (some (d ∷ c))) h = let z : _≡_ {A = ℕ} 0 1 = cc in absur
 
 -- ---- a rule beside the real one
 
--- What is made holds what is really made.
+-- What a rule makes holds what the real rule makes.
 abbrev Made : Ruling Ty → Option RealShape → Type 0
 Made a o = (x : Ty) (z : RealShape) → a ≡ gives x → o ≡ some z → HoldsBare x z
 
--- Where the types taken hold the real shapes taken, what is made holds what is really made. Q is what is asked of the stack.
+-- Where the types taken hold the real shapes taken, what the rule makes holds what the real one makes. Q is what is asked of the stack.
 abbrev Preserves : (Stack → Type 0) → Rule Ty (Ruling Ty) → Rule RealShape (Option RealShape) → Type 0
 Preserves Q (ofNone a) (ofNone o) = Made a o
 Preserves Q (ofNone a) (ofOne g) = ⊥

@@ -1,4 +1,4 @@
--- What stands at a place inside bytes that are known: a type, a scalar, a name or fields, within the limits and at most d deep.
+-- What stands at a place inside bytes that are known: a type, sizes, a scalar, a name or fields, within the limits and at most d deep.
 -- Who looks at such bytes goes by these, and judges nothing. Where the bytes lie is of no account.
 use Prim.Native.Nat.{ℕ, _+_, _-_, _≤_, _<_}
 use mathlib.Core.Bool.{Bool, true, false}
@@ -18,6 +18,7 @@ use Rattle.known.specs.declared.Span.{Span}
 use Rattle.known.specs.declared.View.{View}
 use Rattle.known.specs.declared.View.the-variants.{Plain, BoxAny, BoxAll, BoxDef}
 
+-- The one relation for bytes that are a type: from place `at` on they are those of t, its shape first.
 pub record TypeAt (s : List ℕ) (at d : ℕ) (t : Ty) : Type 0 where
   pub stands : Stands s at (writeTy t)
   pub records : RecordsWithin t
@@ -52,7 +53,7 @@ pub record FieldsAt (s : List ℕ) (at d : ℕ) (f : Fields) : Type 0 where
 
 -- ---- that one stands there
 
--- as many sizes
+-- so many sizes
 pub record HasDims (s : List ℕ) (at count : ℕ) : Type 0 where
   pub dims : List Dim
   pub there : DimsAt s at dims
@@ -75,7 +76,7 @@ pub record HasName (s : List ℕ) (at : ℕ) : Type 0 where
   pub name : Option (List ℕ)
   pub there : NameAt s at name
 
--- as many fields
+-- so many fields
 pub record HasFields (s : List ℕ) (at d count : ℕ) : Type 0 where
   pub fields : Fields
   pub there : FieldsAt s at d fields

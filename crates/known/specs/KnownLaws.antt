@@ -44,7 +44,7 @@ module _ (s : List ℕ) (at d : ℕ) where
     shallow = h .shallow;
   }
 
-  -- a Def: its name, the count of its fields, and they
+  -- a Def: its name, the count of its fields, and the fields
   module _ {n : Option (List ℕ)} {f : Fields} (h : ScalarAt s at d (boxDef n f)) where
     def-stands : Stands s (at + 6) ((countOf n ∷ listOf n) ++ (fieldCount f ∷ writeFields f))
     unfolding writeScalar

@@ -1,5 +1,6 @@
-// Bytes that are known to be a type: what stands where in them. Nothing is judged here. Beside `record`, which judges, and
-// `writer`, which writes, this crate alone knows where marks stand in a record and how many bytes a size has.
+// Bytes that are known to be a type: what stands where in them, and one kind put for another. Nothing is judged here. Beside `record`,
+// which judges, `writer`, which writes, and the constant records of `limits`, this crate alone knows where marks stand in a record and
+// how many bytes a size has.
 mod names;
 mod scalars;
 mod shapes;
@@ -16,8 +17,8 @@ pub use shapes::shape_at;
 pub use spans::field_at;
 pub use spans::span_at;
 
-// What a scalar is: a kind's code, and the place after it; where an All box's content begins; where a Def's name begins, which
-// stands behind its length, whether it has one, where its fields begin, and how many they are.
+// What a scalar is: a kind's code, and the place after it; where an All box's content begins; where the length
+// of a Def's name stands, before the name, whether it has one, where its fields begin, and how many they are.
 pub enum View {
     Plain {
         code: u64,

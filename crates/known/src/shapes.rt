@@ -16,7 +16,7 @@ ghost use Rattle.record.specs.Answers.{dimsOf, shapeFor};
 ghost use Rattle.rules.specs.Shapes.{isAny};
 ghost use Rattle.known.specs.Known.{TypeAt, DimsAt, HasType, HasDims};
 
-// As many sizes from a place on.
+// So many sizes from a place on.
 fn dims_at(s: &[u8], start: usize, count: usize) -> Dims
     requires { ⌜ HasDims (now s) start count ⌝ }
     ensures { λ r. ⌜ ((ds : List Dim) → DimsAt (now (s .entry)) start ds → length ds ≡ count → dimsOf r ≡ ds) ⌝ }

@@ -10,7 +10,7 @@ use lib.Seq.{length-take-le, take-at, drop-drop, drop-at}
 abbrev pub over : List ℕ → ℕ → List ℕ → List ℕ
 over d at w = take at d ++ w ++ drop (at + length w) d
 
-module _ (d : List ℕ) (at : ℕ) (w : List ℕ) (fits : at + length w ≤ length d) where
+module _ (d : List ℕ) (at : ℕ) (w : List ℕ) (inside : at + length w ≤ length d) where
   head-length : length (take at d ++ w) ≡ at + length w
   head-length = simp length-append (omega (arith, length-take-le at d (omega arith)))
 

@@ -37,6 +37,9 @@ pub const MAX_STACK: usize = 8;
 // Bytes of scratch: room of MAX_BYTES for each type on the stack.
 pub const SCRATCH_BYTES: usize = MAX_STACK * MAX_BYTES;
 
+// Bytes of a result that is never too short: MAX_BYTES for each type that can be left.
+pub const RESULT_BYTES: usize = MAX_STACK * MAX_BYTES;
+
 // Bytes of a sheet that the program reads.
 pub const MAX_SHEET: usize = 49152;
 

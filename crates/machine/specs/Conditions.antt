@@ -38,7 +38,7 @@ ArgumentFillsNothing (flags f g) = flagByte f g ≡ 0
 abbrev pub FillsNothing : Step → Type 0
 FillsNothing x = ArgumentFillsNothing (argumentOf x)
 
--- Asked only where a test says yes; and asked there, while nothing passes where it says no.
+-- `Where`: asked where a test says yes, and elsewhere nothing is asked. `Only`: asked where it says yes, and elsewhere nothing passes.
 abbrev pub Where : Bool → Type 0 → Type 0
 Where true P = P
 Where false P = Unit {0}

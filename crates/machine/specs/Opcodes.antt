@@ -1,4 +1,4 @@
--- What holds of each of the listed marks holds of every one: a fact that can be tested is shown of all of them by one computation.
+-- What is so of each of the listed opcodes is so of every one: a fact that can be tested is shown of all of them by one computation.
 use Prim.Native.Nat.{_≤_}
 use mathlib.Core.Bool.{Bool, true, _&&_}
 use mathlib.Core.List.{List, [], _∷_}

@@ -70,7 +70,7 @@ abbrev pub keeps : JoinSide → RealShape → RealShape → RealShape
 keeps theTop r q = r
 keeps theOneBelow r q = q
 
--- What a step is fed: a put a real shape, a join the side that it keeps, the others nothing. And all steps.
+-- What a step is fed: a put a real shape, a join the side that it keeps, the others nothing. And what all steps are fed.
 abbrev pub FeedOf : Option Ty → Bool → Type 0
 FeedOf (some t) b = RealShape
 FeedOf none true = JoinSide

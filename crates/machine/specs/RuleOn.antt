@@ -1,5 +1,5 @@
 -- What a rule makes of a stack, whichever step's it is: the height, what it lacks and what it has no room for, and what is kept by it.
--- So a fact of all steps is one of each step's rule, and of the stack no more need be said.
+-- So a fact about all steps follows from one about each step's rule, without looking at the stack again.
 use Prim.Native.Nat.{ℕ, suc, _+_, _-_, _≤_, _<_}
 use native.Mathlib.Omega.{arith}
 use mathlib.Core.Bool.{Bool, true, false, cond}

@@ -73,7 +73,7 @@ module _ (s : List ℕ) where
   abbrev pub toEnd : {A : Type 0} → A → Reader A → Reader A
   toEnd a more = λ at. cond (ltb at (length s)) (more at) (got a at)
 
-  -- From any state, with at most n steps more: one past them is step 65.
+  -- From any state, with at most n steps more; a step past them is refused as step 65 is.
   unfoldable pub sheetMore : ℕ → State Stack → Reader (State Stack)
   sheetMore zero st = toEnd st (here (stop overflow))
   sheetMore (suc n) st = toEnd st do

@@ -1,5 +1,5 @@
 -- The limits of a sheet (document 01, "The sheet, added"), each named once and derived from its parts where it has some. Definitions
--- and theorems cite the names and never the numbers; those stand in Examples, once.
+-- and theorems cite the names and never the numbers, which Examples sets beside the names.
 use Prim.Native.Nat.{ℕ, _*_}
 use Rattle.model.specs.Limits.{maxBytes}
 

@@ -21,7 +21,7 @@ use Rattle.ty.specs.Calls.{offered, deliverBoxes}
 use Rattle.val.specs.Values.{Row, rowNumber, rowTyped, written as rowWritten, deliverRow}
 use Rattle.velgrodis.specs.declared.Answer.{Answer}
 use Rattle.velgrodis.specs.Answers.{answered, written, listed, deliverSizes, rowed, checked}
-use Rattle.numbered.specs.Calls.{beside, besideRow, besideBoth, KeepsTo}
+use Rattle.numbered.specs.Calls.{beside, besideRow, besideBoth, RefusesOnly}
 
 -- ---- outcomes
 
@@ -49,52 +49,52 @@ module _ {A B : Type 0} {ns : List ℕ} where
 abbrev pub NotRefused : Answer → Type 0
 NotRefused r = r .kind ≡ 0 → ⊥
 
-pub answered-keeps : {A : Type 0} (ns : List ℕ) (f : A → Answer) → ((a : A) → NotRefused (f a)) → (o : Outcome A) → RefusedWith ns o → KeepsTo ns (answered f o)
-answered-keeps ns f g (accepted a) h = λ e. absurd (g a e)
-answered-keeps ns f g (refused k p) h = λ e. h .number-is k p refl
+pub answered-only : {A : Type 0} (ns : List ℕ) (f : A → Answer) → ((a : A) → NotRefused (f a)) → (o : Outcome A) → RefusedWith ns o → RefusesOnly ns (answered f o)
+answered-only ns f g (accepted a) h = λ e. absurd (g a e)
+answered-only ns f g (refused k p) h = λ e. h .number-is k p refl
 
 -- of a result: too short besides
-pub written-keeps : (ns : List ℕ) → Among ns tooShort → (o : Outcome (List ℕ)) (result : List ℕ) → RefusedWith ns o → KeepsTo ns (beside (written (deliver o result)))
+pub written-only : (ns : List ℕ) → Among ns tooShort → (o : Outcome (List ℕ)) (result : List ℕ) → RefusedWith ns o → RefusesOnly ns (beside (written (deliver o result)))
 unfolding deliver
-written-keeps ns short (refused k p) result h = λ e. h .number-is k p refl
-written-keeps ns short (accepted w) result h = go (leb (length w) (length result))
+written-only ns short (refused k p) result h = λ e. h .number-is k p refl
+written-only ns short (accepted w) result h = go (leb (length w) (length result))
   where
-    go : (t : Bool) → KeepsTo ns (beside (written (cond t (delivery (accepted (length w)) (w ++ drop (length w) result)) (delivery (refused tooShort 0) result))))
+    go : (t : Bool) → RefusesOnly ns (beside (written (cond t (delivery (accepted (length w)) (w ++ drop (length w) result)) (delivery (refused tooShort 0) result))))
     go true = λ e. absurd (omega arith)
     go false = λ e. short
 
 -- of a list of boxes or of sizes, which may be none
-offered-keeps : (ns : List ℕ) → Among ns tooShort → (w result : List ℕ) → KeepsTo ns (beside (listed (offered (deliver (accepted w) result))))
+offered-only : (ns : List ℕ) → Among ns tooShort → (w result : List ℕ) → RefusesOnly ns (beside (listed (offered (deliver (accepted w) result))))
 unfolding deliver
-offered-keeps ns short w result = go (leb (length w) (length result))
+offered-only ns short w result = go (leb (length w) (length result))
   where
-    go : (t : Bool) → KeepsTo ns (beside (listed (offered (cond t (delivery (accepted (length w)) (w ++ drop (length w) result)) (delivery (refused tooShort 0) result)))))
+    go : (t : Bool) → RefusesOnly ns (beside (listed (offered (cond t (delivery (accepted (length w)) (w ++ drop (length w) result)) (delivery (refused tooShort 0) result)))))
     go true = λ e. absurd (omega arith)
     go false = λ e. short
 
-pub boxes-keeps : (ns : List ℕ) → Among ns tooShort → (o : Outcome (Option Boxes)) (result : List ℕ) → RefusedWith ns o → KeepsTo ns (beside (listed (deliverBoxes o result)))
+pub boxes-only : (ns : List ℕ) → Among ns tooShort → (o : Outcome (Option Boxes)) (result : List ℕ) → RefusedWith ns o → RefusesOnly ns (beside (listed (deliverBoxes o result)))
 unfolding deliverBoxes
-boxes-keeps ns short (refused k p) result h = λ e. h .number-is k p refl
-boxes-keeps ns short (accepted none) result h = λ e. absurd (omega arith)
-boxes-keeps ns short (accepted (some b)) result h = offered-keeps ns short (writeBoxes b) result
+boxes-only ns short (refused k p) result h = λ e. h .number-is k p refl
+boxes-only ns short (accepted none) result h = λ e. absurd (omega arith)
+boxes-only ns short (accepted (some b)) result h = offered-only ns short (writeBoxes b) result
 
-pub sizes-keeps : (ns : List ℕ) → Among ns tooShort → (o : Outcome (Option (List Dim))) (sizes : List ℕ) → RefusedWith ns o → KeepsTo ns (beside (listed (deliverSizes o sizes)))
+pub sizes-only : (ns : List ℕ) → Among ns tooShort → (o : Outcome (Option (List Dim))) (sizes : List ℕ) → RefusedWith ns o → RefusesOnly ns (beside (listed (deliverSizes o sizes)))
 unfolding deliverSizes
-sizes-keeps ns short (refused k p) sizes h = λ e. h .number-is k p refl
-sizes-keeps ns short (accepted none) sizes h = λ e. absurd (omega arith)
-sizes-keeps ns short (accepted (some ds)) sizes h = offered-keeps ns short (map dimNumber ds) sizes
+sizes-only ns short (refused k p) sizes h = λ e. h .number-is k p refl
+sizes-only ns short (accepted none) sizes h = λ e. absurd (omega arith)
+sizes-only ns short (accepted (some ds)) sizes h = offered-only ns short (map dimNumber ds) sizes
 
 -- of a value's row, a number or a type
-rowed-keeps : (ns : List ℕ) (before : Float) (d : Delivery) → KeepsTo ns (beside (written d)) → KeepsTo ns (besideRow (rowed before (rowWritten d)))
-rowed-keeps ns before (delivery o buffer) h = h
+rowed-only : (ns : List ℕ) (before : Float) (d : Delivery) → RefusesOnly ns (beside (written d)) → RefusesOnly ns (besideRow (rowed before (rowWritten d)))
+rowed-only ns before (delivery o buffer) h = h
 
-pub row-keeps : (ns : List ℕ) → Among ns tooShort → (before : Float) (o : Outcome Row) (result : List ℕ) → RefusedWith ns o → KeepsTo ns (besideRow (rowed before (deliverRow o result)))
+pub row-only : (ns : List ℕ) → Among ns tooShort → (before : Float) (o : Outcome Row) (result : List ℕ) → RefusedWith ns o → RefusesOnly ns (besideRow (rowed before (deliverRow o result)))
 unfolding deliverRow
-row-keeps ns short before (refused k p) result h = rowed-keeps ns before (deliver (refused k p) result) (written-keeps ns short (refused k p) result (refused-with (h .number-is k p refl)))
-row-keeps ns short before (accepted (rowNumber x)) result h = λ e. absurd (omega arith)
-row-keeps ns short before (accepted (rowTyped t)) result h = rowed-keeps ns before (deliver (accepted (writeTy t)) result) (written-keeps ns short (accepted (writeTy t)) result accepted-with)
+row-only ns short before (refused k p) result h = rowed-only ns before (deliver (refused k p) result) (written-only ns short (refused k p) result (refused-with (h .number-is k p refl)))
+row-only ns short before (accepted (rowNumber x)) result h = λ e. absurd (omega arith)
+row-only ns short before (accepted (rowTyped t)) result h = rowed-only ns before (deliver (accepted (writeTy t)) result) (written-only ns short (accepted (writeTy t)) result accepted-with)
 
 -- of a sheet
-pub sheet-keeps : (ns : List ℕ) (c : Called) → RefusedWith ns (answerIn c) → KeepsTo ns (besideBoth (checked c))
-sheet-keeps ns (called (accepted (tally n b)) result scratch) h = λ e. absurd (omega arith)
-sheet-keeps ns (called (refused k p) result scratch) h = λ e. h .number-is k p refl
+pub sheet-only : (ns : List ℕ) (c : Called) → RefusedWith ns (answerIn c) → RefusesOnly ns (besideBoth (checked c))
+sheet-only ns (called (accepted (tally n b)) result scratch) h = λ e. absurd (omega arith)
+sheet-only ns (called (refused k p) result scratch) h = λ e. h .number-is k p refl

@@ -200,5 +200,5 @@ numbersOf (vg-as-dims kind x list t sizes) = ofSizesWritten
 numbersOf (vg-check-sheet sheet result scratch) = ofSheetCall
 
 -- An answer of kind 0, which is a refusal, has one of these numbers.
-abbrev pub KeepsTo : List ℕ → Answer → Type 0
-KeepsTo ns r = r .kind ≡ 0 → Among ns (r .number)
+abbrev pub RefusesOnly : List ℕ → Answer → Type 0
+RefusesOnly ns r = r .kind ≡ 0 → Among ns (r .number)

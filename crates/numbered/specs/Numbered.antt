@@ -37,12 +37,12 @@ use Rattle.velgrodis.specs.Answers.{orNothing, numbered, counted, told, tested,
 use Rattle.velgrodis.specs.Codes.{pervadeFlagged, sideFor, sided, handedIn}
 use Rattle.demand.specs.Numbers.{ofLone, ofSheetCall, RefusedWith}
 use Rattle.demand.specs.Numbered.{among-more, accepted-with, refused-with, lone-numbered, mapped-numbered, call-numbered}
-use Rattle.numbered.specs.Calls.{Call, replyTo, ofSizes, ofWritten, ofPervaded, ofShapeChecked, ofValidated, ofSize, ofSizesWritten, ofResult, numbersOf, KeepsTo}
+use Rattle.numbered.specs.Calls.{Call, replyTo, ofSizes, ofWritten, ofPervaded, ofShapeChecked, ofValidated, ofSize, ofSizesWritten, ofResult, numbersOf, RefusesOnly}
 use Rattle.numbered.specs.Calls.{vg-dim-cmp, vg-dim-cmp-defined, vg-dim-max, vg-dim-join, vg-dim-compatible, vg-dim-row-compatible, vg-merge, vg-join-shapes, vg-compatible-shapes, vg-row-shape, vg-shape-is-any}
 use Rattle.numbered.specs.Calls.{vg-shape-is-scalar, vg-row-count, vg-rank, vg-pervade, vg-union, vg-unrefine, vg-superset, vg-compatible-scalars, vg-compatible-with-boxes, vg-compare, vg-read, vg-shape-record}
 use Rattle.numbered.specs.Calls.{vg-scalar-record, vg-row, vg-first-row, vg-last-row, vg-unboxed, vg-as-boxes, vg-nth-row, vg-field, vg-join, vg-validate, vg-check-shape, vg-check-scalar, vg-val-ty, vg-val-spec}
 use Rattle.numbered.specs.Calls.{vg-val-scalar, vg-as-dims, vg-val-row-count, vg-val-rank, vg-as-dim, vg-val-row, vg-val-first-row, vg-val-last-row, vg-nums-scalar, vg-check-sheet}
-use Rattle.numbered.specs.CallLaws.{more-numbered, either-numbered, bound-numbered, both-numbered, NotRefused, answered-keeps, written-keeps, boxes-keeps, sizes-keeps, row-keeps, sheet-keeps}
+use Rattle.numbered.specs.CallLaws.{more-numbered, either-numbered, bound-numbered, both-numbered, NotRefused, answered-only, written-only, boxes-only, sizes-only, row-only, sheet-only}
 use Rattle.numbered.specs.ValueLaws.{ty-with, row-count-with, spec-with, as-dim-with, as-dims-with, handed-with}
 
 -- ---- answers alone are no refusals
@@ -60,23 +60,23 @@ stretched-not-refused : (s : Stretch) → NotRefused (stretched s)
 stretched-not-refused (stretch start length) = λ e. absurd (omega arith)
 
 module _ (ns : List ℕ) where
-  counted-keeps : (o : Outcome ℕ) → RefusedWith ns o → KeepsTo ns (counted o)
-  counted-keeps o h = answered-keeps ns numbered (λ n e. absurd (omega arith)) o h
+  counted-only : (o : Outcome ℕ) → RefusedWith ns o → RefusesOnly ns (counted o)
+  counted-only o h = answered-only ns numbered (λ n e. absurd (omega arith)) o h
 
-  tested-keeps : (o : Outcome Bool) → RefusedWith ns o → KeepsTo ns (tested o)
-  tested-keeps o h = answered-keeps ns told (λ t e. absurd (omega arith)) o h
+  tested-only : (o : Outcome Bool) → RefusedWith ns o → RefusesOnly ns (tested o)
+  tested-only o h = answered-only ns told (λ t e. absurd (omega arith)) o h
 
-  sized-keeps : (o : Outcome Dim) → RefusedWith ns o → KeepsTo ns (sized o)
-  sized-keeps o h = answered-keeps ns dimmed (λ d e. absurd (omega arith)) o h
+  sized-only : (o : Outcome Dim) → RefusedWith ns o → RefusesOnly ns (sized o)
+  sized-only o h = answered-only ns dimmed (λ d e. absurd (omega arith)) o h
 
-  sizedOrNone-keeps : (o : Outcome (Option Dim)) → RefusedWith ns o → KeepsTo ns (sizedOrNone o)
-  sizedOrNone-keeps o h = answered-keeps ns (orNothing dimmed) (orNothing-not-refused dimmed (λ d e. absurd (omega arith))) o h
+  sizedOrNone-only : (o : Outcome (Option Dim)) → RefusedWith ns o → RefusesOnly ns (sizedOrNone o)
+  sizedOrNone-only o h = answered-only ns (orNothing dimmed) (orNothing-not-refused dimmed (λ d e. absurd (omega arith))) o h
 
-  compared-keeps : (o : Outcome Order) → RefusedWith ns o → KeepsTo ns (compared o)
-  compared-keeps o h = answered-keeps ns ordered ordered-not-refused o h
+  compared-only : (o : Outcome Order) → RefusedWith ns o → RefusesOnly ns (compared o)
+  compared-only o h = answered-only ns ordered ordered-not-refused o h
 
-  found-keeps : (o : Outcome (Option Stretch)) → RefusedWith ns o → KeepsTo ns (found o)
-  found-keeps o h = answered-keeps ns (orNothing stretched) (orNothing-not-refused stretched stretched-not-refused) o h
+  found-only : (o : Outcome (Option Stretch)) → RefusedWith ns o → RefusesOnly ns (found o)
+  found-only o h = answered-only ns (orNothing stretched) (orNothing-not-refused stretched stretched-not-refused) o h
 
 -- ---- the numbers of a type that is read are among those of each call on types
 
@@ -189,81 +189,81 @@ shape-with side (ty s k) (ty t l) = mapped-numbered (λ u. ty u l) (checkShape s
 -- ---- every call
 
 -- "Gets its result or one of thirteen numbered refusals": each call, one of its own.
-pub call-keeps : (c : Call) → KeepsTo (numbersOf c) (replyTo c)
+pub call-refuses-only : (c : Call) → RefusesOnly (numbersOf c) (replyTo c)
 unfolding replyTo
-call-keeps (vg-dim-cmp a b) = compared-keeps ofSizes (cmpCall a b) (sizes-with cmpDim a b)
-call-keeps (vg-dim-cmp-defined a b) = compared-keeps ofSizes (cmpDefinedCall a b) (sizes-with cmpDefined a b)
-call-keeps (vg-dim-max a b) = sized-keeps ofSizes (maxCall a b) (sizes-with larger a b)
-call-keeps (vg-dim-join a b) = sized-keeps ofSizes (joinSizesCall a b) (sizes-with joinDim a b)
-call-keeps (vg-dim-compatible a b) = tested-keeps ofSizes (compatibleCall a b) (sizes-with compatible a b)
-call-keeps (vg-dim-row-compatible a b) = tested-keeps ofSizes (rowCompatibleCall a b) (sizes-with rowCompatible a b)
-call-keeps (vg-merge a b result) = written-keeps ofWritten refl (mergeCall a b) result (of-shapes lone-written (λ s t. writeShape (mergeFrom s t)) a b)
-call-keeps (vg-join-shapes a b result) = written-keeps ofWritten refl (joinShapesCall a b) result (of-shapes lone-written (λ s t. writeShape (joinShapes s t)) a b)
-call-keeps (vg-compatible-shapes a b) = tested-keeps ofLone (compatibleShapesCall a b) (of-shapes lone-lone compatibleShapes a b)
-call-keeps (vg-row-shape t result) = written-keeps ofWritten refl (rowCall t) result (of-shape lone-written (λ s. writeShape (rowShape s)) t)
-call-keeps (vg-shape-is-any t) = tested-keeps ofLone (isAnyCall t) (of-shape lone-lone isAny t)
-call-keeps (vg-shape-is-scalar t) = tested-keeps ofLone (isScalarCall t) (of-shape lone-lone isScalar t)
-call-keeps (vg-row-count t) = sized-keeps ofLone (rowCountCall t) (of-shape lone-lone rowCount t)
-call-keeps (vg-rank t) = counted-keeps ofLone (rankCall t) (of-shape lone-lone rank t)
-call-keeps (vg-pervade flag a b result) = written-keeps ofPervaded refl (pervadeFlagged flag a b) result (flagged-with flag a b)
-call-keeps (vg-union a b result) =
-    written-keeps ofWritten refl (ofScalars (λ k l. writeScalar (union k l)) a b) result
+call-refuses-only (vg-dim-cmp a b) = compared-only ofSizes (cmpCall a b) (sizes-with cmpDim a b)
+call-refuses-only (vg-dim-cmp-defined a b) = compared-only ofSizes (cmpDefinedCall a b) (sizes-with cmpDefined a b)
+call-refuses-only (vg-dim-max a b) = sized-only ofSizes (maxCall a b) (sizes-with larger a b)
+call-refuses-only (vg-dim-join a b) = sized-only ofSizes (joinSizesCall a b) (sizes-with joinDim a b)
+call-refuses-only (vg-dim-compatible a b) = tested-only ofSizes (compatibleCall a b) (sizes-with compatible a b)
+call-refuses-only (vg-dim-row-compatible a b) = tested-only ofSizes (rowCompatibleCall a b) (sizes-with rowCompatible a b)
+call-refuses-only (vg-merge a b result) = written-only ofWritten refl (mergeCall a b) result (of-shapes lone-written (λ s t. writeShape (mergeFrom s t)) a b)
+call-refuses-only (vg-join-shapes a b result) = written-only ofWritten refl (joinShapesCall a b) result (of-shapes lone-written (λ s t. writeShape (joinShapes s t)) a b)
+call-refuses-only (vg-compatible-shapes a b) = tested-only ofLone (compatibleShapesCall a b) (of-shapes lone-lone compatibleShapes a b)
+call-refuses-only (vg-row-shape t result) = written-only ofWritten refl (rowCall t) result (of-shape lone-written (λ s. writeShape (rowShape s)) t)
+call-refuses-only (vg-shape-is-any t) = tested-only ofLone (isAnyCall t) (of-shape lone-lone isAny t)
+call-refuses-only (vg-shape-is-scalar t) = tested-only ofLone (isScalarCall t) (of-shape lone-lone isScalar t)
+call-refuses-only (vg-row-count t) = sized-only ofLone (rowCountCall t) (of-shape lone-lone rowCount t)
+call-refuses-only (vg-rank t) = counted-only ofLone (rankCall t) (of-shape lone-lone rank t)
+call-refuses-only (vg-pervade flag a b result) = written-only ofPervaded refl (pervadeFlagged flag a b) result (flagged-with flag a b)
+call-refuses-only (vg-union a b result) =
+    written-only ofWritten refl (ofScalars (λ k l. writeScalar (union k l)) a b) result
     (of-types lone-written (λ t u. writeScalar (union (scalarOf t) (scalarOf u))) a b)
-call-keeps (vg-unrefine t result) = written-keeps ofWritten refl (ofScalar (λ k. writeScalar (unrefine k)) t) result (of-one lone-written (λ u. writeScalar (unrefine (scalarOf u))) t)
-call-keeps (vg-superset a b) = tested-keeps ofLone (ofScalars supersetOf a b) (of-types lone-lone (λ t u. supersetOf (scalarOf t) (scalarOf u)) a b)
-call-keeps (vg-compatible-scalars a b) = tested-keeps ofLone (ofScalars compatibleScalars a b) (of-types lone-lone (λ t u. compatibleScalars (scalarOf t) (scalarOf u)) a b)
-call-keeps (vg-compatible-with-boxes a b) = tested-keeps ofLone (ofScalars compatibleWithBoxes a b) (of-types lone-lone (λ t u. compatibleWithBoxes (scalarOf t) (scalarOf u)) a b)
-call-keeps (vg-compare a b) = compared-keeps ofLone (ofTypes compare a b) (of-types lone-lone compare a b)
-call-keeps (vg-read t) = counted-keeps ofLone (mapped nothing (lone t)) (of-one lone-lone nothing t)
-call-keeps (vg-shape-record t result) = written-keeps ofWritten refl (mapped shapeRecord (lone t)) result (of-one lone-written shapeRecord t)
-call-keeps (vg-scalar-record t result) = written-keeps ofWritten refl (mapped scalarRecord (lone t)) result (of-one lone-written scalarRecord t)
-call-keeps (vg-row t result) = written-keeps ofWritten refl (mapped (λ u. writeTy (intoRow u)) (lone t)) result (of-one lone-written (λ u. writeTy (intoRow u)) t)
-call-keeps (vg-first-row t result) = written-keeps ofWritten refl (mapped (λ u. writeTy (intoFirstRow u)) (lone t)) result (of-one lone-written (λ u. writeTy (intoFirstRow u)) t)
-call-keeps (vg-last-row t result) = written-keeps ofWritten refl (mapped (λ u. writeTy (intoLastRow u)) (lone t)) result (of-one lone-written (λ u. writeTy (intoLastRow u)) t)
-call-keeps (vg-nth-row t n result) = written-keeps ofWritten refl (mapped (λ u. writeTy (intoNthRow n u)) (lone t)) result (of-one lone-written (λ u. writeTy (intoNthRow n u)) t)
-call-keeps (vg-unboxed t result) = written-keeps ofWritten refl (mapped (λ u. writeTy (unboxed u)) (lone t)) result (of-one lone-written (λ u. writeTy (unboxed u)) t)
-call-keeps (vg-as-boxes t result) = boxes-keeps ofWritten refl (bound asBoxes (lone t)) result (from-one lone-written asBoxes boxes-with t)
-call-keeps (vg-field t n) = found-keeps ofLone (mapped (fieldPlace n) (lone t)) (of-one lone-lone (fieldPlace n) t)
-call-keeps (vg-join a b result) = written-keeps ofWritten refl (joinTypesCall a b) result (of-types lone-written (λ t u. writeTy (joinTypes t u)) a b)
-call-keeps (vg-validate side spec t result) = written-keeps ofValidated refl (sided validate side spec t) result (sided-with lone-validated validate validate-with side spec t)
-call-keeps (vg-check-shape side spec t result) =
-    written-keeps ofShapeChecked refl (sided checkShapeOnly side spec t) result
+call-refuses-only (vg-unrefine t result) = written-only ofWritten refl (ofScalar (λ k. writeScalar (unrefine k)) t) result (of-one lone-written (λ u. writeScalar (unrefine (scalarOf u))) t)
+call-refuses-only (vg-superset a b) = tested-only ofLone (ofScalars supersetOf a b) (of-types lone-lone (λ t u. supersetOf (scalarOf t) (scalarOf u)) a b)
+call-refuses-only (vg-compatible-scalars a b) = tested-only ofLone (ofScalars compatibleScalars a b) (of-types lone-lone (λ t u. compatibleScalars (scalarOf t) (scalarOf u)) a b)
+call-refuses-only (vg-compatible-with-boxes a b) = tested-only ofLone (ofScalars compatibleWithBoxes a b) (of-types lone-lone (λ t u. compatibleWithBoxes (scalarOf t) (scalarOf u)) a b)
+call-refuses-only (vg-compare a b) = compared-only ofLone (ofTypes compare a b) (of-types lone-lone compare a b)
+call-refuses-only (vg-read t) = counted-only ofLone (mapped nothing (lone t)) (of-one lone-lone nothing t)
+call-refuses-only (vg-shape-record t result) = written-only ofWritten refl (mapped shapeRecord (lone t)) result (of-one lone-written shapeRecord t)
+call-refuses-only (vg-scalar-record t result) = written-only ofWritten refl (mapped scalarRecord (lone t)) result (of-one lone-written scalarRecord t)
+call-refuses-only (vg-row t result) = written-only ofWritten refl (mapped (λ u. writeTy (intoRow u)) (lone t)) result (of-one lone-written (λ u. writeTy (intoRow u)) t)
+call-refuses-only (vg-first-row t result) = written-only ofWritten refl (mapped (λ u. writeTy (intoFirstRow u)) (lone t)) result (of-one lone-written (λ u. writeTy (intoFirstRow u)) t)
+call-refuses-only (vg-last-row t result) = written-only ofWritten refl (mapped (λ u. writeTy (intoLastRow u)) (lone t)) result (of-one lone-written (λ u. writeTy (intoLastRow u)) t)
+call-refuses-only (vg-nth-row t n result) = written-only ofWritten refl (mapped (λ u. writeTy (intoNthRow n u)) (lone t)) result (of-one lone-written (λ u. writeTy (intoNthRow n u)) t)
+call-refuses-only (vg-unboxed t result) = written-only ofWritten refl (mapped (λ u. writeTy (unboxed u)) (lone t)) result (of-one lone-written (λ u. writeTy (unboxed u)) t)
+call-refuses-only (vg-as-boxes t result) = boxes-only ofWritten refl (bound asBoxes (lone t)) result (from-one lone-written asBoxes boxes-with t)
+call-refuses-only (vg-field t n) = found-only ofLone (mapped (fieldPlace n) (lone t)) (of-one lone-lone (fieldPlace n) t)
+call-refuses-only (vg-join a b result) = written-only ofWritten refl (joinTypesCall a b) result (of-types lone-written (λ t u. writeTy (joinTypes t u)) a b)
+call-refuses-only (vg-validate side spec t result) = written-only ofValidated refl (sided validate side spec t) result (sided-with lone-validated validate validate-with side spec t)
+call-refuses-only (vg-check-shape side spec t result) =
+    written-only ofShapeChecked refl (sided checkShapeOnly side spec t) result
     (sided-with lone-shape-checked checkShapeOnly shape-with side spec t)
-call-keeps (vg-check-scalar spec t result) =
-    written-keeps ofValidated refl (both (λ s u. mapped writeTy (checkScalarOnly s u)) (lone spec) (lone t)) result
+call-refuses-only (vg-check-scalar spec t result) =
+    written-only ofValidated refl (both (λ s u. mapped writeTy (checkScalarOnly s u)) (lone spec) (lone t)) result
     (from-two lone-validated (λ s u. mapped writeTy (checkScalarOnly s u)) scalar-with spec t)
-call-keeps (vg-val-ty kind x list t result) =
-    written-keeps ofWritten refl (mapped writeTy (bound valueTy (handedIn kind x list t))) result
+call-refuses-only (vg-val-ty kind x list t result) =
+    written-only ofWritten refl (mapped writeTy (bound valueTy (handedIn kind x list t))) result
     (mapped-numbered writeTy (bound valueTy (handedIn kind x list t)) (bound-numbered valueTy (handedIn kind x list t) (handed-with lone-written kind x list t) (ty-with refl)))
-call-keeps (vg-val-spec kind x list t result) =
-    written-keeps ofSizesWritten refl (mapped writeTy (bound valueSpec (handedIn kind x list t))) result
+call-refuses-only (vg-val-spec kind x list t result) =
+    written-only ofSizesWritten refl (mapped writeTy (bound valueSpec (handedIn kind x list t))) result
     (mapped-numbered writeTy (bound valueSpec (handedIn kind x list t)) (bound-numbered valueSpec (handedIn kind x list t) (handed-with lone-sizes-written kind x list t) (spec-with (refl, (refl, (refl, tt))))))
-call-keeps (vg-val-scalar kind x list t result) =
-    written-keeps ofWritten refl (mapped writeScalar (mapped valueScalar (handedIn kind x list t))) result
+call-refuses-only (vg-val-scalar kind x list t result) =
+    written-only ofWritten refl (mapped writeScalar (mapped valueScalar (handedIn kind x list t))) result
     (mapped-numbered writeScalar (mapped valueScalar (handedIn kind x list t)) (mapped-numbered valueScalar (handedIn kind x list t) (handed-with lone-written kind x list t)))
-call-keeps (vg-nums-scalar list result) = written-keeps ofResult refl (accepted (writeScalar (numsScalar list))) result accepted-with
-call-keeps (vg-val-row-count kind x list t) =
-    sized-keeps ofLone (bound valueRowCount (handedIn kind x list t))
+call-refuses-only (vg-nums-scalar list result) = written-only ofResult refl (accepted (writeScalar (numsScalar list))) result accepted-with
+call-refuses-only (vg-val-row-count kind x list t) =
+    sized-only ofLone (bound valueRowCount (handedIn kind x list t))
     (bound-numbered valueRowCount (handedIn kind x list t) (handed-with lone-lone kind x list t) (row-count-with refl))
-call-keeps (vg-val-rank kind x list t) =
-    counted-keeps ofLone (mapped valueRank (handedIn kind x list t))
+call-refuses-only (vg-val-rank kind x list t) =
+    counted-only ofLone (mapped valueRank (handedIn kind x list t))
     (mapped-numbered valueRank (handedIn kind x list t) (handed-with lone-lone kind x list t))
-call-keeps (vg-val-row kind x list t before result) =
-    row-keeps ofWritten refl before (mapped valueRow (handedIn kind x list t)) result
+call-refuses-only (vg-val-row kind x list t before result) =
+    row-only ofWritten refl before (mapped valueRow (handedIn kind x list t)) result
     (mapped-numbered valueRow (handedIn kind x list t) (handed-with lone-written kind x list t))
-call-keeps (vg-val-first-row kind x list t before result) =
-    row-keeps ofWritten refl before (mapped valueFirstRow (handedIn kind x list t)) result
+call-refuses-only (vg-val-first-row kind x list t before result) =
+    row-only ofWritten refl before (mapped valueFirstRow (handedIn kind x list t)) result
     (mapped-numbered valueFirstRow (handedIn kind x list t) (handed-with lone-written kind x list t))
-call-keeps (vg-val-last-row kind x list t before result) =
-    row-keeps ofWritten refl before (mapped valueLastRow (handedIn kind x list t)) result
+call-refuses-only (vg-val-last-row kind x list t before result) =
+    row-only ofWritten refl before (mapped valueLastRow (handedIn kind x list t)) result
     (mapped-numbered valueLastRow (handedIn kind x list t) (handed-with lone-written kind x list t))
-call-keeps (vg-as-dim kind x list t) =
-    sizedOrNone-keeps ofSize (bound valueAsDim (handedIn kind x list t))
+call-refuses-only (vg-as-dim kind x list t) =
+    sizedOrNone-only ofSize (bound valueAsDim (handedIn kind x list t))
     (bound-numbered valueAsDim (handedIn kind x list t) (handed-with lone-size kind x list t) (as-dim-with (refl, (refl, tt))))
-call-keeps (vg-as-dims kind x list t sizes) =
-    sizes-keeps ofSizesWritten refl (bound valueAsDims (handedIn kind x list t)) sizes
+call-refuses-only (vg-as-dims kind x list t sizes) =
+    sizes-only ofSizesWritten refl (bound valueAsDims (handedIn kind x list t)) sizes
     (bound-numbered valueAsDims (handedIn kind x list t) (handed-with lone-sizes-written kind x list t) (as-dims-with (refl, (refl, (refl, tt)))))
-call-keeps (vg-check-sheet sheet result scratch) = sheet-keeps ofSheetCall (sheetCall sheet result scratch) (call-numbered sheet result scratch)
+call-refuses-only (vg-check-sheet sheet result scratch) = sheet-only ofSheetCall (sheetCall sheet result scratch) (call-numbered sheet result scratch)
 
 -- ---- the lists are of the thirteen
 
@@ -347,5 +347,5 @@ numbers-thirteen (vg-as-dims kind x list t sizes) = sizes-written-thirteen
 numbers-thirteen (vg-check-sheet sheet result scratch) = sheet-call-thirteen
 
 -- "One of thirteen."
-pub call-thirteen : (c : Call) → KeepsTo thirteen (replyTo c)
-call-thirteen c = λ e. among-more (numbersOf c) thirteen (numbers-thirteen c) (replyTo c .number) (call-keeps c e)
+pub call-thirteen : (c : Call) → RefusesOnly thirteen (replyTo c)
+call-thirteen c = λ e. among-more (numbersOf c) thirteen (numbers-thirteen c) (replyTo c .number) (call-refuses-only c e)

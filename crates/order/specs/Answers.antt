@@ -20,7 +20,7 @@ rankingOf less n = Less
 rankingOf same n = Same n
 rankingOf more n = More
 
--- that it is the order of so many fields from a place on in each of two
+-- the order of so many fields in each of two inputs, from a place on in each
 abbrev pub FieldsRanked : List ℕ → ℕ → ℕ → List ℕ → ℕ → ℕ → ℕ → Ranking → Type 0
 FieldsRanked a i count b j number d r =
     (f g : Fields) → FieldsAt a i d f → FieldsAt b j d g → fieldCount f ≡ count → fieldCount g ≡ number → r ≡ rankingOf (cmpFields f g) (i + length (writeFields f))

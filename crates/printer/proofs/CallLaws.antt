@@ -22,7 +22,7 @@ use Rattle.report.specs.Report.{reported, ifRoom, callOutcome}
 use Rattle.report.specs.Room.{numberRoom, textRoom}
 use Rattle.run.specs.Answers.{Measures, calledOf}
 use Rattle.run.specs.declared.SheetAnswer.{SheetAnswer}
-use Rattle.run.specs.declared.SheetAnswer.the-variants.{Accepted}
+use Rattle.run.specs.declared.SheetAnswer.the-variants.{Accepted, Refused}
 
 -- ---- the outcome of a call with buffers of any length
 
@@ -104,6 +104,9 @@ pub record TypesLeft (s : List ℕ) (n b : ℕ) (out lengths : List ℕ) : Type 
 module _ (s result scratch out after : List ℕ) (a : SheetAnswer) (e : calledOf a out after ≡ sheetCall s result scratch) where
   pub answered-called : {n b : ℕ} → a ≡ Accepted n b → called (accepted (tally n b)) out after ≡ sheetCall s result scratch
   answered-called is = rw is at e
+
+  pub refused-called : {k p : ℕ} → a ≡ Refused k p → called (refused k p) out after ≡ sheetCall s result scratch
+  refused-called is = rw is at e
 
   pub types-left : (lengths : List ℕ) {n b : ℕ} → Bytes s → Measures a lengths (sheetRun s) → a ≡ Accepted n b → TypesLeft s n b out lengths
   types-left lengths {n} {b} small m is =

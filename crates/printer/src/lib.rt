@@ -1,7 +1,7 @@
 // What the program `sheet` prints of the input that it read, put into a buffer, so that the program only reads and writes.
 use limits::MAX_SHEET;
 use limits::MAX_STACK;
-use limits::SCRATCH_BYTES;
+use limits::RESULT_BYTES;
 use limits::refusal::TOO_SHORT;
 use report::HEAD_ROOM;
 use report::LINE_ROOM;
@@ -24,12 +24,12 @@ ghost use Rattle.report.specs.Report.{lineFeed, reported, callOutcome, programO
 ghost use Rattle.report.specs.Room.{textRoom, printRoom};
 ghost use Rattle.streams.specs.Streams.{ToTheEnd};
 
-// Bytes that suffice for the text of any sheet, whose lines end in a line feed each: the first line, and two digits for each byte of
-// as many types as can be left.
-pub const TEXT: usize = HEAD_ROOM + MAX_STACK * (1 + LINE_ROOM) + 2 * SCRATCH_BYTES + 1;
+// Bytes that suffice for the text of any sheet, whose lines end in a line feed each: the first line, what each type's line has beside its
+// bytes, two digits for each byte of as many types as can be left, and the last line feed.
+pub const TEXT: usize = HEAD_ROOM + MAX_STACK * (1 + LINE_ROOM) + 2 * RESULT_BYTES + 1;
 
 // Bytes that suffice for the text of a call, where up to three bytes stand between two lines.
-pub const CALL_TEXT: usize = HEAD_ROOM + MAX_STACK * (3 + LINE_ROOM) + 2 * SCRATCH_BYTES;
+pub const CALL_TEXT: usize = HEAD_ROOM + MAX_STACK * (3 + LINE_ROOM) + 2 * RESULT_BYTES;
 
 // What the program prints: a text of so many bytes, or nothing, since a read failed.
 pub enum Printed {

@@ -60,10 +60,10 @@ examples =
     ∷ thePrint (put3 ++ (0x58 ∷ 0x58 ∷ [])) lineFeed (110 ∷ 111 ∷ 32 ∷ 50 ∷ 32 ∷ 49 ∷ 55 ∷ [])
     ∷ []
 
-pub examples-hold : All Shown examples
+pub examples-shown : All Shown examples
 unfolding examples inside below byte judged number bytesOf code kindOf writeShape writeScalar writeTy
     readMark readDim readDims shapeFrom readName readFields defFrom boxFrom scalarFrom readTy
     cmpDim larger compatible joinDim codeOf supersetCodes supersetOf union againstAbsent together pervadeDims pervadeClosing pervade
     pervadeTypes step opcodeFrom argumentFrom stepFrom workFrom sheetMore sheetFrom sheetRun writeTypes
     hexOf decimalWithin headed typeLine typeLines reported
-examples-hold = (refl, (refl, (refl, (refl, (refl, tt)))))
+examples-shown = (refl, (refl, (refl, (refl, (refl, tt)))))

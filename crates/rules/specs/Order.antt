@@ -14,8 +14,8 @@ codeOf boxAny = boxCode
 codeOf (boxAll s k) = boxCode
 codeOf (boxDef n f) = boxCode
 
--- The place of a kind in the paper's order, by its code: the codes stand in that order. A kind that gets a later code than its
--- place (document 02's Multivector: code 10, between Complex and Ascii) changes this function alone.
+-- The place of a kind in the paper's order, by its code: the codes stand in that order. A kind whose code is later than its place
+-- (document 02's Multivector: code 10, between Complex and Ascii) is put in its place here; which kinds it is over is said in Scalars.
 unfoldable pub kindPlace : ℕ → ℕ
 kindPlace c = c
 

@@ -26,7 +26,7 @@ use Rattle.machine.specs.SheetSteps.{work-unread, work-rule}
 use Rattle.machine.specs.StepsWithin.{pervadeTypes-within}
 use Rattle.stack.specs.Stack.{Stacked, HasStack}
 use Rattle.stack.specs.StackLaws.{stacked-count}
-use Rattle.cursor.specs.Answers.{Stretch, StepIs}
+use Rattle.cursor.specs.Answers.{TypeStands, StepIs}
 use Rattle.cursor.specs.declared.StepRead.{StepRead}
 use Rattle.cursor.specs.declared.StepRead.the-variants.{Put, Row, Pervading, Join, Validating, Refused as Unread}
 use Rattle.run.specs.Answers.{Works, StepWorks, OfTop, OfTwo, Ruled, LaysDown, afterRule, atStart}
@@ -61,13 +61,13 @@ module _ {lengths : List ℕ} {count : ℕ} {d : List ℕ} (has : HasStack lengt
 -- ---- a step that was read
 
 module _ (s : List ℕ) {r : StepRead} {o : Read Step} (read : StepIs r s o) where
-  pub put-read : {C : Type 0} {start n : ℕ} → r ≡ Put start n → ((t : Ty) → o ≡ got (put t) n → Stretch s start n t → C) → C
+  pub put-read : {C : Type 0} {start n : ℕ} → r ≡ Put start n → ((t : Ty) → o ≡ got (put t) n → TypeStands s start n t → C) → C
   put-read {C} {start} {n} is f = go (rw is at read)
     where
       go : StepIs (Put start n) s o → C
       go (t, e, stretch) = f t e stretch
 
-  pub validating-read : {C : Type 0} {start n : ℕ} → r ≡ Validating start n → ((t : Ty) → o ≡ got (validating t) n → Stretch s start n t → C) → C
+  pub validating-read : {C : Type 0} {start n : ℕ} → r ≡ Validating start n → ((t : Ty) → o ≡ got (validating t) n → TypeStands s start n t → C) → C
   validating-read {C} {start} {n} is f = go (rw is at read)
     where
       go : StepIs (Validating start n) s o → C

@@ -8,7 +8,7 @@ use Rattle.model.specs.Types.{Ty}
 use Rattle.model.specs.Within.{Within}
 use Rattle.format.specs.Reader.{Read, got, stopped}
 use Rattle.format.specs.Records.{writeTy}
-use Rattle.format.specs.Outcome.{Outcome, accepted, refused, mapped, lone}
+use Rattle.format.specs.Outcome.{Outcome, accepted, refused, mapped}
 use Rattle.lent.specs.Written.{Puts}
 use Rattle.lent.specs.declared.Written.{Written}
 use Rattle.machine.specs.SheetLimits.{maxStack}
@@ -53,20 +53,16 @@ abbrev pub Runs : Reached → ℕ → ℕ → List ℕ → List ℕ → Read (St
 Runs (At n) count taken lengths d o = (st : State Stack) × (o ≡ got st n) × InState lengths count d taken st
 Runs (Refused k p) count taken lengths d o = o ≡ stopped k p
 
--- So many types on the stack at least, and a buffer that holds any type.
+-- So many types on the stack at least, and a buffer with room for any type.
 abbrev pub Ready : ℕ → List ℕ → ℕ → List ℕ → List ℕ → Type 0
-Ready few lengths count d work = (few ≤ count) × (maxBytes ≤ length work) × HasStack lengths count d
+Ready few lengths count d out = (few ≤ count) × (maxBytes ≤ length out) × HasStack lengths count d
 
--- A step's rule is worked from whatever state the scratch has the stack of: its mark stands at `at`, its bytes end at `next`.
+-- A step's rule, worked from any state whose stack the scratch has: its mark stands at `at`, its bytes end at `next`.
 abbrev pub StepWorks : Step → ℕ → ℕ → List ℕ → ℕ → List ℕ → Worked → List ℕ → List ℕ → Type 0
 StepWorks x at next lengths count d r lengths₁ d₁ =
     (st : State Stack) → Stacked lengths count d (st .stack) → Works (r .answer) lengths₁ (r .count) d₁ (placed (work x st) at next)
 
 -- ---- a rule
-
--- the bytes from start to end are those of a lone type
-abbrev pub Between : ℕ → ℕ → List ℕ → Ty → Type 0
-Between start end d t = lone (take (end - start) (drop start d)) ≡ accepted t
 
 -- a rule's answer as an outcome of its own
 abbrev pub atStart : {A : Type 0} → rules.Ruling A → Outcome A

@@ -25,14 +25,15 @@ ghost use Rattle.validation.specs.CheckShape.{unsided};
 ghost use Rattle.validation.specs.Validate.{validate};
 ghost use Rattle.machine.specs.SheetLimits.{scratchBytes};
 ghost use Rattle.machine.specs.Run.{Stack, pervadeTypes};
+ghost use Rattle.known.specs.Whole.{Between};
 ghost use Rattle.stack.specs.Stack.{Stacked, HasStack};
-ghost use Rattle.run.specs.Answers.{Ready, Between, OfTop, OfTwo, atStart};
+ghost use Rattle.run.specs.Answers.{Ready, OfTop, OfTwo, atStart};
 
 // Where the top stands.
 fn load_top(count: usize, lengths: &[usize]) -> Bounds
     requires { ⌜ ((d : List ℕ) × (1 ≤ count) × HasStack (now lengths) count d) ⌝ }
     ensures { λ r. ⌜ (r .start ≤ r .end) × (r .end ≤ scratchBytes) ⌝ }
-    ensures { λ r. ⌜ ((d : List ℕ) (t : Ty) (ts : Stack) → Stacked (now (lengths .entry)) count d (t ∷ ts) → Between (r .start) (r .end) d t) ⌝ }
+    ensures { λ r. ⌜ ((d : List ℕ) (t : Ty) (ts : Stack) → Stacked (now (lengths .entry)) count d (t ∷ ts) → Between d (r .start) (r .end) t) ⌝ }
 {
     load(lengths, count - 1)
 }
@@ -49,7 +50,7 @@ fn load_two(count: usize, lengths: &[usize]) -> TopTwo
     requires { ⌜ ((d : List ℕ) × (2 ≤ count) × HasStack (now lengths) count d) ⌝ }
     ensures { λ r. ⌜ (r .start ≤ r .end) × (r .end ≤ scratchBytes) × (r .from ≤ r .to) × (r .to ≤ scratchBytes) ⌝ }
     ensures { λ r. ⌜ ((d : List ℕ) (t u : Ty) (ts : Stack) → Stacked (now (lengths .entry)) count d (t ∷ u ∷ ts)
-        → Between (r .start) (r .end) d t × Between (r .from) (r .to) d u) ⌝ }
+        → Between d (r .start) (r .end) t × Between d (r .from) (r .to) u) ⌝ }
 {
     let top = load(lengths, count - 1);
     let below = load(lengths, count - 2);
@@ -119,7 +120,7 @@ fn pervade_types(a: &[u8], b: &[u8], a_fill: bool, b_fill: bool, out: &mut [u8])
 {
     let pervaded = pervade_dyn_shapes(shape_at(a, 0), shape_at(b, 0), a_fill, b_fill);
     let answer = pervaded.answer;
-    if let Pervasion::Clash(_) = answer {
+    if let Pervasion::Stopped(_) = answer {
         return Written::Refused {
             number: UNPERVADED,
             place: 0,

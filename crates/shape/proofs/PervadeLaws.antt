@@ -20,7 +20,7 @@ use Rattle.rules.specs.Sizes.{Order, cmpDim}
 use Rattle.record.proofs.ByValue.{one-more}
 use Rattle.shape.specs.Answers.{sizesBeside, shapeBeside}
 use Rattle.shape.specs.declared.Pervasion.{Pervasion}
-use Rattle.shape.specs.declared.Pervasion.the-variants.{Pervaded as Pervades, Clash}
+use Rattle.shape.specs.declared.Pervasion.the-variants.{Pervaded as Pervades, Stopped}
 use Rattle.shape.proofs.SizeLaws.{one-number}
 
 -- ---- two sizes
@@ -155,4 +155,4 @@ pub pervade-beside :
     shapeBeside v s ≡ pervade f g (shape o c) (shape p d)
 unfolding pervade
 pervade-beside f g o p c d Pervades e h = rw (h, ← e)
-pervade-beside f g o p c d (Clash i) e h = rw (← e)
+pervade-beside f g o p c d (Stopped i) e h = rw (← e)

@@ -14,7 +14,7 @@ use Rattle.shape.specs.declared.Meeting.{Meeting}
 use Rattle.shape.specs.declared.Meeting.the-variants.{Gives, Refuses}
 use Rattle.shape.specs.declared.DimsPervaded.{DimsPervaded}
 use Rattle.shape.specs.declared.Pervasion.{Pervasion}
-use Rattle.shape.specs.declared.Pervasion.the-variants.{Pervaded as Pervades, Clash}
+use Rattle.shape.specs.declared.Pervasion.the-variants.{Pervaded as Pervades, Stopped}
 use Rattle.shape.specs.declared.ShapePervaded.{ShapePervaded}
 
 abbrev pub orderOf : Order → rules.Order
@@ -32,14 +32,14 @@ meetingOf Refuses = none
 
 abbrev pub sizesBeside : Pervasion → List Dim → Pervaded
 sizesBeside Pervades ds = sizes ds
-sizesBeside (Clash i) ds = clash i
+sizesBeside (Stopped i) ds = clash i
 
 abbrev pub dimsPervadedOf : DimsPervaded → Pervaded
 dimsPervadedOf r = sizesBeside (r .answer) (dimsOf (r .dims))
 
 abbrev pub shapeBeside : Pervasion → Shape → Option Shape
 shapeBeside Pervades s = some s
-shapeBeside (Clash i) s = none
+shapeBeside (Stopped i) s = none
 
 abbrev pub shapePervadedOf : ShapePervaded → Option Shape
 shapePervadedOf r = shapeBeside (r .answer) (shapeFor (r .shape))

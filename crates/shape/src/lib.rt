@@ -45,7 +45,7 @@ enum Meeting {
 // it is a clash they say nothing.
 pub enum Pervasion {
     Pervaded,
-    Clash(usize),
+    Stopped(usize),
 }
 
 struct DimsPervaded {

@@ -81,7 +81,7 @@ pub fn pervade_dims(a: Dims, b: Dims, fill_a: bool, fill_b: bool) -> DimsPervade
     };
     if at < count {
         return DimsPervaded {
-            answer: Pervasion::Clash(at),
+            answer: Pervasion::Stopped(at),
             dims: no_dims(),
         };
     }

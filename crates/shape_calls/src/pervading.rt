@@ -24,7 +24,7 @@ pub fn pervade(a: &[u8], b: &[u8], fill_a: bool, fill_b: bool, result: &mut [u8]
     };
     let pervaded = pervade_dyn_shapes(shape_at(a, 0), shape_at(b, 0), fill_a, fill_b);
     let answer = pervaded.answer;
-    if let Pervasion::Clash(_) = answer {
+    if let Pervasion::Stopped(_) = answer {
         return Written::Refused {
             number: UNPERVADED,
             place: 0,

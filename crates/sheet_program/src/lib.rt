@@ -1,6 +1,7 @@
 // The sheet program whole: a sheet from standard input, what the check says of it to standard output, all else to standard error.
 // It is a library so that several programs can be it, each run with an input of its own.
 use limits::MAX_SHEET;
+use limits::RESULT_BYTES;
 use limits::SCRATCH_BYTES;
 use printer::Printed;
 use printer::TEXT;
@@ -42,7 +43,7 @@ fn explain() {
 // One byte more than a sheet may have is read, so that a longer one is refused.
 fn check_input() {
     let mut sheet = [0u8; MAX_SHEET + 1];
-    let mut result = [0u8; SCRATCH_BYTES];
+    let mut result = [0u8; RESULT_BYTES];
     let mut scratch = [0u8; SCRATCH_BYTES];
     let mut out = [0u8; TEXT];
     let read = read_to_end(&mut sheet);

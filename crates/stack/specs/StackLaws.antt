@@ -85,7 +85,7 @@ module _ (lengths : List ℕ) (count : ℕ) (d : List ℕ) where
 drop-take : (n a : ℕ) (l : List ℕ) → a ≤ length l → take n (drop a l) ≡ drop a (take (a + n) l)
 drop-take n a l h = sym (ap (drop a) (take-add a n l) ∙ drop-at (take a l) (take n (drop a l)) a (length-take-le a l h))
 
-module _ (d w : List ℕ) (at : ℕ) (fits : at + length w ≤ length d) where
+module _ (d w : List ℕ) (at : ℕ) (inside : at + length w ≤ length d) where
   head-kept : take at (over d at w) ≡ take at d
   head-kept =
       let a : length (take at d) ≡ at = length-take-le at d (omega arith) in
@@ -94,7 +94,7 @@ module _ (d w : List ℕ) (at : ℕ) (fits : at + length w ≤ length d) where
   -- what ends before a stretch stays where the stretch is laid
   part-before : (a n : ℕ) → a + n ≤ at → take n (drop a (over d at w)) ≡ take n (drop a d)
   part-before a n h =
-      drop-take n a (over d at w) (rw (length-over d at w fits) (omega arith))
+      drop-take n a (over d at w) (rw (length-over d at w inside) (omega arith))
       ∙ ap (drop a) (sym (take-take (a + n) at (over d at w) h) ∙ ap (take (a + n)) head-kept ∙ take-take (a + n) at d h)
       ∙ sym (drop-take n a d (omega arith))
 
@@ -131,13 +131,13 @@ module _ (lengths : List ℕ) (count : ℕ) (d : List ℕ) (k : ℕ) (w : List �
   pub stored : (ts : List Ty) (t : Ty) → Stacked lengths count d ts → Within t → w ≡ writeTy t → length w ≤ maxBytes → Stacked storedIn (k + 1) (over d (k * maxBytes) w) (t ∷ drop (count - k) ts)
   unfolding slots
   stored ts t h v e n =
-      let fits : k * maxBytes + length w ≤ length d = omega (arith, h .room) in
+      let inside : k * maxBytes + length w ≤ length d = omega (arith, h .room) in
       record {
-        room = omega (arith, h .room, length-over d (k * maxBytes) w fits);
+        room = omega (arith, h .room, length-over d (k * maxBytes) w inside);
         slotted = rw (length-set lengths k (length w)) (h .slotted);
         few = omega arith;
         short = λ i less. shorter h n i less;
-        bytes = lie h fits;
+        bytes = lie h inside;
         within = (v, All-drop (count - k) ts (h .within));
       }
     where
@@ -150,10 +150,10 @@ module _ (lengths : List ℕ) (count : ℕ) (d : List ℕ) (k : ℕ) (w : List �
           (eq-or-lt-of-le q)
 
       lie : Stacked lengths count d ts → k * maxBytes + length w ≤ length d → slots storedIn (over d (k * maxBytes) w) (k + 1) ≡ map writeTy (t ∷ drop (count - k) ts)
-      lie h fits =
+      lie h inside =
           let one : k + 1 ≡ suc k = add-one k in
-          let here : slotBytes storedIn (over d (k * maxBytes) w) k ≡ writeTy t = rw (getD-set-same lengths k (length w) 0 (omega (arith, h .slotted))) (part-here d w (k * maxBytes) fits ∙ e) in
+          let here : slotBytes storedIn (over d (k * maxBytes) w) k ≡ writeTy t = rw (getD-set-same lengths k (length w) 0 (omega (arith, h .slotted))) (part-here d w (k * maxBytes) inside ∙ e) in
           let lower : slots storedIn (over d (k * maxBytes) w) k ≡ slots lengths d k =
           slots-same lengths storedIn d (over d (k * maxBytes) w) k λ i less.
-          rw (getD-set-other lengths k i (length w) 0 (λ y. omega arith)) (part-before d w (k * maxBytes) fits (i * maxBytes) (getD lengths i 0) (omega (arith, h .short i (omega arith)))) in
+          rw (getD-set-other lengths k i (length w) 0 (λ y. omega arith)) (part-before d w (k * maxBytes) inside (i * maxBytes) (getD lengths i 0) (omega (arith, h .short i (omega arith)))) in
           rw (one, here, lower, slots-lower lengths d k (count - k) count ts (omega arith) (h .bytes))

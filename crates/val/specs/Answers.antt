@@ -18,8 +18,8 @@ use Rattle.val.specs.declared.MaybeDims.the-variants.{Sizes, Nothing as 
 use Rattle.val.specs.declared.DimsAnswer.{DimsAnswer}
 use Rattle.val.specs.declared.Row as declaredRow
 use Rattle.val.specs.declared.Row.the-variants.{Number, Wrote, Refused as RefusedRow}
-use Rattle.val.specs.declared.Place.{Place}
-use Rattle.val.specs.declared.Place.the-variants.{Every, First, Last}
+use Rattle.val.specs.declared.RowKind.{RowKind}
+use Rattle.val.specs.declared.RowKind.the-variants.{Every, First, Last}
 use Rattle.val.specs.Values.{Value, number, numbers, typed, Row, listRow, listFirst, listLast, valueRowBy, RowDelivery, handed, written}
 
 -- A value by its case, with the list and the bytes that are lent beside it. A type's bytes are read first, and bytes that are no type
@@ -44,17 +44,17 @@ abbrev pub dimsAnswered : DimsAnswer → Outcome (Option (List Dim))
 dimsAnswered r = maybeDims (r .answer) (dimsOf (r .dims))
 
 -- the row of a list, of a type and of a value, by which of the three rows it is
-abbrev pub listRowFor : Place → List Float → Row
+abbrev pub listRowFor : RowKind → List Float → Row
 listRowFor Every = listRow
 listRowFor First = listFirst
 listRowFor Last = listLast
 
-abbrev pub typeRowFor : Place → Ty → Ty
+abbrev pub typeRowFor : RowKind → Ty → Ty
 typeRowFor Every = intoRow
 typeRowFor First = intoFirstRow
 typeRowFor Last = intoLastRow
 
-abbrev pub valueRowFor : Place → Value → Row
+abbrev pub valueRowFor : RowKind → Value → Row
 valueRowFor which = valueRowBy (listRowFor which) (typeRowFor which)
 
 -- what a row's answer and the result buffer say together

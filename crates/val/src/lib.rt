@@ -54,7 +54,7 @@ pub enum Row {
 }
 
 // Which row: the one that stands for every row, the first or the last.
-enum Place {
+enum RowKind {
     Every,
     First,
     Last,

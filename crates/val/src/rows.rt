@@ -1,7 +1,7 @@
 // The rows of a value, which are values again. A number is handed back as it came in; the contracts say so of its value, and by
 // these all NaNs are one.
-use crate::Place;
 use crate::Row;
+use crate::RowKind;
 use crate::Value;
 use crate::write::write_closed;
 use lent::Written;
@@ -19,23 +19,23 @@ ghost use Rattle.val.specs.Values.{listRow, listFirst, listLast, valueRo
 pub fn into_row(v: Value, list: &[f64], bytes: &[u8], result: &mut [u8]) -> Row
     ensures { λ r. ⌜ rowDelivered r (now (result .exit)) ≡ deliverRow (mapped valueRow (valueOf v (now (list .entry)) (now (bytes .entry)))) (now (result .entry)) ⌝ }
 {
-    row_by(v, Place::Every, list, bytes, &mut *result)
+    row_by(v, RowKind::Every, list, bytes, &mut *result)
 }
 
 pub fn into_first_row(v: Value, list: &[f64], bytes: &[u8], result: &mut [u8]) -> Row
     ensures { λ r. ⌜ rowDelivered r (now (result .exit)) ≡ deliverRow (mapped valueFirstRow (valueOf v (now (list .entry)) (now (bytes .entry)))) (now (result .entry)) ⌝ }
 {
-    row_by(v, Place::First, list, bytes, &mut *result)
+    row_by(v, RowKind::First, list, bytes, &mut *result)
 }
 
 pub fn into_last_row(v: Value, list: &[f64], bytes: &[u8], result: &mut [u8]) -> Row
     ensures { λ r. ⌜ rowDelivered r (now (result .exit)) ≡ deliverRow (mapped valueLastRow (valueOf v (now (list .entry)) (now (bytes .entry)))) (now (result .entry)) ⌝ }
 {
-    row_by(v, Place::Last, list, bytes, &mut *result)
+    row_by(v, RowKind::Last, list, bytes, &mut *result)
 }
 
 // All three rows: a number's is itself.
-fn row_by(v: Value, which: Place, list: &[f64], bytes: &[u8], result: &mut [u8]) -> Row
+fn row_by(v: Value, which: RowKind, list: &[f64], bytes: &[u8], result: &mut [u8]) -> Row
     ensures { λ r. ⌜ rowDelivered r (now (result .exit)) ≡ deliverRow (mapped (valueRowFor which) (valueOf v (now (list .entry)) (now (bytes .entry)))) (now (result .entry)) ⌝ }
 {
     match v {
@@ -45,23 +45,23 @@ fn row_by(v: Value, which: Place, list: &[f64], bytes: &[u8], result: &mut [u8])
     }
 }
 
-fn type_row(which: Place, bytes: &[u8], result: &mut [u8]) -> Written
+fn type_row(which: RowKind, bytes: &[u8], result: &mut [u8]) -> Written
     ensures { λ r. ⌜ delivered r (now (result .exit)) ≡ deliver (mapped (λ t. writeTy (typeRowFor which t)) (lone (now (bytes .entry)))) (now (result .entry)) ⌝ }
 {
     match which {
-        Place::Every => ty::into_row(bytes, &mut *result),
-        Place::First => ty::into_first_row(bytes, &mut *result),
-        Place::Last => ty::into_last_row(bytes, &mut *result),
+        RowKind::Every => ty::into_row(bytes, &mut *result),
+        RowKind::First => ty::into_first_row(bytes, &mut *result),
+        RowKind::Last => ty::into_last_row(bytes, &mut *result),
     }
 }
 
-fn list_row(which: Place, list: &[f64], result: &mut [u8]) -> Row
+fn list_row(which: RowKind, list: &[f64], result: &mut [u8]) -> Row
     ensures { λ r. ⌜ rowDelivered r (now (result .exit)) ≡ deliverRow (accepted (listRowFor which (now (list .entry)))) (now (result .entry)) ⌝ }
 {
     match which {
-        Place::Every => row_of_list(list, &mut *result),
-        Place::First => first_of_list(list, &mut *result),
-        Place::Last => last_of_list(list, &mut *result),
+        RowKind::Every => row_of_list(list, &mut *result),
+        RowKind::First => first_of_list(list, &mut *result),
+        RowKind::Last => last_of_list(list, &mut *result),
     }
 }
 

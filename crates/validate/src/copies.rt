@@ -45,7 +45,7 @@ pub fn copy_type(s: &[u8], at: usize, out: &mut [u8], to: usize) -> Extent
     }
 }
 
-// As many types of a list.
+// So many types of a list.
 pub fn copy_fields(
     s: &[u8],
     start: usize,

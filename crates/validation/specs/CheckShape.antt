@@ -44,7 +44,7 @@ abbrev pub lastSizes : Shape → List Dim
 lastSizes (shape p none) = p
 lastSizes (shape p (some d)) = d
 
--- What a mismatch is refused with, or none: counts are tested, then sizes. This alone chooses the number.
+-- What a mismatch is refused with, or none, by two tests: of counts, where it is made apart, and of sizes. This alone chooses the number.
 abbrev pub clash : Bool → Bool → Option ℕ
 clash counts sizes = cond counts (cond sizes none (some wrongShape)) (some wrongShape)
 

@@ -13,23 +13,18 @@ use Rattle.report.proofs.put_left.Reads as put-left-reads
 use Rattle.report.proofs.put_refusal.Reads as put-refusal-reads
 use Rattle.run.proofs.measure_sheet.Reads as measure-sheet-reads
 
--- src/lib.rt:105:62
 slice-aggregate-measure-sheet : tie.Need-slice-aggregate-measure-sheet
 slice-aggregate-measure-sheet c = search needs
 
--- src/lib.rt:105:9
 measure-sheet-requires : tie.Need-measure-sheet-requires
 measure-sheet-requires c κs = search needs
 
--- src/lib.rt:107:33
 enum-known-answer : tie.Need-enum-known-answer
 enum-known-answer c = search needs
 
--- src/lib.rt:108:29
 slice-aggregate-put-left : tie.Need-slice-aggregate-put-left
 slice-aggregate-put-left c = search needs
 
--- src/lib.rt:108:39
 slice-reshare-prefix-put-left : tie.Need-slice-reshare-prefix-put-left
 slice-reshare-prefix-put-left c =
     let entry = c .before .before .before .before .before .before .before .before .before .before .before .before .before .before .before .before .before .before in
@@ -43,7 +38,6 @@ slice-reshare-prefix-put-left c =
     (call .last .1 .1 .1 .0) (λ i. omega (arith, at-shared-slice-known .shared-slice-known .given i)) (call .ensures .1) told in
     left-inside t
 
--- src/lib.rt:108:39
 slice-aggregate-put-left-2 : tie.Need-slice-aggregate-put-left-2
 slice-aggregate-put-left-2 c =
     let entry = c .before .before .before .before .before .before .before .before .before .before .before .before .before .before .before .before .before .before .before in
@@ -57,7 +51,6 @@ slice-aggregate-put-left-2 c =
     (call .last .1 .1 .1 .0) (λ i. omega (arith, at-shared-slice-known .shared-slice-known .given i)) (call .ensures .1) told in
     sym (length-take-le _ _ (left-inside t))
 
--- src/lib.rt:108:13
 put-left-requires : tie.Need-put-left-requires
 put-left-requires c κs =
     let entry = c .before .before .before .before .before .before .before .before .before .before .before .before .before .before .before .before .before .before .before .before in
@@ -71,31 +64,24 @@ put-left-requires c κs =
     (call .last .1 .1 .1 .0) (λ i. omega (arith, at-shared-slice-known .shared-slice-known .given i)) (call .ensures .1) told in
     (left-there t, omega (arith, left-room t (length (args .between .now)), entry .pre))
 
--- src/lib.rt:110:32
 enum-known-answer-2 : tie.Need-enum-known-answer-2
 enum-known-answer-2 c = search needs
 
--- src/lib.rt:111:25
 cast-put-refusal : tie.Need-cast-put-refusal
 cast-put-refusal c = search needs
 
--- src/lib.rt:111:13
 put-refusal-requires : tie.Need-put-refusal-requires
 put-refusal-requires c κs = search needs
 
--- src/lib.rt:93:1
 same-length : tie.Need-same-length
 same-length c = search needs
 
--- src/lib.rt:93:1
 same-length-2 : tie.Need-same-length-2
 same-length-2 c = search needs
 
--- src/lib.rt:93:1
 same-length-3 : tie.Need-same-length-3
 same-length-3 c = search needs
 
--- src/lib.rt:93:1
 returns : tie.Need-returns
 returns c =
     let entry = c .before .before .before .before .before .before .before .before .before .before .before .before .before .before .before .before .before .before .before .before .before .before .before in
@@ -111,19 +97,15 @@ returns c =
     let e = answered-called (args .sheet .now) (args .result .now) (args .scratch .now) (call .last .1 .0) (call .last .1 .1 .0) (call .result) (call .ensures .0) told in
     (laid-left _ _ _ _ _ (args .between .now) e (t .left) (at-put-left .put-left .ensures (t .types) (left-is t)), ap buffersOf e)
 
--- src/lib.rt:93:1
 same-length-4 : tie.Need-same-length-4
 same-length-4 c = search needs
 
--- src/lib.rt:93:1
 same-length-5 : tie.Need-same-length-5
 same-length-5 c = search needs
 
--- src/lib.rt:93:1
 same-length-6 : tie.Need-same-length-6
 same-length-6 c = search needs
 
--- src/lib.rt:93:1
 returns-2 : tie.Need-returns-2
 returns-2 c =
     let entry = c .before .before .before .before .before .before .before .before .before .before .before .before .before .before .before .before .before .before .before .before .before in

@@ -11,19 +11,15 @@ use Rattle.stack.proofs.load.Tie as tie
 use Rattle.stack.proofs.load.Reads as reads
 use Rattle.stack.proofs.load.Lts as lts
 
--- src/lib.rt:39:17
 mul-start : tie.Need-mul-start
 mul-start c = search needs
 
--- src/lib.rt:42:22
 mul-t4 : tie.Need-mul-t4
 mul-t4 c = search needs
 
--- src/lib.rt:42:22
 shared-slice-read-t6 : tie.Need-shared-slice-read-t6
 shared-slice-read-t6 c = search needs
 
--- src/lib.rt:42:14
 add-t7 : tie.Need-add-t7
 add-t7 c =
     let entry = c .before in
@@ -31,7 +27,6 @@ add-t7 c =
     let b : args .k * maxBytes + getD (args .lengths .now) (args .k) 0 ≤ scratchBytes = slot-ends (args .lengths .now) (entry .pre .0) (entry .pre .1) (entry .pre .3) (args .k) (entry .pre .2) in
     search needs
 
--- src/lib.rt:34:1
 returns : tie.Need-returns
 returns c =
     let entry = c .before in

@@ -6,31 +6,24 @@ use Rattle.stack.proofs.store.Reads as reads
 use Rattle.stack.proofs.store.Lts as lts
 use Rattle.lent.proofs.lay.Reads as lay-reads
 
--- src/lib.rt:51:28
 mul-lay : tie.Need-mul-lay
 mul-lay c = search needs
 
--- src/lib.rt:51:5
 lay-requires : tie.Need-lay-requires
 lay-requires c κs = search needs
 
--- src/lib.rt:52:5
 mul-lengths : tie.Need-mul-lengths
 mul-lengths c = search needs
 
--- src/lib.rt:52:5
 slice-write-lengths : tie.Need-slice-write-lengths
 slice-write-lengths c = search needs
 
--- src/lib.rt:47:1
 same-length : tie.Need-same-length
 same-length c = search needs
 
--- src/lib.rt:47:1
 same-length-2 : tie.Need-same-length-2
 same-length-2 c = search needs
 
--- src/lib.rt:47:1
 returns : tie.Need-returns
 returns c =
     let entry = c .before .before .before .before .before .before .before in

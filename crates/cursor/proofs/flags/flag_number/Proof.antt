@@ -7,19 +7,15 @@ use Rattle.cursor.proofs.flags.flag_number.Tie as tie
 use Rattle.cursor.proofs.flags.flag_number.Reads as reads
 use Rattle.cursor.proofs.flags.flag_number.Lts as lts
 
--- src/flags.rt:32:14
 enum-told : tie.Need-enum-told
 enum-told c = search needs
 
--- src/flags.rt:33:29
 enum-known-read : tie.Need-enum-known-read
 enum-known-read c = search needs
 
--- src/flags.rt:24:1
 returns : tie.Need-returns
 returns c = λ k e. let z : _≡_ {A = ℕ} 0 1 = cc in absurd (omega arith)
 
--- src/flags.rt:24:1
 returns-2 : tie.Need-returns-2
 returns-2 c = λ k e. cc
 

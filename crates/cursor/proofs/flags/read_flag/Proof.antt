@@ -6,15 +6,12 @@ use Rattle.cursor.proofs.flags.read_flag.Tie as tie
 use Rattle.cursor.proofs.flags.read_flag.Reads as reads
 use Rattle.cursor.proofs.flags.read_flag.Lts as lts
 
--- src/flags.rt:41:9
 returns : tie.Need-returns
 returns c = λ p. sym (flag-ended (c .before .args .s .now) (c .before .args .at) p (c .if1 .taken))
 
--- src/flags.rt:43:16
 shared-slice-read-flag : tie.Need-shared-slice-read-flag
 shared-slice-read-flag c = search needs
 
--- src/flags.rt:45:9
 returns-2 : tie.Need-returns-2
 returns-2 c =
     let entry = c .before .before .before in
@@ -22,11 +19,9 @@ returns-2 c =
     let args = entry .args in
     λ p. sym (flag-large (args .s .now) (args .at) p (at-if1 .if1 .left) (c .if2 .taken))
 
--- src/flags.rt:50:15
 add-t4 : tie.Need-add-t4
 add-t4 c = search needs
 
--- src/flags.rt:37:1
 returns-3 : tie.Need-returns-3
 returns-3 c =
     let entry = c .before .before .before in

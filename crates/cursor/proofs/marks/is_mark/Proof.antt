@@ -4,14 +4,12 @@ use Rattle.cursor.proofs.marks.is_mark.Tie as tie
 use Rattle.cursor.proofs.marks.is_mark.Reads as reads
 use Rattle.cursor.proofs.marks.is_mark.Lts as lts
 
--- src/marks.rt:104:9
 returns : tie.Need-returns
 returns c =
     let entry = c .before .before .before in
     let args = entry .args in
     rw (eq-eqb (args .x) (args .m .first) (c .before .if1 .taken))
 
--- src/marks.rt:100:1
 returns-2 : tie.Need-returns-2
 returns-2 c =
     let entry = c .before .before in

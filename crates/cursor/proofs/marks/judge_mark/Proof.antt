@@ -5,30 +5,24 @@ use Rattle.cursor.proofs.marks.judge_mark.Reads as reads
 use Rattle.cursor.proofs.marks.judge_mark.Lts as lts
 use Rattle.cursor.proofs.marks.is_mark.Reads as is-mark-reads
 
--- src/marks.rt:57:8
 is-mark-requires : tie.Need-is-mark-requires
 is-mark-requires c κs = search needs
 
--- src/marks.rt:58:9
 returns : tie.Need-returns
 returns c = λ p. rw (← c .before .is-mark .ensures, c .if1 .taken)
 
--- src/marks.rt:63:8
 is-mark-requires-2 : tie.Need-is-mark-requires-2
 is-mark-requires-2 c κs = search needs
 
--- src/marks.rt:64:9
 returns-2 : tie.Need-returns-2
 returns-2 c =
     let at-is-mark = c .before .before .before in
     let at-if1 = c .before .before in
     λ p. rw (← at-is-mark .is-mark .ensures, at-if1 .if1 .left, ← c .before .is-mark2 .ensures, c .if2 .taken)
 
--- src/marks.rt:69:8
 is-mark-requires-3 : tie.Need-is-mark-requires-3
 is-mark-requires-3 c κs = search needs
 
--- src/marks.rt:70:9
 returns-3 : tie.Need-returns-3
 returns-3 c =
     let at-is-mark = c .before .before .before .before .before in
@@ -38,11 +32,9 @@ returns-3 c =
     λ p.
     rw (← at-is-mark .is-mark .ensures, at-if1 .if1 .left, ← at-is-mark2 .is-mark2 .ensures, at-if2 .if2 .left, ← c .before .is-mark3 .ensures, c .if3 .taken)
 
--- src/marks.rt:75:8
 is-mark-requires-4 : tie.Need-is-mark-requires-4
 is-mark-requires-4 c κs = search needs
 
--- src/marks.rt:76:9
 returns-4 : tie.Need-returns-4
 returns-4 c =
     let at-is-mark = c .before .before .before .before .before .before .before in
@@ -54,11 +46,9 @@ returns-4 c =
     λ p.
     rw (← at-is-mark .is-mark .ensures, at-if1 .if1 .left, ← at-is-mark2 .is-mark2 .ensures, at-if2 .if2 .left, ← at-is-mark3 .is-mark3 .ensures, at-if3 .if3 .left, ← c .before .is-mark4 .ensures, c .if4 .taken)
 
--- src/marks.rt:81:8
 is-mark-requires-5 : tie.Need-is-mark-requires-5
 is-mark-requires-5 c κs = search needs
 
--- src/marks.rt:82:9
 returns-5 : tie.Need-returns-5
 returns-5 c =
     let at-is-mark = c .before .before .before .before .before .before .before .before .before in
@@ -73,7 +63,6 @@ returns-5 c =
     rw (← at-is-mark .is-mark .ensures, at-if1 .if1 .left, ← at-is-mark2 .is-mark2 .ensures, at-if2 .if2 .left, ← at-is-mark3 .is-mark3 .ensures, at-if3 .if3 .left)
     (rw (← at-is-mark4 .is-mark4 .ensures, at-if4 .if4 .left, ← c .before .is-mark5 .ensures, c .if5 .taken))
 
--- src/marks.rt:54:1
 returns-6 : tie.Need-returns-6
 returns-6 c =
     let at-is-mark = c .before .before .before .before .before .before .before .before .before in

@@ -9,38 +9,30 @@ use Rattle.cursor.proofs.marks.read_mark.Lts as lts
 use Rattle.cursor.proofs.marks.bytes_left.Reads as bytes-left-reads
 use Rattle.cursor.proofs.marks.judge_mark.Reads as judge-mark-reads
 
--- src/marks.rt:48:8
 bytes-left-requires : tie.Need-bytes-left-requires
 bytes-left-requires c κs = search needs
 
--- src/marks.rt:49:9
 returns : tie.Need-returns
 returns c =
     let entry = c .before .before .before in
     let args = entry .args in
     sym (mark-ended (args .s .now) (args .at) (omega (arith, c .if1 .taken, c .before .bytes-left .ensures)))
 
--- src/marks.rt:51:16
 shared-slice-read-judge-mark : tie.Need-shared-slice-read-judge-mark
 shared-slice-read-judge-mark c = search needs
 
--- src/marks.rt:51:25
 add-judge-mark : tie.Need-add-judge-mark
 add-judge-mark c = search needs
 
--- src/marks.rt:51:23
 shared-slice-read-judge-mark-2 : tie.Need-shared-slice-read-judge-mark-2
 shared-slice-read-judge-mark-2 c = search needs
 
--- src/marks.rt:51:34
 add-judge-mark-2 : tie.Need-add-judge-mark-2
 add-judge-mark-2 c = search needs
 
--- src/marks.rt:51:5
 judge-mark-requires : tie.Need-judge-mark-requires
 judge-mark-requires c κs = search needs
 
--- src/marks.rt:45:1
 returns-2 : tie.Need-returns-2
 returns-2 c =
     let entry = c .before .before .before .before .before .before in

@@ -7,23 +7,18 @@ use Rattle.cursor.proofs.steps.read_pervading.Lts as lts
 use Rattle.cursor.proofs.flags.read_flag.Reads as read-flag-reads
 use Rattle.cursor.proofs.flags.flag_number.Reads as flag-number-reads
 
--- src/steps.rt:88:9
 read-flag-requires : tie.Need-read-flag-requires
 read-flag-requires c κs = search needs
 
--- src/steps.rt:90:9
 enum-known-read : tie.Need-enum-known-read
 enum-known-read c = search needs
 
--- src/steps.rt:96:21
 enum-told : tie.Need-enum-told
 enum-told c = search needs
 
--- src/steps.rt:96:21
 flag-number-requires : tie.Need-flag-number-requires
 flag-number-requires c κs = search needs
 
--- src/steps.rt:95:9
 returns : tie.Need-returns
 returns c =
     let entry = c .before .before .before .before .before in
@@ -31,7 +26,6 @@ returns c =
     let args = entry .args in
     flag-ends (args .s .now) (args .mark) (args .at) (at-read-flag .read-flag .ensures (args .mark)) (c .before .enum-told .given .1) (c .flag-number .ensures _ (c .before .enum-told .given .1))
 
--- src/steps.rt:85:1
 returns-2 : tie.Need-returns-2
 returns-2 c =
     let entry = c .before .before .before .before .before in

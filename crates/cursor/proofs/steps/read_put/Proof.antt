@@ -8,27 +8,21 @@ use Rattle.cursor.proofs.types.read_stretch.Reads as read-stretch-reads
 use Rattle.cursor.proofs.types.type_number.Reads as type-number-reads
 use Rattle.cursor.proofs.types.type_place.Reads as type-place-reads
 
--- src/steps.rt:74:9
 read-stretch-requires : tie.Need-read-stretch-requires
 read-stretch-requires c κs = search needs
 
--- src/steps.rt:75:25
 enum-known-read : tie.Need-enum-known-read
 enum-known-read c = search needs
 
--- src/steps.rt:77:21
 enum-told : tie.Need-enum-told
 enum-told c = search needs
 
--- src/steps.rt:77:21
 type-number-requires : tie.Need-type-number-requires
 type-number-requires c κs = search needs
 
--- src/steps.rt:78:20
 type-place-requires : tie.Need-type-place-requires
 type-place-requires c κs = search needs
 
--- src/steps.rt:76:9
 returns : tie.Need-returns
 returns c =
     let entry = c .before .before .before .before .before .before in
@@ -38,7 +32,6 @@ returns c =
     λ p.
     put-ends (args .s .now) p (args .start) (at-read-stretch .read-stretch .ensures) refused (c .before .type-number .ensures _ _ refused) (c .type-place .ensures _ _ refused)
 
--- src/steps.rt:71:1
 returns-2 : tie.Need-returns-2
 returns-2 c =
     let entry = c .before .before .before .before .before in

@@ -14,23 +14,18 @@ use Rattle.cursor.proofs.steps.read_put.Reads as read-put-reads
 use Rattle.cursor.proofs.steps.read_validating.Reads as read-validating-reads
 use Rattle.cursor.proofs.steps.takes.Reads as takes-reads
 
--- src/steps.rt:29:9
 read-mark-requires : tie.Need-read-mark-requires
 read-mark-requires c κs = search needs
 
--- src/steps.rt:30:25
 enum-known-marked : tie.Need-enum-known-marked
 enum-known-marked c = search needs
 
--- src/steps.rt:32:21
 enum-told : tie.Need-enum-told
 enum-told c = search needs
 
--- src/steps.rt:32:21
 mark-number-requires : tie.Need-mark-number-requires
 mark-number-requires c κs = search needs
 
--- src/steps.rt:31:9
 returns : tie.Need-returns
 returns c =
     let entry = c .before .before .before .before .before in
@@ -38,11 +33,9 @@ returns c =
     let args = entry .args in
     mark-ends (args .s .now) (args .height) (args .at) (at-read-mark .read-mark .ensures) (c .before .enum-told .given .1) (c .mark-number .ensures _ (c .before .enum-told .given .1))
 
--- src/steps.rt:36:9
 takes-requires : tie.Need-takes-requires
 takes-requires c κs = search needs
 
--- src/steps.rt:38:9
 returns-2 : tie.Need-returns-2
 returns-2 c =
     let entry = c .before .before .before .before .before .before .before in
@@ -51,15 +44,12 @@ returns-2 c =
     let args = entry .args in
     step-low (args .s .now) (args .height) (args .at) (at-read-mark .read-mark .ensures) (at-marked .marked .given .1) (c .before .takes .ensures) (c .if1 .taken)
 
--- src/steps.rt:43:9
 lays-requires : tie.Need-lays-requires
 lays-requires c κs = search needs
 
--- src/steps.rt:44:8
 sub-if2 : tie.Need-sub-if2
 sub-if2 c = search needs
 
--- src/steps.rt:45:9
 returns-3 : tie.Need-returns-3
 returns-3 c =
     let entry = c .before .before .before .before .before .before .before .before .before in
@@ -70,39 +60,30 @@ returns-3 c =
     let args = entry .args in
     step-high (args .s .now) (args .height) (args .at) (at-read-mark .read-mark .ensures) (at-marked .marked .given .1) (at-takes .takes .ensures) (at-if1 .if1 .left) (c .before .lays .ensures) (c .if2 .taken)
 
--- src/steps.rt:51:27
 enum-told-2 : tie.Need-enum-told-2
 enum-told-2 c = search needs
 
--- src/steps.rt:51:27
 read-put-requires : tie.Need-read-put-requires
 read-put-requires c κs = search needs
 
--- src/steps.rt:52:27
 enum-told-3 : tie.Need-enum-told-3
 enum-told-3 c = search needs
 
--- src/steps.rt:53:33
 enum-told-4 : tie.Need-enum-told-4
 enum-told-4 c = search needs
 
--- src/steps.rt:53:33
 read-pervading-requires : tie.Need-read-pervading-requires
 read-pervading-requires c κs = search needs
 
--- src/steps.rt:54:28
 enum-told-5 : tie.Need-enum-told-5
 enum-told-5 c = search needs
 
--- src/steps.rt:55:34
 enum-told-6 : tie.Need-enum-told-6
 enum-told-6 c = search needs
 
--- src/steps.rt:55:34
 read-validating-requires : tie.Need-read-validating-requires
 read-validating-requires c κs = search needs
 
--- src/steps.rt:26:1
 returns-4 : tie.Need-returns-4
 returns-4 c =
     let entry = c .before .before .before .before .before .before .before .before .before .before .before .before in
@@ -116,7 +97,6 @@ returns-4 c =
     let goes = step-is (args .s .now) (args .height) (args .at) (at-read-mark .read-mark .ensures) (at-marked .marked .given .1) (at-takes .takes .ensures) (at-if1 .if1 .left) (at-lays .lays .ensures) (at-if2 .if2 .left) in
     goes Put (c .read-put .result) (c .before .enum-told2 .given .1) (c .read-put .ensures (args .at))
 
--- src/steps.rt:26:1
 returns-5 : tie.Need-returns-5
 returns-5 c =
     let entry = c .before .before .before .before .before .before .before .before .before .before .before in
@@ -130,7 +110,6 @@ returns-5 c =
     let goes = step-is (args .s .now) (args .height) (args .at) (at-read-mark .read-mark .ensures) (at-marked .marked .given .1) (at-takes .takes .ensures) (at-if1 .if1 .left) (at-lays .lays .ensures) (at-if2 .if2 .left) in
     goes Row (ARow (at-marked .marked .given .0 .1 .0)) (c .enum-told3 .given .1) (row-is (args .s .now) (args .at) (at-marked .marked .given .0 .1 .0))
 
--- src/steps.rt:26:1
 returns-6 : tie.Need-returns-6
 returns-6 c =
     let entry = c .before .before .before .before .before .before .before .before .before .before .before .before in
@@ -144,7 +123,6 @@ returns-6 c =
     let goes = step-is (args .s .now) (args .height) (args .at) (at-read-mark .read-mark .ensures) (at-marked .marked .given .1) (at-takes .takes .ensures) (at-if1 .if1 .left) (at-lays .lays .ensures) (at-if2 .if2 .left) in
     goes Pervading (c .read-pervading .result) (c .before .enum-told4 .given .1) (c .read-pervading .ensures)
 
--- src/steps.rt:26:1
 returns-7 : tie.Need-returns-7
 returns-7 c =
     let entry = c .before .before .before .before .before .before .before .before .before .before .before in
@@ -158,7 +136,6 @@ returns-7 c =
     let goes = step-is (args .s .now) (args .height) (args .at) (at-read-mark .read-mark .ensures) (at-marked .marked .given .1) (at-takes .takes .ensures) (at-if1 .if1 .left) (at-lays .lays .ensures) (at-if2 .if2 .left) in
     goes Join (AJoin (at-marked .marked .given .0 .1 .0)) (c .enum-told5 .given .1) (join-is (args .s .now) (args .at) (at-marked .marked .given .0 .1 .0))
 
--- src/steps.rt:26:1
 returns-8 : tie.Need-returns-8
 returns-8 c =
     let entry = c .before .before .before .before .before .before .before .before .before .before .before .before in

@@ -7,19 +7,15 @@ use Rattle.cursor.proofs.types.read_stretch.Reads as reads
 use Rattle.cursor.proofs.types.read_stretch.Lts as lts
 use Rattle.record.proofs.read_type.Reads as read-type-reads
 
--- src/types.rt:40:9
 read-type-requires : tie.Need-read-type-requires
 read-type-requires c κs = search needs
 
--- src/types.rt:42:33
 enum-known-read : tie.Need-enum-known-read
 enum-known-read c = search needs
 
--- src/types.rt:43:27
 enum-known-read-2 : tie.Need-enum-known-read-2
 enum-known-read-2 c = search needs
 
--- src/types.rt:37:1
 returns : tie.Need-returns
 returns c =
     let entry = c .before .before .before .before .before in
@@ -28,7 +24,6 @@ returns c =
     let args = entry .args in
     type-read (args .s .now) (args .at) (at-read-type .read-type .ensures) (λ i. omega (arith, at-shared-slice-known .shared-slice-known .given i)) (c .before .read .given .1)
 
--- src/types.rt:37:1
 returns-2 : tie.Need-returns-2
 returns-2 c =
     let entry = c .before .before .before .before .before in

@@ -7,19 +7,15 @@ use Rattle.cursor.proofs.types.type_number.Tie as tie
 use Rattle.cursor.proofs.types.type_number.Reads as reads
 use Rattle.cursor.proofs.types.type_number.Lts as lts
 
--- src/types.rt:22:38
 enum-told : tie.Need-enum-told
 enum-told c = search needs
 
--- src/types.rt:23:29
 enum-known-read : tie.Need-enum-known-read
 enum-known-read c = search needs
 
--- src/types.rt:18:1
 returns : tie.Need-returns
 returns c = λ k p e. let z : _≡_ {A = ℕ} 0 1 = cc in absurd (omega arith)
 
--- src/types.rt:18:1
 returns-2 : tie.Need-returns-2
 returns-2 c = λ k p e. cc
 

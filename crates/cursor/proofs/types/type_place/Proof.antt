@@ -7,19 +7,15 @@ use Rattle.cursor.proofs.types.type_place.Tie as tie
 use Rattle.cursor.proofs.types.type_place.Reads as reads
 use Rattle.cursor.proofs.types.type_place.Lts as lts
 
--- src/types.rt:32:25
 enum-known-read : tie.Need-enum-known-read
 enum-known-read c = search needs
 
--- src/types.rt:33:40
 enum-known-read-2 : tie.Need-enum-known-read-2
 enum-known-read-2 c = search needs
 
--- src/types.rt:28:1
 returns : tie.Need-returns
 returns c = λ k p e. let z : _≡_ {A = ℕ} 0 1 = cc in absurd (omega arith)
 
--- src/types.rt:28:1
 returns-2 : tie.Need-returns-2
 returns-2 c = λ k p e. cc
 

@@ -8,33 +8,27 @@ use Rattle.known.proofs.names.name_at.Reads as reads
 use Rattle.known.proofs.names.name_at.Lts as lts
 use Rattle.record.proofs.wide.Reads as wide-reads
 
--- src/names.rt:14:18
 shared-slice-read-wide : tie.Need-shared-slice-read-wide
 shared-slice-read-wide c =
     let entry = c .before .before in
     omega (arith, name-within _ _ (entry .pre .name) (entry .pre .there))
 
--- src/names.rt:14:9
 wide-requires : tie.Need-wide-requires
 wide-requires c κs = search needs
 
--- src/names.rt:15:17
 add-start : tie.Need-add-start
 add-start c =
     let entry = c .before .before .before in
     omega (arith, name-within _ _ (entry .pre .name) (entry .pre .there))
 
--- src/names.rt:17:9
 returns : tie.Need-returns
 returns c = λ n h. unnamed-is _ _ (c .before .wide .ensures .0) n h (c .if1 .taken) _ refl refl refl
 
--- src/names.rt:26:14
 add-t9 : tie.Need-add-t9
 add-t9 c =
     let entry = c .before .before .before .before in
     omega (arith, named-within _ _ (c .before .wide .ensures .0) (entry .pre .name) (entry .pre .there) (c .if1 .left))
 
--- src/names.rt:10:1
 returns-2 : tie.Need-returns-2
 returns-2 c = λ n h. named-is _ _ (c .before .wide .ensures .0) n h (c .if1 .left) _ refl refl refl
 

@@ -8,21 +8,17 @@ use Rattle.known.proofs.scalars.form_at.Reads as reads
 use Rattle.known.proofs.scalars.form_at.Lts as lts
 use Rattle.record.proofs.wide.Reads as wide-reads
 
--- src/scalars.rt:30:12
 add-wide : tie.Need-add-wide
 add-wide c = omega (arith, box-within _ _ (c .before .pre .0) (c .before .pre .1 .scalar) (c .before .pre .1 .there) (c .before .pre .1 .boxed))
 
--- src/scalars.rt:30:10
 shared-slice-read-wide : tie.Need-shared-slice-read-wide
 shared-slice-read-wide c =
     let entry = c .before .before in
     omega (arith, box-within _ _ (entry .pre .0) (entry .pre .1 .scalar) (entry .pre .1 .there) (entry .pre .1 .boxed))
 
--- src/scalars.rt:30:5
 wide-requires : tie.Need-wide-requires
 wide-requires c κs = search needs
 
--- src/scalars.rt:26:1
 returns : tie.Need-returns
 returns c = λ d k h e. c .wide .ensures .0 ∙ formed _ _ d k h e
 

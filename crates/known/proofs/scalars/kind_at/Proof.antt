@@ -8,21 +8,17 @@ use Rattle.known.proofs.scalars.kind_at.Reads as reads
 use Rattle.known.proofs.scalars.kind_at.Lts as lts
 use Rattle.record.proofs.wide.Reads as wide-reads
 
--- src/scalars.rt:22:12
 add-wide : tie.Need-add-wide
 add-wide c = omega (arith, scalar-kind _ _ (c .before .pre .0) (c .before .pre .1 .scalar) (c .before .pre .1 .there))
 
--- src/scalars.rt:22:10
 shared-slice-read-wide : tie.Need-shared-slice-read-wide
 shared-slice-read-wide c =
     let entry = c .before .before in
     omega (arith, scalar-kind _ _ (entry .pre .0) (entry .pre .1 .scalar) (entry .pre .1 .there))
 
--- src/scalars.rt:22:5
 wide-requires : tie.Need-wide-requires
 wide-requires c κs = search needs
 
--- src/scalars.rt:18:1
 returns : tie.Need-returns
 returns c = λ d k h. c .wide .ensures .0 ∙ coded _ _ d k h
 

@@ -11,27 +11,22 @@ use Rattle.known.proofs.scalars.form_at.Reads as form-at-reads
 use Rattle.known.proofs.scalars.kind_at.Reads as kind-at-reads
 use Rattle.record.proofs.wide.Reads as wide-reads
 
--- src/scalars.rt:38:9
 kind-at-requires : tie.Need-kind-at-requires
 kind-at-requires c κs = search needs
 
--- src/scalars.rt:40:41
 add-t8 : tie.Need-add-t8
 add-t8 c =
     let entry = c .before .before .before in
     omega (arith, scalar-kind _ _ (entry .pre .0) (entry .pre .1 .scalar) (entry .pre .1 .there))
 
--- src/scalars.rt:40:9
 returns : tie.Need-returns
 returns c = λ d k h. seen-plain _ _ d k h (c .before .kind-at .ensures d k h) (c .if1 .taken)
 
--- src/scalars.rt:42:9
 form-at-requires : tie.Need-form-at-requires
 form-at-requires c κs =
     let entry = c .before .before .before in
     (entry .pre .0, has-box _ _ _ (entry .pre .1) (c .before .kind-at .ensures) (c .if1 .left))
 
--- src/scalars.rt:44:36
 add-t9 : tie.Need-add-t9
 add-t9 c =
     let entry = c .before .before .before .before .before in
@@ -39,7 +34,6 @@ add-t9 c =
     let at-if1 = c .before .before in
     omega (arith, box-inside _ _ _ (entry .pre .1) (at-kind-at .kind-at .ensures) (at-if1 .if1 .left))
 
--- src/scalars.rt:44:9
 returns-2 : tie.Need-returns-2
 returns-2 c =
     let at-kind-at = c .before .before .before in
@@ -47,7 +41,6 @@ returns-2 c =
     λ d k h.
     seen-any _ _ d k h (at-kind-at .kind-at .ensures d k h) (at-if1 .if1 .left) (c .before .form-at .ensures d k h) (c .if2 .taken)
 
--- src/scalars.rt:47:40
 add-t10 : tie.Need-add-t10
 add-t10 c =
     let entry = c .before .before .before .before .before .before in
@@ -55,7 +48,6 @@ add-t10 c =
     let at-if1 = c .before .before .before in
     omega (arith, box-inside _ _ _ (entry .pre .1) (at-kind-at .kind-at .ensures) (at-if1 .if1 .left))
 
--- src/scalars.rt:47:9
 returns-3 : tie.Need-returns-3
 returns-3 c =
     let at-kind-at = c .before .before .before .before in
@@ -64,7 +56,6 @@ returns-3 c =
     λ d k h.
     seen-all _ _ d k h (at-kind-at .kind-at .ensures d k h) (at-if1 .if1 .left) (at-form-at .form-at .ensures d k h) (c .if3 .taken)
 
--- src/scalars.rt:49:27
 add-name-at : tie.Need-add-name-at
 add-name-at c =
     let entry = c .before .before .before .before .before .before in
@@ -72,7 +63,6 @@ add-name-at c =
     let at-if1 = c .before .before .before in
     omega (arith, box-inside _ _ _ (entry .pre .1) (at-kind-at .kind-at .ensures) (at-if1 .if1 .left))
 
--- src/scalars.rt:49:9
 name-at-requires : tie.Need-name-at-requires
 name-at-requires c κs =
     let entry = c .before .before .before .before .before .before in
@@ -81,7 +71,6 @@ name-at-requires c κs =
     let at-form-at = c .before .before in
     has-name _ _ _ (entry .pre .1) (at-kind-at .kind-at .ensures) (at-if1 .if1 .left) (at-form-at .form-at .ensures) (c .before .if2 .left) (c .if3 .left)
 
--- src/scalars.rt:52:15
 add-t11 : tie.Need-add-t11
 add-t11 c =
     let entry = c .before .before .before .before .before .before .before in
@@ -89,7 +78,6 @@ add-t11 c =
     let at-if1 = c .before .before .before .before in
     omega (arith, box-inside _ _ _ (entry .pre .1) (at-kind-at .kind-at .ensures) (at-if1 .if1 .left))
 
--- src/scalars.rt:54:17
 add-t12 : tie.Need-add-t12
 add-t12 c =
     let entry = c .before .before .before .before .before .before .before in
@@ -99,7 +87,6 @@ add-t12 c =
     let at-if2 = c .before .before in
     omega (arith, count-inside _ _ _ (entry .pre .1) (at-kind-at .kind-at .ensures) (at-if1 .if1 .left) (at-form-at .form-at .ensures) (at-if2 .if2 .left) (c .before .if3 .left) _ (c .name-at .ensures))
 
--- src/scalars.rt:55:21
 shared-slice-read-wide : tie.Need-shared-slice-read-wide
 shared-slice-read-wide c =
     let entry = c .before .before .before .before .before .before .before .before in
@@ -110,11 +97,9 @@ shared-slice-read-wide c =
     let at-if3 = c .before .before in
     count-inside _ _ _ (entry .pre .1) (at-kind-at .kind-at .ensures) (at-if1 .if1 .left) (at-form-at .form-at .ensures) (at-if2 .if2 .left) (at-if3 .if3 .left) _ (c .before .name-at .ensures)
 
--- src/scalars.rt:55:16
 wide-requires : tie.Need-wide-requires
 wide-requires c κs = search needs
 
--- src/scalars.rt:34:1
 returns-4 : tie.Need-returns-4
 returns-4 c =
     let at-kind-at = c .before .before .before .before .before .before .before in

@@ -7,23 +7,18 @@ use Rattle.known.proofs.scalars.put_kind.Tie as tie
 use Rattle.known.proofs.scalars.put_kind.Reads as reads
 use Rattle.known.proofs.scalars.put_kind.Lts as lts
 
--- src/scalars.rt:64:19
 cast-out : tie.Need-cast-out
 cast-out c = search needs
 
--- src/scalars.rt:64:9
 add-out : tie.Need-add-out
 add-out c = omega (arith, scalar-kind _ _ (c .pre .0 .0) _ (c .pre .0 .2))
 
--- src/scalars.rt:64:5
 slice-write-out : tie.Need-slice-write-out
 slice-write-out c = omega (arith, scalar-kind _ _ (c .pre .0 .0) _ (c .pre .0 .2))
 
--- src/scalars.rt:60:1
 same-length : tie.Need-same-length
 same-length c = search needs
 
--- src/scalars.rt:60:1
 returns : tie.Need-returns
 returns c = λ d k l h e. kind-changed _ _ d k l h e
 

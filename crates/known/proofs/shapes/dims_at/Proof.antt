@@ -20,43 +20,35 @@ Inv-loop s start count sizes₀ i₀ at₀ sizes i at = (i ≤ count) × (length
 abbrev μ-loop : tie.MeasureT-loop
 μ-loop s start count sizes₀ i₀ at₀ sizes i at = count - i
 
--- src/shapes.rt:27:5
 loop-holds : tie.Need-loop-holds Inv-loop μ-loop
 loop-holds c = (search needs, search needs, λ ds h e. gathered-none _ _ ds _ _ h e)
 
--- src/shapes.rt:28:20
 number-at-requires : tie.Need-number-at-requires Inv-loop μ-loop
 number-at-requires c κs =
     let entry = c .before .before .before in
     size-there (c .before .loop .inv .2 (entry .pre .dims) (entry .pre .there) (entry .pre .counted)) (c .loop-test .taken)
 
--- src/shapes.rt:28:9
 mul-sizes : tie.Need-mul-sizes Inv-loop μ-loop
 mul-sizes c = search needs
 
--- src/shapes.rt:28:9
 array-write-sizes : tie.Need-array-write-sizes Inv-loop μ-loop
 array-write-sizes c =
     let entry = c .before .before .before .before in
     let at-loop = c .before .before in
     omega (arith, entry .pre .there .records .0, entry .pre .counted, at-loop .loop .inv .1, c .before .loop-test .taken)
 
--- src/shapes.rt:29:9
 add-at : tie.Need-add-at Inv-loop μ-loop
 add-at c =
     let entry = c .before .before .before .before in
     let at-loop = c .before .before in
     omega (arith, size-there (at-loop .loop .inv .2 (entry .pre .dims) (entry .pre .there) (entry .pre .counted)) (c .before .loop-test .taken))
 
--- src/shapes.rt:30:9
 add-i : tie.Need-add-i Inv-loop μ-loop
 add-i c = search needs
 
--- src/shapes.rt:27:5
 loop-less : tie.Need-loop-less Inv-loop μ-loop
 loop-less c = search needs
 
--- src/shapes.rt:27:5
 loop-again : tie.Need-loop-again Inv-loop μ-loop
 loop-again c =
     let entry = c .before .before .before .before in
@@ -65,7 +57,6 @@ loop-again c =
     let room : at-loop .loop .i < length (at-loop .loop .sizes) = omega (arith, entry .pre .there .records .0, entry .pre .counted, at-loop .loop .inv .1, less) in
     (omega arith, simp length-set (at-loop .loop .inv .1), λ ds h e. gathered-more (at-loop .loop .inv .2 ds h e) less room (c .number-at .ensures))
 
--- src/shapes.rt:20:1
 returns : tie.Need-returns Inv-loop μ-loop
 returns c = λ ds h e. gathered-all (c .before .loop .inv .2 ds h e) (omega (arith, c .before .loop .inv .0, c .loop-test .left))
 

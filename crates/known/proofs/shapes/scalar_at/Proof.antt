@@ -8,69 +8,57 @@ use Rattle.known.proofs.shapes.scalar_at.Reads as reads
 use Rattle.known.proofs.shapes.scalar_at.Lts as lts
 use Rattle.record.proofs.list_count.Reads as list-count-reads
 
--- src/shapes.rt:63:21
 add-opening : tie.Need-add-opening
 add-opening c = omega (arith, counts-inside _ _ _ (c .before .pre .1))
 
--- src/shapes.rt:63:19
 shared-slice-read-opening : tie.Need-shared-slice-read-opening
 shared-slice-read-opening c =
     let entry = c .before .before in
     omega (arith, counts-inside _ _ _ (entry .pre .1))
 
--- src/shapes.rt:63:19
 cast-opening : tie.Need-cast-opening
 cast-opening c =
     let entry = c .before .before in
     omega (arith, few-opening _ _ _ (entry .pre .1))
 
--- src/shapes.rt:64:32
 add-list-count : tie.Need-add-list-count
 add-list-count c =
     let entry = c .before .before in
     omega (arith, counts-inside _ _ _ (entry .pre .1))
 
--- src/shapes.rt:64:30
 shared-slice-read-list-count : tie.Need-shared-slice-read-list-count
 shared-slice-read-list-count c =
     let entry = c .before .before .before in
     omega (arith, counts-inside _ _ _ (entry .pre .1))
 
--- src/shapes.rt:64:30
 cast-list-count : tie.Need-cast-list-count
 cast-list-count c =
     let entry = c .before .before .before in
     omega (arith, c .shared-slice-known3 .given (entry .args .at + 3))
 
--- src/shapes.rt:64:9
 list-count-requires : tie.Need-list-count-requires
 list-count-requires c κs = search needs
 
--- src/shapes.rt:65:5
 add-result : tie.Need-add-result
 add-result c =
     let entry = c .before .before .before .before in
     omega (arith, counts-inside _ _ _ (entry .pre .1))
 
--- src/shapes.rt:65:19
 add-result-2 : tie.Need-add-result-2
 add-result-2 c =
     let entry = c .before .before .before .before in
     omega (arith, sizes-inside _ _ _ (entry .pre .1) (c .list-count .ensures))
 
--- src/shapes.rt:65:14
 mul-result : tie.Need-mul-result
 mul-result c =
     let entry = c .before .before .before .before in
     omega (arith, sizes-inside _ _ _ (entry .pre .1) (c .list-count .ensures))
 
--- src/shapes.rt:65:5
 add-result-3 : tie.Need-add-result-3
 add-result-3 c =
     let entry = c .before .before .before .before in
     omega (arith, sizes-inside _ _ _ (entry .pre .1) (c .list-count .ensures))
 
--- src/shapes.rt:59:1
 returns : tie.Need-returns
 returns c = λ d t h. scalar-place _ _ d (c .list-count .ensures) t h
 

@@ -62,7 +62,6 @@ skip-fields-Inv-loop s start count depth types₀ deepest₀ at₀ left₀ types
 abbrev skip-fields-μ-loop : skip-fields-lts.MeasureT-loop
 skip-fields-μ-loop s start count depth types₀ deepest₀ at₀ left₀ types deepest at left = left
 
--- src/spans.rt:68:5
 skip-fields-loop-holds : (t : ℕ) → skip-fields-lts.Need-loop-holds (
   skip-type-below t,
   skip-type.Post,
@@ -71,7 +70,6 @@ skip-fields-loop-holds : (t : ℕ) → skip-fields-lts.Need-loop-holds (
 ) (skip-fields-at t) skip-fields.Post skip-fields-Inv-loop skip-fields-μ-loop
 skip-fields-loop-holds t c = λ f h e. skip-start _ _ _ f _ h e
 
--- src/spans.rt:69:13
 skip-fields-skip-type-requires : (t : ℕ) → skip-fields-lts.Need-skip-type-requires (
   skip-type-below t,
   skip-type.Post,
@@ -82,7 +80,6 @@ skip-fields-skip-type-requires t c κs =
     let entry = c .before .before .before in
     (omega (arith, entry .pre .0), skip-has (c .before .loop .inv (entry .pre .1 .fields) (entry .pre .1 .there) (entry .pre .1 .counted)) (c .loop-test .taken))
 
--- src/spans.rt:70:9
 skip-fields-add-types : (t : ℕ) → skip-fields-lts.Need-add-types (
   skip-type-below t,
   skip-type.Post,
@@ -95,7 +92,6 @@ skip-fields-add-types t c =
     let at-loop-test = c .before .before in
     omega (arith, skip-few (at-loop .loop .inv (entry .pre .1 .fields) (entry .pre .1 .there) (entry .pre .1 .counted)) (at-loop-test .loop-test .taken) (c .before .skip-type .ensures) (entry .pre .1 .there))
 
--- src/spans.rt:71:9
 skip-fields-deeper-requires : (t : ℕ) → skip-fields-lts.Need-deeper-requires (
   skip-type-below t,
   skip-type.Post,
@@ -104,7 +100,6 @@ skip-fields-deeper-requires : (t : ℕ) → skip-fields-lts.Need-deeper-requires
 ) (skip-fields-at t) skip-fields.Post skip-fields-Inv-loop skip-fields-μ-loop
 skip-fields-deeper-requires t c κs = search needs
 
--- src/spans.rt:73:9
 skip-fields-sub-left : (t : ℕ) → skip-fields-lts.Need-sub-left (
   skip-type-below t,
   skip-type.Post,
@@ -113,7 +108,6 @@ skip-fields-sub-left : (t : ℕ) → skip-fields-lts.Need-sub-left (
 ) (skip-fields-at t) skip-fields.Post skip-fields-Inv-loop skip-fields-μ-loop
 skip-fields-sub-left t c = search needs
 
--- src/spans.rt:68:5
 skip-fields-loop-less : (t : ℕ) → skip-fields-lts.Need-loop-less (
   skip-type-below t,
   skip-type.Post,
@@ -122,7 +116,6 @@ skip-fields-loop-less : (t : ℕ) → skip-fields-lts.Need-loop-less (
 ) (skip-fields-at t) skip-fields.Post skip-fields-Inv-loop skip-fields-μ-loop
 skip-fields-loop-less t c = search needs
 
--- src/spans.rt:68:5
 skip-fields-loop-again : (t : ℕ) → skip-fields-lts.Need-loop-again (
   skip-type-below t,
   skip-type.Post,
@@ -136,7 +129,6 @@ skip-fields-loop-again t c =
     λ f h e.
     skip-next (at-loop .loop .inv f h e) (at-loop-test .loop-test .taken) (at-skip-type .skip-type .ensures) (c .deeper .ensures)
 
--- src/spans.rt:60:1
 skip-fields-returns : (t : ℕ) → skip-fields-lts.Need-returns (
   skip-type-below t,
   skip-type.Post,
@@ -145,7 +137,6 @@ skip-fields-returns : (t : ℕ) → skip-fields-lts.Need-returns (
 ) (skip-fields-at t) skip-fields.Post skip-fields-Inv-loop skip-fields-μ-loop
 skip-fields-returns t c = λ f h e. skip-end (c .before .loop .inv f h e) (omega (arith, c .loop-test .left)) _ refl refl refl
 
--- src/spans.rt:37:9
 skip-scalar-look-requires : (t : ℕ) → skip-scalar-lts.Need-look-requires (
   look-reads.Asked,
   look-reads.Learnt,
@@ -156,7 +147,6 @@ skip-scalar-look-requires : (t : ℕ) → skip-scalar-lts.Need-look-requires (
 ) (skip-scalar-at t) skip-scalar.Post
 skip-scalar-look-requires t c κs = (c .before .args .depth, c .before .pre .1)
 
--- src/spans.rt:39:32
 skip-scalar-enum-known-view : (t : ℕ) → skip-scalar-lts.Need-enum-known-view (
   look-reads.Asked,
   look-reads.Learnt,
@@ -167,7 +157,6 @@ skip-scalar-enum-known-view : (t : ℕ) → skip-scalar-lts.Need-enum-known-view
 ) (skip-scalar-at t) skip-scalar.Post
 skip-scalar-enum-known-view t c = search needs
 
--- src/spans.rt:44:24
 skip-scalar-enum-known-view-2 : (t : ℕ) → skip-scalar-lts.Need-enum-known-view-2 (
   look-reads.Asked,
   look-reads.Learnt,
@@ -178,7 +167,6 @@ skip-scalar-enum-known-view-2 : (t : ℕ) → skip-scalar-lts.Need-enum-known-vi
 ) (skip-scalar-at t) skip-scalar.Post
 skip-scalar-enum-known-view-2 t c = search needs
 
--- src/spans.rt:49:24
 skip-scalar-enum-known-view-3 : (t : ℕ) → skip-scalar-lts.Need-enum-known-view-3 (
   look-reads.Asked,
   look-reads.Learnt,
@@ -189,7 +177,6 @@ skip-scalar-enum-known-view-3 : (t : ℕ) → skip-scalar-lts.Need-enum-known-vi
 ) (skip-scalar-at t) skip-scalar.Post
 skip-scalar-enum-known-view-3 t c = search needs
 
--- src/spans.rt:49:37
 skip-scalar-skip-type-requires : (t : ℕ) → skip-scalar-lts.Need-skip-type-requires (
   look-reads.Asked,
   look-reads.Learnt,
@@ -203,7 +190,6 @@ skip-scalar-skip-type-requires t c κs =
     let at-look = c .before .before .before in
     (omega (arith, entry .pre .0), has-content _ _ _ _ (at-look .look .ensures) (c .before .view3 .given .1) (entry .pre .1))
 
--- src/spans.rt:53:13
 skip-scalar-enum-known-view-4 : (t : ℕ) → skip-scalar-lts.Need-enum-known-view-4 (
   look-reads.Asked,
   look-reads.Learnt,
@@ -214,7 +200,6 @@ skip-scalar-enum-known-view-4 : (t : ℕ) → skip-scalar-lts.Need-enum-known-vi
 ) (skip-scalar-at t) skip-scalar.Post
 skip-scalar-enum-known-view-4 t c = search needs
 
--- src/spans.rt:55:14
 skip-scalar-skip-fields-requires : (t : ℕ) → skip-scalar-lts.Need-skip-fields-requires (
   look-reads.Asked,
   look-reads.Learnt,
@@ -228,7 +213,6 @@ skip-scalar-skip-fields-requires t c κs =
     let at-look = c .before .before .before in
     (omega (arith, entry .pre .0), has-fields _ _ _ _ (at-look .look .ensures) (c .before .view4 .given .1) (entry .pre .1))
 
--- src/spans.rt:33:1
 skip-scalar-returns : (t : ℕ) → skip-scalar-lts.Need-returns (
   look-reads.Asked,
   look-reads.Learnt,
@@ -241,7 +225,6 @@ skip-scalar-returns t c =
     let at-look = c .before .before .before in
     λ k h. span-plain _ _ _ _ (at-look .look .ensures) _ k h (c .before .view .given .1) refl refl refl
 
--- src/spans.rt:33:1
 skip-scalar-returns-2 : (t : ℕ) → skip-scalar-lts.Need-returns-2 (
   look-reads.Asked,
   look-reads.Learnt,
@@ -254,7 +237,6 @@ skip-scalar-returns-2 t c =
     let at-look = c .before .before .before in
     λ k h. span-any _ _ _ _ (at-look .look .ensures) _ k h (c .before .view2 .given .1) refl refl refl
 
--- src/spans.rt:33:1
 skip-scalar-returns-3 : (t : ℕ) → skip-scalar-lts.Need-returns-3 (
   look-reads.Asked,
   look-reads.Learnt,
@@ -268,7 +250,6 @@ skip-scalar-returns-3 t c =
     let at-view3 = c .before .before in
     λ k h. span-all _ _ _ _ (at-look .look .ensures) _ k h (at-view3 .view3 .given .1) (c .skip-type .ensures)
 
--- src/spans.rt:33:1
 skip-scalar-returns-4 : (t : ℕ) → skip-scalar-lts.Need-returns-4 (
   look-reads.Asked,
   look-reads.Learnt,
@@ -282,7 +263,6 @@ skip-scalar-returns-4 t c =
     let at-view4 = c .before .before in
     λ k h. span-def _ _ _ _ (at-look .look .ensures) _ k h (at-view4 .view4 .given .1) (c .skip-fields .ensures)
 
--- src/spans.rt:24:33
 skip-type-scalar-at-requires : (t : ℕ) → skip-type-lts.Need-scalar-at-requires (
   scalar-at-reads.Asked,
   scalar-at-reads.Learnt,
@@ -291,7 +271,6 @@ skip-type-scalar-at-requires : (t : ℕ) → skip-type-lts.Need-scalar-at-requir
 ) (skip-type-at t) skip-type.Post
 skip-type-scalar-at-requires t c κs = (c .before .args .depth, c .before .pre .1)
 
--- src/spans.rt:24:51
 skip-type-sub-skip-scalar : (t : ℕ) → skip-type-lts.Need-sub-skip-scalar (
   scalar-at-reads.Asked,
   scalar-at-reads.Learnt,
@@ -302,7 +281,6 @@ skip-type-sub-skip-scalar t c =
     let entry = c .before .before in
     omega (arith, deep _ _ _ (entry .pre .1))
 
--- src/spans.rt:24:9
 skip-type-skip-scalar-requires : (t : ℕ) → skip-type-lts.Need-skip-scalar-requires (
   scalar-at-reads.Asked,
   scalar-at-reads.Learnt,
@@ -313,7 +291,6 @@ skip-type-skip-scalar-requires t c κs =
     let entry = c .before .before in
     (omega (arith, entry .pre .0, deep _ _ _ (entry .pre .1)), has-scalar _ _ (c .scalar-at .ensures) _ (entry .pre .1))
 
--- src/spans.rt:26:16
 skip-type-add-t6 : (t : ℕ) → skip-type-lts.Need-add-t6 (
   scalar-at-reads.Asked,
   scalar-at-reads.Learnt,
@@ -325,7 +302,6 @@ skip-type-add-t6 t c =
     let at-scalar-at = c .before .before in
     omega (arith, few-inside _ _ _ (at-scalar-at .scalar-at .ensures) _ (c .before .skip-scalar .ensures) (entry .pre .1))
 
--- src/spans.rt:27:16
 skip-type-add-t7 : (t : ℕ) → skip-type-lts.Need-add-t7 (
   scalar-at-reads.Asked,
   scalar-at-reads.Learnt,
@@ -338,7 +314,6 @@ skip-type-add-t7 t c =
     let at-skip-scalar = c .before .before in
     omega (arith, shallow-inside _ _ _ (at-scalar-at .scalar-at .ensures) _ (at-skip-scalar .skip-scalar .ensures) (entry .pre .1), entry .fits .depth)
 
--- src/spans.rt:20:1
 skip-type-returns : (t : ℕ) → skip-type-lts.Need-returns (
   scalar-at-reads.Asked,
   scalar-at-reads.Learnt,

@@ -17,31 +17,25 @@ Inv-loop s fields n at₀ left₀ at left = (f : Fields) → FieldsAt s fields m
 abbrev μ-loop : tie.MeasureT-loop
 μ-loop s fields n at₀ left₀ at left = left
 
--- src/spans.rt:95:5
 loop-holds : tie.Need-loop-holds Inv-loop μ-loop
 loop-holds c = λ f h l. reach-start _ _ _ _ f h l
 
--- src/spans.rt:96:13
 skip-type-requires : tie.Need-skip-type-requires Inv-loop μ-loop
 skip-type-requires c κs =
     let entry = c .before .before .before in
     reach-has (c .before .loop .inv (entry .pre .2 .fields) (entry .pre .2 .there) (omega (arith, entry .pre .1, entry .pre .2 .counted)))
 
--- src/spans.rt:98:9
 sub-left : tie.Need-sub-left Inv-loop μ-loop
 sub-left c = search needs
 
--- src/spans.rt:95:5
 loop-less : tie.Need-loop-less Inv-loop μ-loop
 loop-less c = search needs
 
--- src/spans.rt:95:5
 loop-again : tie.Need-loop-again Inv-loop μ-loop
 loop-again c =
     let at-loop = c .before .before in
     λ f h l. reach-next (at-loop .loop .inv f h l) (c .before .loop-test .taken) (λ t g. c .skip-type .ensures t g .ends)
 
--- src/spans.rt:89:1
 returns : tie.Need-returns Inv-loop μ-loop
 returns c = λ f h l. reach-end (c .before .loop .inv f h l) (omega (arith, c .loop-test .left))
 

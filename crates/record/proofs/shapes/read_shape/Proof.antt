@@ -14,37 +14,29 @@ use Rattle.record.proofs.bytes.read_mark.Reads as read-mark-reads
 use Rattle.record.proofs.bytes.read_optional.Reads as read-optional-reads
 use Rattle.record.proofs.shapes.read_sizes.Reads as read-sizes-reads
 
--- src/shapes.rt:35:9
 read-mark-requires : tie.Need-read-mark-requires
 read-mark-requires c κs = search needs
 
--- src/shapes.rt:36:39
 enum-known-mark : tie.Need-enum-known-mark
 enum-known-mark c = search needs
 
--- src/shapes.rt:37:9
 enum-told : tie.Need-enum-told
 enum-told c = search needs
 
--- src/shapes.rt:37:9
 returns : tie.Need-returns
 returns c =
     let at-read-mark = c .before .before in
     ap readingOf (c .enum-told .given .1) ∙ sym (shape-unmarked _ _ (read-stopped (at-read-mark .read-mark .ensures) (c .enum-told .given .1)))
 
--- src/shapes.rt:39:9
 read-count-requires : tie.Need-read-count-requires
 read-count-requires c κs = search needs
 
--- src/shapes.rt:40:30
 enum-known-opening : tie.Need-enum-known-opening
 enum-known-opening c = search needs
 
--- src/shapes.rt:41:9
 enum-told-2 : tie.Need-enum-told-2
 enum-told-2 c = search needs
 
--- src/shapes.rt:41:9
 returns-2 : tie.Need-returns-2
 returns-2 c =
     let at-read-mark = c .before .before .before .before .before .before in
@@ -52,19 +44,15 @@ returns-2 c =
     let at-read-count = c .before .before in
     ap readingOf (c .enum-told2 .given .1) ∙ sym (shape-uncounted _ _ (read-got (at-read-mark .read-mark .ensures) (at-mark .mark .given .1)) (read-stopped (at-read-count .read-count .ensures) (c .enum-told2 .given .1)))
 
--- src/shapes.rt:43:9
 read-optional-requires : tie.Need-read-optional-requires
 read-optional-requires c κs = search needs
 
--- src/shapes.rt:44:30
 enum-known-closing : tie.Need-enum-known-closing
 enum-known-closing c = search needs
 
--- src/shapes.rt:45:9
 enum-told-3 : tie.Need-enum-told-3
 enum-told-3 c = search needs
 
--- src/shapes.rt:45:9
 returns-3 : tie.Need-returns-3
 returns-3 c =
     let at-read-mark = c .before .before .before .before .before .before .before .before .before .before in
@@ -76,11 +64,9 @@ returns-3 c =
     ∙ sym (shape-unclosed _ _ (read-got (at-read-mark .read-mark .ensures) (at-mark .mark .given .1)) (read-got (at-read-count .read-count .ensures) (at-opening .opening .given .1))
     (read-stopped (at-read-optional .read-optional .ensures) (c .enum-told3 .given .1)))
 
--- src/shapes.rt:47:30
 list-count-requires : tie.Need-list-count-requires
 list-count-requires c κs = search needs
 
--- src/shapes.rt:47:26
 add-read-sizes : tie.Need-add-read-sizes
 add-read-sizes c =
     let at-read-count = c .before .before .before .before .before .before .before .before in
@@ -95,11 +81,9 @@ add-read-sizes c =
           (read-got (at-read-optional .read-optional .ensures) (at-closing .closing .given .1)),
     )
 
--- src/shapes.rt:47:5
 read-sizes-requires : tie.Need-read-sizes-requires
 read-sizes-requires c κs = search needs
 
--- src/shapes.rt:32:1
 returns-4 : tie.Need-returns-4
 returns-4 c =
     let at-read-mark = c .before .before .before .before .before .before .before .before .before .before .before .before .before in

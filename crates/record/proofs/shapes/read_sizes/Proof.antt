@@ -18,23 +18,18 @@ Inv-loop s place start count at₀ left₀ at left = mapRead nothing (readDims s
 abbrev μ-loop : tie.MeasureT-loop
 μ-loop s place start count at₀ left₀ at left = left
 
--- src/shapes.rt:20:5
 loop-holds : tie.Need-loop-holds Inv-loop μ-loop
 loop-holds c = refl
 
--- src/shapes.rt:21:13
 read-size-requires : tie.Need-read-size-requires Inv-loop μ-loop
 read-size-requires c κs = search needs
 
--- src/shapes.rt:22:37
 enum-known-size : tie.Need-enum-known-size Inv-loop μ-loop
 enum-known-size c = search needs
 
--- src/shapes.rt:23:13
 enum-told : tie.Need-enum-told Inv-loop μ-loop
 enum-told c = search needs
 
--- src/shapes.rt:23:13
 returns : tie.Need-returns Inv-loop μ-loop
 returns c =
     let at-loop = c .before .before .before .before in
@@ -44,15 +39,12 @@ returns c =
     ∙ (read-stopped (at-read-size .read-size .ensures) (c .enum-told .given .1)
     ∙ sym (at-loop .loop .inv ∙ sizes-stop _ _ _ _ (at-loop-test .loop-test .taken) (read-stopped (at-read-size .read-size .ensures) (c .enum-told .given .1))))
 
--- src/shapes.rt:26:9
 sub-left : tie.Need-sub-left Inv-loop μ-loop
 sub-left c = search needs
 
--- src/shapes.rt:20:5
 loop-less : tie.Need-loop-less Inv-loop μ-loop
 loop-less c = search needs
 
--- src/shapes.rt:20:5
 loop-again : tie.Need-loop-again Inv-loop μ-loop
 loop-again c =
     let at-loop = c .before .before .before .before .before in
@@ -60,7 +52,6 @@ loop-again c =
     let at-read-size = c .before .before .before in
     at-loop .loop .inv ∙ sizes-more _ _ _ _ (at-loop-test .loop-test .taken) (read-got (at-read-size .read-size .ensures) (c .before .size .given .1))
 
--- src/shapes.rt:15:1
 returns-2 : tie.Need-returns-2 Inv-loop μ-loop
 returns-2 c = sym (c .before .loop .inv ∙ sizes-end _ _ _ _ (omega arith))
 

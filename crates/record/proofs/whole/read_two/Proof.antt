@@ -9,15 +9,12 @@ use Rattle.record.proofs.whole.read_two.Reads as reads
 use Rattle.record.proofs.whole.read_two.Lts as lts
 use Rattle.record.proofs.whole.read_lone.Reads as read-lone-reads
 
--- src/whole.rt:61:9
 read-lone-requires : tie.Need-read-lone-requires
 read-lone-requires c κs = search needs
 
--- src/whole.rt:62:28
 enum-known-first : tie.Need-enum-known-first
 enum-known-first c = search needs
 
--- src/whole.rt:63:9
 returns : tie.Need-returns
 returns c =
     sym (refusal-first (lone (c .before .before .before .before .before .before .args .a .now)) (lone (c .before .before .before .before .before .before .args .b .now))
@@ -26,15 +23,12 @@ returns c =
 enum-told : tie.Need-enum-told
 enum-told c = search needs
 
--- src/whole.rt:65:9
 read-lone-requires-2 : tie.Need-read-lone-requires-2
 read-lone-requires-2 c κs = search needs
 
--- src/whole.rt:66:28
 enum-known-second : tie.Need-enum-known-second
 enum-known-second c = search needs
 
--- src/whole.rt:67:9
 returns-2 : tie.Need-returns-2
 returns-2 c =
     sym (refusal-second (lone (c .before .before .before .before .before .before .before .before .before .args .a .now))
@@ -45,7 +39,6 @@ returns-2 c =
 enum-told-2 : tie.Need-enum-told-2
 enum-told-2 c = search needs
 
--- src/whole.rt:58:1
 returns-3 : tie.Need-returns-3
 returns-3 c =
     sym (refusal-neither (lone (c .before .before .before .before .before .before .before .before .args .a .now))

@@ -6,27 +6,21 @@ use Rattle.record.proofs.whole.whichever.Tie as tie
 use Rattle.record.proofs.whole.whichever.Reads as reads
 use Rattle.record.proofs.whole.whichever.Lts as lts
 
--- src/whole.rt:77:26
 enum-told : tie.Need-enum-told
 enum-told c = search needs
 
--- src/whole.rt:78:22
 enum-known-two : tie.Need-enum-known-two
 enum-known-two c = search needs
 
--- src/whole.rt:79:23
 enum-known-two-2 : tie.Need-enum-known-two-2
 enum-known-two-2 c = search needs
 
--- src/whole.rt:73:1
 returns : tie.Need-returns
 returns c = search needs
 
--- src/whole.rt:73:1
 returns-2 : tie.Need-returns-2
 returns-2 c = sym (ap (λ t. whicheverOf (twoOf t)) (c .before .two .given .1))
 
--- src/whole.rt:73:1
 returns-3 : tie.Need-returns-3
 returns-3 c = sym (ap (λ t. whicheverOf (twoOf t)) (c .before .two2 .given .1))
 

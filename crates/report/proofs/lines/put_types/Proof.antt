@@ -21,11 +21,9 @@ Inv-loop types lengths bytes between out₀ at i₀ from₀ end₀ out i from en
 abbrev μ-loop : tie.MeasureT-loop
 μ-loop types lengths bytes between out₀ at i₀ from₀ end₀ out i from end = types - i
 
--- src/lines.rt:71:5
 loop-holds : tie.Need-loop-holds Inv-loop μ-loop
 loop-holds c = (omega arith, refl, λ ts h. walk-starts _ _ _ _ _ _ ts h)
 
--- src/lines.rt:72:27
 mul-next : tie.Need-mul-next Inv-loop μ-loop
 mul-next c =
     let entry = c .before .before .before .before .before .before in
@@ -34,7 +32,6 @@ mul-next c =
     let many = (c .before .loop .inv .2 (entry .pre .0 .types) (entry .pre .0 .there)) .many in
     scaled-fits (c .before .loop .i) (length (args .lengths .now)) 8 (omega (arith, many, c .loop-test .taken)) (at-good .good .1 .0 .1)
 
--- src/lines.rt:72:27
 shared-slice-read-next : tie.Need-shared-slice-read-next Inv-loop μ-loop
 shared-slice-read-next c =
     let entry = c .before .before .before .before .before .before .before in
@@ -42,7 +39,6 @@ shared-slice-read-next c =
     let many = (at-loop .loop .inv .2 (entry .pre .0 .types) (entry .pre .0 .there)) .many in
     omega (arith, many, c .before .loop-test .taken)
 
--- src/lines.rt:72:20
 add-next : tie.Need-add-next Inv-loop μ-loop
 add-next c =
     let entry = c .before .before .before .before .before .before .before in
@@ -52,7 +48,6 @@ add-next c =
     let e : at-loop .loop .from + getD (args .lengths .now) (at-loop .loop .i) 0 ≤ length (args .bytes .now) = due .inside in
     search needs
 
--- src/lines.rt:73:27
 sub-put-type : tie.Need-sub-put-type Inv-loop μ-loop
 sub-put-type c =
     let entry = c .before .before .before .before .before .before .before in
@@ -60,7 +55,6 @@ sub-put-type c =
     let due = walk-due _ _ _ _ _ _ _ (entry .pre .1) (omega (arith, c .before .loop-test .taken)) (at-loop .loop .inv .2 (entry .pre .0 .types) (entry .pre .0 .there)) in
     due .onward
 
--- src/lines.rt:73:27
 part-put-type-start : tie.Need-part-put-type-start Inv-loop μ-loop
 part-put-type-start c =
     let entry = c .before .before .before .before .before .before .before in
@@ -68,7 +62,6 @@ part-put-type-start c =
     let due = walk-due _ _ _ _ _ _ _ (entry .pre .1) (omega (arith, c .before .loop-test .taken)) (at-loop .loop .inv .2 (entry .pre .0 .types) (entry .pre .0 .there)) in
     due .onward
 
--- src/lines.rt:73:27
 part-put-type-end : tie.Need-part-put-type-end Inv-loop μ-loop
 part-put-type-end c =
     let entry = c .before .before .before .before .before .before .before in
@@ -76,7 +69,6 @@ part-put-type-end c =
     let due = walk-due _ _ _ _ _ _ _ (entry .pre .1) (omega (arith, c .before .loop-test .taken)) (at-loop .loop .inv .2 (entry .pre .0 .types) (entry .pre .0 .there)) in
     due .inside
 
--- src/lines.rt:73:9
 put-type-requires : tie.Need-put-type-requires Inv-loop μ-loop
 put-type-requires c κs =
     let entry = c .before .before .before .before .before .before .before .before .before in
@@ -85,15 +77,12 @@ put-type-requires c κs =
     let due = walk-due _ _ _ _ _ _ _ (entry .pre .1) (omega (arith, at-loop-test .loop-test .taken)) (at-loop .loop .inv .2 (entry .pre .0 .types) (entry .pre .0 .there)) in
     omega (arith, due .room, at-loop .loop .inv .1)
 
--- src/lines.rt:75:9
 add-i : tie.Need-add-i Inv-loop μ-loop
 add-i c = search needs
 
--- src/lines.rt:71:5
 loop-less : tie.Need-loop-less Inv-loop μ-loop
 loop-less c = search needs
 
--- src/lines.rt:71:5
 loop-again : tie.Need-loop-again Inv-loop μ-loop
 loop-again c =
     let entry = c .before .before .before .before .before .before .before .before .before .before .before .before in
@@ -106,11 +95,9 @@ loop-again c =
           walk-due _ _ _ _ _ _ ts (entry .pre .1) (omega (arith, at-loop-test .loop-test .taken)) (at-loop .loop .inv .2 ts h) .more _ _ (at-put-type .put-type .ensures),
     )
 
--- src/lines.rt:55:1
 same-length : tie.Need-same-length Inv-loop μ-loop
 same-length c = search needs
 
--- src/lines.rt:55:1
 returns : tie.Need-returns Inv-loop μ-loop
 returns c = λ ts h. walk-ends _ _ _ _ _ _ ts _ _ _ _ (omega (arith, c .loop-test .left)) (c .before .loop .inv .2 ts h)
 

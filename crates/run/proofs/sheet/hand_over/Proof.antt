@@ -12,23 +12,18 @@ use Rattle.run.proofs.sheet.hand_over.Reads as reads
 use Rattle.run.proofs.sheet.hand_over.Lts as lts
 use Rattle.stack.proofs.write_types.Reads as write-types-reads
 
--- src/sheet.rt:144:11
 write-types-requires : tie.Need-write-types-requires
 write-types-requires c κs = search needs
 
--- src/sheet.rt:145:24
 enum-known-n : tie.Need-enum-known-n
 enum-known-n c = search needs
 
--- src/sheet.rt:149:28
 enum-known-number : tie.Need-enum-known-number
 enum-known-number c = search needs
 
--- src/sheet.rt:133:1
 same-length : tie.Need-same-length
 same-length c = search needs
 
--- src/sheet.rt:133:1
 returns : tie.Need-returns
 returns c =
     let entry = c .before .before .before .before .before .before .before .before .before .before in
@@ -40,11 +35,9 @@ returns c =
     let many : length (reverse ts) ≡ args .count = length-reverse ts ∙ stacked-count (args .lengths .now) (args .count) (args .scratch .now) h in
     (handed-count (args .size) (reverse ts) (args .result .now) out [] many (sym (ap (λ r. delivered r out) (c .before .n .given .1)) ∙ wrote .ensures ts h), handed-sizes (args .lengths .now) (args .count) (args .scratch .now) h)
 
--- src/sheet.rt:133:1
 same-length-2 : tie.Need-same-length-2
 same-length-2 c = search needs
 
--- src/sheet.rt:133:1
 returns-2 : tie.Need-returns-2
 returns-2 c =
     let entry = c .before .before .before .before .before .before .before .before .before .before in

@@ -13,18 +13,15 @@ use Rattle.run.proofs.sheet.measure_sheet.Lts as lts
 use Rattle.run.proofs.sheet.run_sheet.Reads as run-sheet-reads
 use Rattle.stack.proofs.clear.Reads as clear-reads
 
--- src/sheet.rt:48:9
 returns : tie.Need-returns
 returns c =
     let entry = c .before .before .before .before .before in
     let args = entry .args in
     (sym (call-short (args .sheet .now) (args .result .now) (args .scratch .now) (c .if1 .taken)), tt)
 
--- src/sheet.rt:56:9
 slice-relend-prefix-run-sheet : tie.Need-slice-relend-prefix-run-sheet
 slice-relend-prefix-run-sheet c = search needs
 
--- src/sheet.rt:56:9
 slice-aggregate-run-sheet : tie.Need-slice-aggregate-run-sheet
 slice-aggregate-run-sheet c =
     let entry = c .before .before .before .before .before .before .before in
@@ -32,7 +29,6 @@ slice-aggregate-run-sheet c =
     let args = entry .args in
     sym (length-take-le scratchBytes (args .scratch .now) (at-if1 .if1 .left))
 
--- src/sheet.rt:53:9
 run-sheet-requires : tie.Need-run-sheet-requires
 run-sheet-requires c κs =
     let entry = c .before .before .before .before .before .before .before .before in
@@ -40,7 +36,6 @@ run-sheet-requires c κs =
     let args = entry .args in
     (entry .pre, rw (length-take-le scratchBytes (args .scratch .now) (at-if1 .if1 .left)) (omega arith))
 
--- src/sheet.rt:59:5
 clear-requires : tie.Need-clear-requires
 clear-requires c κs =
     let entry = c .before .before .before .before .before .before .before .before .before .before .before .before .before .before .before .before in
@@ -50,11 +45,9 @@ clear-requires c κs =
     let again = length-again scratchBytes (at-run-sheet .run-sheet .last .1 .1 .0) (args .scratch .now) (at-if1 .if1 .left) (at-run-sheet .run-sheet .kept .1 .1 .0) in
     omega (arith, again, at-if1 .if1 .left)
 
--- src/sheet.rt:37:1
 same-length : tie.Need-same-length
 same-length c = search needs
 
--- src/sheet.rt:37:1
 same-length-2 : tie.Need-same-length-2
 same-length-2 c =
     let entry = c .before .before .before .before .before .before .before .before .before .before .before .before .before .before .before .before .before .before .before in
@@ -64,11 +57,9 @@ same-length-2 c =
     let args = entry .args in
     at-clear .clear .kept .0 ∙ length-again scratchBytes (at-run-sheet .run-sheet .last .1 .1 .0) (args .scratch .now) (at-if1 .if1 .left) (at-run-sheet .run-sheet .kept .1 .1 .0)
 
--- src/sheet.rt:37:1
 same-length-3 : tie.Need-same-length-3
 same-length-3 c = search needs
 
--- src/sheet.rt:37:1
 returns-2 : tie.Need-returns-2
 returns-2 c =
     let entry = c .before .before .before .before .before .before .before .before .before .before .before .before .before .before .before .before .before .before .before in

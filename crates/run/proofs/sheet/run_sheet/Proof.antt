@@ -12,11 +12,9 @@ use Rattle.run.proofs.sheet.run_sheet.Lts as lts
 use Rattle.run.proofs.sheet.hand_over.Reads as hand-over-reads
 use Rattle.run.proofs.sheet.run_steps.Reads as run-steps-reads
 
--- src/sheet.rt:75:68
 slice-aggregate-run-steps : tie.Need-slice-aggregate-run-steps
 slice-aggregate-run-steps c = search needs
 
--- src/sheet.rt:75:9
 run-steps-requires : tie.Need-run-steps-requires
 run-steps-requires c κs =
     let entry = c .before .before .before .before .before .before .before in
@@ -24,11 +22,9 @@ run-steps-requires c κs =
     let none = stacked-none (args .lengths .now) (args .scratch .now) (entry .pre .0) (entry .pre .1) in
     (search needs, record { types = []; stacked = none })
 
--- src/sheet.rt:79:37
 enum-told : tie.Need-enum-told
 enum-told c = search needs
 
--- src/sheet.rt:79:27
 hand-over-requires : tie.Need-hand-over-requires
 hand-over-requires c κs =
     let entry = c .before .before .before .before .before .before .before .before .before .before .before .before .before .before .before .before .before .before in
@@ -40,23 +36,18 @@ hand-over-requires c κs =
     run-left (args .sheet .now) (at-run-steps .run-steps .result) _ _ runs (at-enum-told .enum-told .given .1) λ ts h e.
     record { types = ts; stacked = h }
 
--- src/sheet.rt:80:28
 enum-known-answer : tie.Need-enum-known-answer
 enum-known-answer c = search needs
 
--- src/sheet.rt:64:1
 same-length : tie.Need-same-length
 same-length c = search needs
 
--- src/sheet.rt:64:1
 same-length-2 : tie.Need-same-length-2
 same-length-2 c = search needs
 
--- src/sheet.rt:64:1
 same-length-3 : tie.Need-same-length-3
 same-length-3 c = search needs
 
--- src/sheet.rt:64:1
 returns : tie.Need-returns
 returns c =
     let entry = c .before .before .before .before .before .before .before .before .before .before .before .before .before .before .before .before .before .before .before .before .before in
@@ -69,15 +60,12 @@ returns c =
     run-left (args .sheet .now) (at-run-steps .run-steps .result) _ _ runs (at-enum-told .enum-told .given .1) λ ts h e.
     rw e (at-hand-over .hand-over .ensures ts h)
 
--- src/sheet.rt:64:1
 same-length-4 : tie.Need-same-length-4
 same-length-4 c = search needs
 
--- src/sheet.rt:64:1
 same-length-5 : tie.Need-same-length-5
 same-length-5 c = search needs
 
--- src/sheet.rt:64:1
 returns-2 : tie.Need-returns-2
 returns-2 c =
     let entry = c .before .before .before .before .before .before .before .before .before .before .before .before .before .before .before .before in

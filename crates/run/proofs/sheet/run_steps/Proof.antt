@@ -20,29 +20,24 @@ Inv-loop s count taken lengths₀ scratch₀ work₀ height₀ steps₀ at₀ le
 abbrev μ-loop : tie.MeasureT-loop
 μ-loop s count taken lengths₀ scratch₀ work₀ height₀ steps₀ at₀ lengths scratch work height steps at = maxSteps - steps
 
--- src/sheet.rt:101:5
 loop-holds : tie.Need-loop-holds Inv-loop μ-loop
 loop-holds c = (search needs, search needs, search needs, λ st h. record { state = st; here = h; same = refl })
 
--- src/sheet.rt:103:13
 same-length : tie.Need-same-length Inv-loop μ-loop
 same-length c =
     let at-loop = c .before .before in
     at-loop .loop .inv .0
 
--- src/sheet.rt:103:13
 same-length-2 : tie.Need-same-length-2 Inv-loop μ-loop
 same-length-2 c =
     let at-loop = c .before .before in
     at-loop .loop .inv .1
 
--- src/sheet.rt:103:13
 same-length-3 : tie.Need-same-length-3 Inv-loop μ-loop
 same-length-3 c =
     let at-loop = c .before .before in
     at-loop .loop .inv .2
 
--- src/sheet.rt:103:13
 returns : tie.Need-returns Inv-loop μ-loop
 returns c =
     let entry = c .before .before .before .before .before .before .before in
@@ -50,7 +45,6 @@ returns c =
     let args = entry .args in
     λ st h. going-over (args .s .now) (sheetFrom (args .s .now) st 0) (at-loop .loop .inv .3 st h) (c .if1 .taken) (c .before .loop-test .taken)
 
--- src/sheet.rt:112:13
 work-step-requires : tie.Need-work-step-requires Inv-loop μ-loop
 work-step-requires c κs =
     let entry = c .before .before .before .before .before .before .before .before .before .before in
@@ -58,36 +52,30 @@ work-step-requires c κs =
     let args = entry .args in
     (omega (arith, at-loop .loop .inv .2, entry .pre .0), going-has (args .s .now) (args .lengths .now) (args .count) (args .scratch .now) (args .taken) (entry .pre .1) (at-loop .loop .inv .3))
 
--- src/sheet.rt:114:25
 enum-known-answer : tie.Need-enum-known-answer Inv-loop μ-loop
 enum-known-answer c = search needs
 
--- src/sheet.rt:115:13
 enum-told : tie.Need-enum-told Inv-loop μ-loop
 enum-told c = search needs
 
--- src/sheet.rt:115:13
 same-length-4 : tie.Need-same-length-4 Inv-loop μ-loop
 same-length-4 c =
     let at-loop = c .before .before .before .before .before .before .before .before .before .before .before .before .before .before in
     let at-work-step = c .before .before .before .before .before .before .before .before in
     at-work-step .work-step .kept .1 .1 .1 .0 ∙ at-loop .loop .inv .0
 
--- src/sheet.rt:115:13
 same-length-5 : tie.Need-same-length-5 Inv-loop μ-loop
 same-length-5 c =
     let at-loop = c .before .before .before .before .before .before .before .before .before .before .before .before .before .before in
     let at-work-step = c .before .before .before .before .before .before .before .before in
     at-work-step .work-step .kept .1 .1 .1 .1 .0 ∙ at-loop .loop .inv .1
 
--- src/sheet.rt:115:13
 same-length-6 : tie.Need-same-length-6 Inv-loop μ-loop
 same-length-6 c =
     let at-loop = c .before .before .before .before .before .before .before .before .before .before .before .before .before .before in
     let at-work-step = c .before .before .before .before .before .before .before .before in
     at-work-step .work-step .kept .1 .1 .1 .1 .1 .0 ∙ at-loop .loop .inv .2
 
--- src/sheet.rt:115:13
 returns-2 : tie.Need-returns-2 Inv-loop μ-loop
 returns-2 c =
     let entry = c .before .before .before .before .before .before .before .before .before .before .before .before .before .before .before .before .before .before .before in
@@ -101,15 +89,12 @@ returns-2 c =
     let works = at-work-step .work-step .ensures (g .state) (g .here .stacked) in
     rw (c .enum-told .given .1) (going-stop (args .s .now) (sheetFrom (args .s .now) st 0) g (at-if1 .if1 .left) (at-loop-test .loop-test .taken) (at-work-step .work-step .result) _ _ works (c .enum-told .given .1))
 
--- src/sheet.rt:123:9
 add-steps : tie.Need-add-steps Inv-loop μ-loop
 add-steps c = search needs
 
--- src/sheet.rt:101:5
 loop-less : tie.Need-loop-less Inv-loop μ-loop
 loop-less c = search needs
 
--- src/sheet.rt:101:5
 loop-again : tie.Need-loop-again Inv-loop μ-loop
 loop-again c =
     let entry = c .before .before .before .before .before .before .before .before .before .before .before .before .before .before .before .before .before .before .before .before in
@@ -127,19 +112,15 @@ loop-again c =
           going-step (args .s .now) (sheetFrom (args .s .now) st 0) g (at-if1 .if1 .left) (at-loop-test .loop-test .taken) (at-work-step .work-step .result) _ _ works (c .before .answer .given .1),
     )
 
--- src/sheet.rt:86:1
 same-length-7 : tie.Need-same-length-7 Inv-loop μ-loop
 same-length-7 c = c .before .loop .inv .0
 
--- src/sheet.rt:86:1
 same-length-8 : tie.Need-same-length-8 Inv-loop μ-loop
 same-length-8 c = c .before .loop .inv .1
 
--- src/sheet.rt:86:1
 same-length-9 : tie.Need-same-length-9 Inv-loop μ-loop
 same-length-9 c = c .before .loop .inv .2
 
--- src/sheet.rt:86:1
 returns-3 : tie.Need-returns-3 Inv-loop μ-loop
 returns-3 c =
     let entry = c .before .before .before .before .before .before in

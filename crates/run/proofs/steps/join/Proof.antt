@@ -10,15 +10,12 @@ use Rattle.run.proofs.steps.join.Lts as lts
 use Rattle.run.proofs.steps.lay_down.Reads as lay-down-reads
 use Rattle.run.proofs.tops.join_top.Reads as join-top-reads
 
--- src/steps.rt:163:9
 join-top-requires : tie.Need-join-top-requires
 join-top-requires c κs = search needs
 
--- src/steps.rt:167:9
 sub-lay-down : tie.Need-sub-lay-down
 sub-lay-down c = search needs
 
--- src/steps.rt:164:5
 lay-down-requires : tie.Need-lay-down-requires
 lay-down-requires c κs =
     let entry = c .before .before .before .before .before .before .before .before .before .before .before .before in
@@ -26,19 +23,15 @@ lay-down-requires c κs =
     let args = entry .args in
     (entry .pre .2, ruled-two (args .lengths .now) (args .count) (args .scratch .now) (at-join-top .join-top .result) _ (λ t u. accepted (joinTypes t u)) join-within (entry .pre .0) (at-join-top .join-top .ensures) (entry .pre .2))
 
--- src/steps.rt:152:1
 same-length : tie.Need-same-length
 same-length c = search needs
 
--- src/steps.rt:152:1
 same-length-2 : tie.Need-same-length-2
 same-length-2 c = search needs
 
--- src/steps.rt:152:1
 same-length-3 : tie.Need-same-length-3
 same-length-3 c = search needs
 
--- src/steps.rt:152:1
 returns : tie.Need-returns
 returns c =
     let entry = c .before .before .before .before .before .before .before .before .before .before .before .before .before .before .before .before .before in

@@ -14,11 +14,9 @@ use Rattle.run.proofs.steps.lay_down.Lts as lts
 use Rattle.run.proofs.steps.refuse.Reads as refuse-reads
 use Rattle.stack.proofs.store.Reads as store-reads
 
--- src/steps.rt:217:24
 enum-known-w : tie.Need-enum-known-w
 enum-known-w c = search needs
 
--- src/steps.rt:218:52
 slice-aggregate-store : tie.Need-slice-aggregate-store
 slice-aggregate-store c =
     let entry = c .before .before .before .before .before .before .before .before .before in
@@ -27,7 +25,6 @@ slice-aggregate-store c =
     rule-wrote (entry .pre .1 .0) (args .w) (args .work .now) (at-w .w .given .1) (entry .pre .1 .1 .given) λ t e bytes fits.
     sym (length-take-le _ _ fits)
 
--- src/steps.rt:218:13
 store-requires : tie.Need-store-requires
 store-requires c κs =
     let entry = c .before .before .before .before .before .before .before .before .before in
@@ -36,27 +33,21 @@ store-requires c κs =
     rule-wrote (entry .pre .1 .0) (args .w) (args .work .now) (at-w .w .given .1) (entry .pre .1 .1 .given) λ t e bytes fits.
     (entry .pre .1 .1 .low, rw bytes (suffices t (entry .pre .1 .1 .within t e)), entry .pre .0 .stacked .slotted, entry .pre .0 .stacked .room)
 
--- src/steps.rt:221:24
 add-t20 : tie.Need-add-t20
 add-t20 c = search needs
 
--- src/steps.rt:224:28
 enum-known-w-2 : tie.Need-enum-known-w-2
 enum-known-w-2 c = search needs
 
--- src/steps.rt:224:50
 refuse-requires : tie.Need-refuse-requires
 refuse-requires c κs = search needs
 
--- src/steps.rt:203:1
 same-length : tie.Need-same-length
 same-length c = search needs
 
--- src/steps.rt:203:1
 same-length-2 : tie.Need-same-length-2
 same-length-2 c = search needs
 
--- src/steps.rt:203:1
 returns : tie.Need-returns
 returns c =
     let entry = c .before .before .before .before .before .before .before .before .before .before .before .before .before .before in
@@ -68,7 +59,6 @@ returns c =
     let below = drop (args .count - args .k) (st .stack) in
     (afterStep st (t ∷ below), rw e, at-store .store .ensures (args .count) (st .stack) t (ruled .there) h (ruled .within t e) bytes)
 
--- src/steps.rt:203:1
 returns-2 : tie.Need-returns-2
 returns-2 c =
     let entry = c .before .before .before .before .before .before .before in

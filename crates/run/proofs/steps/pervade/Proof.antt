@@ -10,15 +10,12 @@ use Rattle.run.proofs.steps.pervade.Lts as lts
 use Rattle.run.proofs.steps.lay_down.Reads as lay-down-reads
 use Rattle.run.proofs.tops.pervade_top.Reads as pervade-top-reads
 
--- src/steps.rt:132:9
 pervade-top-requires : tie.Need-pervade-top-requires
 pervade-top-requires c κs = search needs
 
--- src/steps.rt:143:9
 sub-lay-down : tie.Need-sub-lay-down
 sub-lay-down c = search needs
 
--- src/steps.rt:140:5
 lay-down-requires : tie.Need-lay-down-requires
 lay-down-requires c κs =
     let entry = c .before .before .before .before .before .before .before .before .before .before .before .before in
@@ -29,19 +26,15 @@ lay-down-requires c κs =
           (λ t u. atStart (pervadeTypes (args .top-fill) (args .below-fill) t u)) (pervade-within (args .top-fill) (args .below-fill)) (entry .pre .0) (at-pervade-top .pervade-top .ensures) (entry .pre .2),
     )
 
--- src/steps.rt:119:1
 same-length : tie.Need-same-length
 same-length c = search needs
 
--- src/steps.rt:119:1
 same-length-2 : tie.Need-same-length-2
 same-length-2 c = search needs
 
--- src/steps.rt:119:1
 same-length-3 : tie.Need-same-length-3
 same-length-3 c = search needs
 
--- src/steps.rt:119:1
 returns : tie.Need-returns
 returns c =
     let entry = c .before .before .before .before .before .before .before .before .before .before .before .before .before .before .before .before .before in

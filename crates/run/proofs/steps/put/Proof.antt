@@ -14,7 +14,6 @@ use Rattle.run.proofs.steps.put.Reads as reads
 use Rattle.run.proofs.steps.put.Lts as lts
 use Rattle.stack.proofs.store.Reads as store-reads
 
--- src/steps.rt:88:5
 store-requires : tie.Need-store-requires
 store-requires c κs =
     let entry = c .before .before .before .before .before in
@@ -24,19 +23,15 @@ store-requires c κs =
     let (bytes, within) = lone-write (args .ty .now) (λ i. omega (arith, at-shared-slice-known .shared-slice-known .given i)) t read in
     (entry .pre .0, rw (← bytes) (suffices t within), entry .pre .1 .stacked .slotted, entry .pre .1 .stacked .room)
 
--- src/steps.rt:91:16
 add-t12 : tie.Need-add-t12
 add-t12 c = search needs
 
--- src/steps.rt:83:1
 same-length : tie.Need-same-length
 same-length c = search needs
 
--- src/steps.rt:83:1
 same-length-2 : tie.Need-same-length-2
 same-length-2 c = search needs
 
--- src/steps.rt:83:1
 returns : tie.Need-returns
 returns c =
     let entry = c .before .before .before .before .before .before .before .before .before .before in

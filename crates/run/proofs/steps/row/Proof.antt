@@ -10,15 +10,12 @@ use Rattle.run.proofs.steps.row.Lts as lts
 use Rattle.run.proofs.steps.lay_down.Reads as lay-down-reads
 use Rattle.run.proofs.tops.row_top.Reads as row-top-reads
 
--- src/steps.rt:106:9
 row-top-requires : tie.Need-row-top-requires
 row-top-requires c κs = search needs
 
--- src/steps.rt:110:9
 sub-lay-down : tie.Need-sub-lay-down
 sub-lay-down c = search needs
 
--- src/steps.rt:107:5
 lay-down-requires : tie.Need-lay-down-requires
 lay-down-requires c κs =
     let entry = c .before .before .before .before .before .before .before .before .before .before .before .before in
@@ -26,19 +23,15 @@ lay-down-requires c κs =
     let args = entry .args in
     (entry .pre .2, ruled-one (args .lengths .now) (args .count) (args .scratch .now) (at-row-top .row-top .result) _ (λ t. accepted (intoRow t)) row-within (entry .pre .0) (at-row-top .row-top .ensures) (entry .pre .2))
 
--- src/steps.rt:95:1
 same-length : tie.Need-same-length
 same-length c = search needs
 
--- src/steps.rt:95:1
 same-length-2 : tie.Need-same-length-2
 same-length-2 c = search needs
 
--- src/steps.rt:95:1
 same-length-3 : tie.Need-same-length-3
 same-length-3 c = search needs
 
--- src/steps.rt:95:1
 returns : tie.Need-returns
 returns c =
     let entry = c .before .before .before .before .before .before .before .before .before .before .before .before .before .before .before .before .before in

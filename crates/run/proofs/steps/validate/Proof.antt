@@ -12,15 +12,12 @@ use Rattle.run.proofs.steps.validate.Lts as lts
 use Rattle.run.proofs.steps.lay_down.Reads as lay-down-reads
 use Rattle.run.proofs.tops.validate_top.Reads as validate-top-reads
 
--- src/steps.rt:189:9
 validate-top-requires : tie.Need-validate-top-requires
 validate-top-requires c κs = search needs
 
--- src/steps.rt:193:9
 sub-lay-down : tie.Need-sub-lay-down
 sub-lay-down c = search needs
 
--- src/steps.rt:190:5
 lay-down-requires : tie.Need-lay-down-requires
 lay-down-requires c κs =
     let entry = c .before .before .before .before .before .before .before .before .before .before .before .before .before in
@@ -34,19 +31,15 @@ lay-down-requires c κs =
           (validated-within spec within) (entry .pre .0 .0) (at-validate-top .validate-top .ensures spec read) (entry .pre .0 .2),
     )
 
--- src/steps.rt:176:1
 same-length : tie.Need-same-length
 same-length c = search needs
 
--- src/steps.rt:176:1
 same-length-2 : tie.Need-same-length-2
 same-length-2 c = search needs
 
--- src/steps.rt:176:1
 same-length-3 : tie.Need-same-length-3
 same-length-3 c = search needs
 
--- src/steps.rt:176:1
 returns : tie.Need-returns
 returns c =
     let entry = c .before .before .before .before .before .before .before .before .before .before .before .before .before .before .before .before .before .before in

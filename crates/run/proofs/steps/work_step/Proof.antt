@@ -15,15 +15,12 @@ use Rattle.run.proofs.steps.refuse.Reads as refuse-reads
 use Rattle.run.proofs.steps.row.Reads as row-reads
 use Rattle.run.proofs.steps.validate.Reads as validate-reads
 
--- src/steps.rt:39:9
 step-at-requires : tie.Need-step-at-requires
 step-at-requires c κs = search needs
 
--- src/steps.rt:41:25
 enum-known-read : tie.Need-enum-known-read
 enum-known-read c = search needs
 
--- src/steps.rt:42:17
 sub-put : tie.Need-sub-put
 sub-put c =
     let entry = c .before .before .before .before .before .before .before .before in
@@ -31,7 +28,6 @@ sub-put c =
     let args = entry .args in
     put-read (args .s .now) (at-step-at .step-at .ensures) (c .before .read .given .1) λ t e x. x .forth
 
--- src/steps.rt:42:17
 part-put-start : tie.Need-part-put-start
 part-put-start c =
     let entry = c .before .before .before .before .before .before .before .before in
@@ -39,7 +35,6 @@ part-put-start c =
     let args = entry .args in
     put-read (args .s .now) (at-step-at .step-at .ensures) (c .before .read .given .1) λ t e x. x .forth
 
--- src/steps.rt:42:17
 part-put-end : tie.Need-part-put-end
 part-put-end c =
     let entry = c .before .before .before .before .before .before .before .before in
@@ -47,7 +42,6 @@ part-put-end c =
     let args = entry .args in
     put-read (args .s .now) (at-step-at .step-at .ensures) (c .before .read .given .1) λ t e x. x .there
 
--- src/steps.rt:42:13
 put-requires : tie.Need-put-requires
 put-requires c κs =
     let entry = c .before .before .before .before .before .before .before .before .before .before .before in
@@ -59,11 +53,9 @@ put-requires c κs =
     let took = took-step (args .s .now) (λ i. omega (arith, at-shared-slice-known .shared-slice-known .given i)) (args .count) (args .at) (args .at) (put t) _ e in
     (omega (arith, took .room), entry .pre .1, (t, x .reads))
 
--- src/steps.rt:44:25
 enum-known-read-2 : tie.Need-enum-known-read-2
 enum-known-read-2 c = search needs
 
--- src/steps.rt:44:35
 row-requires : tie.Need-row-requires
 row-requires c κs =
     let entry = c .before .before .before .before .before .before .before .before .before .before .before in
@@ -75,11 +67,9 @@ row-requires c κs =
     let took = took-step (args .s .now) (λ i. omega (arith, at-shared-slice-known .shared-slice-known .given i)) (args .count) (args .at) (args .at) row _ read in
     (took .enough, entry .pre .0, entry .pre .1)
 
--- src/steps.rt:46:13
 enum-known-read-3 : tie.Need-enum-known-read-3
 enum-known-read-3 c = search needs
 
--- src/steps.rt:49:14
 pervade-requires : tie.Need-pervade-requires
 pervade-requires c κs =
     let entry = c .before .before .before .before .before .before .before .before .before .before .before in
@@ -91,11 +81,9 @@ pervade-requires c κs =
     let took = took-step (args .s .now) (λ i. omega (arith, at-shared-slice-known .shared-slice-known .given i)) (args .count) (args .at) (args .at) (pervading _ _) _ read in
     (took .enough, entry .pre .0, entry .pre .1)
 
--- src/steps.rt:59:26
 enum-known-read-4 : tie.Need-enum-known-read-4
 enum-known-read-4 c = search needs
 
--- src/steps.rt:59:36
 join-requires : tie.Need-join-requires
 join-requires c κs =
     let entry = c .before .before .before .before .before .before .before .before .before .before .before in
@@ -107,11 +95,9 @@ join-requires c κs =
     let took = took-step (args .s .now) (λ i. omega (arith, at-shared-slice-known .shared-slice-known .given i)) (args .count) (args .at) (args .at) join _ read in
     (took .enough, entry .pre .0, entry .pre .1)
 
--- src/steps.rt:60:32
 enum-known-read-5 : tie.Need-enum-known-read-5
 enum-known-read-5 c = search needs
 
--- src/steps.rt:61:13
 sub-validate : tie.Need-sub-validate
 sub-validate c =
     let entry = c .before .before .before .before .before .before .before .before in
@@ -119,7 +105,6 @@ sub-validate c =
     let args = entry .args in
     validating-read (args .s .now) (at-step-at .step-at .ensures) (c .before .read5 .given .1) λ t e x. x .forth
 
--- src/steps.rt:61:13
 part-validate-start : tie.Need-part-validate-start
 part-validate-start c =
     let entry = c .before .before .before .before .before .before .before .before in
@@ -127,7 +112,6 @@ part-validate-start c =
     let args = entry .args in
     validating-read (args .s .now) (at-step-at .step-at .ensures) (c .before .read5 .given .1) λ t e x. x .forth
 
--- src/steps.rt:61:13
 part-validate-end : tie.Need-part-validate-end
 part-validate-end c =
     let entry = c .before .before .before .before .before .before .before .before in
@@ -135,7 +119,6 @@ part-validate-end c =
     let args = entry .args in
     validating-read (args .s .now) (at-step-at .step-at .ensures) (c .before .read5 .given .1) λ t e x. x .there
 
--- src/steps.rt:60:49
 validate-requires : tie.Need-validate-requires
 validate-requires c κs =
     let entry = c .before .before .before .before .before .before .before .before .before .before .before .before in
@@ -147,23 +130,18 @@ validate-requires c κs =
     let took = took-step (args .s .now) (λ i. omega (arith, at-shared-slice-known .shared-slice-known .given i)) (args .count) (args .at) (args .at) (validating t) _ e in
     ((took .enough, entry .pre .0, entry .pre .1), (t, x .reads))
 
--- src/steps.rt:69:29
 enum-known-read-6 : tie.Need-enum-known-read-6
 enum-known-read-6 c = search needs
 
--- src/steps.rt:69:48
 refuse-requires : tie.Need-refuse-requires
 refuse-requires c κs = search needs
 
--- src/steps.rt:27:1
 same-length : tie.Need-same-length
 same-length c = search needs
 
--- src/steps.rt:27:1
 same-length-2 : tie.Need-same-length-2
 same-length-2 c = search needs
 
--- src/steps.rt:27:1
 returns : tie.Need-returns
 returns c =
     let entry = c .before .before .before .before .before .before .before .before .before .before .before .before .before .before .before .before in
@@ -175,19 +153,15 @@ returns c =
     put-read (args .s .now) (at-step-at .step-at .ensures) (at-read .read .given .1) λ t e x.
     worked (args .s .now) (args .at) st h (at-put .put .result) _ _ (put t) e (at-put .put .ensures t (args .at) (x .reads))
 
--- src/steps.rt:27:1
 same-length-3 : tie.Need-same-length-3
 same-length-3 c = search needs
 
--- src/steps.rt:27:1
 same-length-4 : tie.Need-same-length-4
 same-length-4 c = search needs
 
--- src/steps.rt:27:1
 same-length-5 : tie.Need-same-length-5
 same-length-5 c = search needs
 
--- src/steps.rt:27:1
 returns-2 : tie.Need-returns-2
 returns-2 c =
     let entry = c .before .before .before .before .before .before .before .before .before .before .before .before .before .before .before .before .before .before in
@@ -199,19 +173,15 @@ returns-2 c =
     let read = row-read (args .s .now) (at-step-at .step-at .ensures) (at-read2 .read2 .given .1) in
     worked (args .s .now) (args .at) st h (at-row .row .result) _ _ row read (at-row .row .ensures)
 
--- src/steps.rt:27:1
 same-length-6 : tie.Need-same-length-6
 same-length-6 c = search needs
 
--- src/steps.rt:27:1
 same-length-7 : tie.Need-same-length-7
 same-length-7 c = search needs
 
--- src/steps.rt:27:1
 same-length-8 : tie.Need-same-length-8
 same-length-8 c = search needs
 
--- src/steps.rt:27:1
 returns-3 : tie.Need-returns-3
 returns-3 c =
     let entry = c .before .before .before .before .before .before .before .before .before .before .before .before .before .before .before .before .before .before in
@@ -223,19 +193,15 @@ returns-3 c =
     let read = pervading-read (args .s .now) (at-step-at .step-at .ensures) (at-read3 .read3 .given .1) in
     worked (args .s .now) (args .at) st h (at-pervade .pervade .result) _ _ (pervading _ _) read (at-pervade .pervade .ensures)
 
--- src/steps.rt:27:1
 same-length-9 : tie.Need-same-length-9
 same-length-9 c = search needs
 
--- src/steps.rt:27:1
 same-length-10 : tie.Need-same-length-10
 same-length-10 c = search needs
 
--- src/steps.rt:27:1
 same-length-11 : tie.Need-same-length-11
 same-length-11 c = search needs
 
--- src/steps.rt:27:1
 returns-4 : tie.Need-returns-4
 returns-4 c =
     let entry = c .before .before .before .before .before .before .before .before .before .before .before .before .before .before .before .before .before .before in
@@ -247,19 +213,15 @@ returns-4 c =
     let read = join-read (args .s .now) (at-step-at .step-at .ensures) (at-read4 .read4 .given .1) in
     worked (args .s .now) (args .at) st h (at-join .join .result) _ _ join read (at-join .join .ensures)
 
--- src/steps.rt:27:1
 same-length-12 : tie.Need-same-length-12
 same-length-12 c = search needs
 
--- src/steps.rt:27:1
 same-length-13 : tie.Need-same-length-13
 same-length-13 c = search needs
 
--- src/steps.rt:27:1
 same-length-14 : tie.Need-same-length-14
 same-length-14 c = search needs
 
--- src/steps.rt:27:1
 returns-5 : tie.Need-returns-5
 returns-5 c =
     let entry = c .before .before .before .before .before .before .before .before .before .before .before .before .before .before .before .before .before .before .before in
@@ -271,7 +233,6 @@ returns-5 c =
     validating-read (args .s .now) (at-step-at .step-at .ensures) (at-read5 .read5 .given .1) λ t e x.
     worked (args .s .now) (args .at) st h (at-validate .validate .result) _ _ (validating t) e (at-validate .validate .ensures t (x .reads))
 
--- src/steps.rt:27:1
 returns-6 : tie.Need-returns-6
 returns-6 c =
     let entry = c .before .before .before .before .before .before .before .before .before in

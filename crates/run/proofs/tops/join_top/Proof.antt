@@ -11,35 +11,27 @@ use Rattle.run.proofs.tops.join_top.Lts as lts
 use Rattle.join.proofs.join_known.Reads as join-known-reads
 use Rattle.run.proofs.tops.load_two.Reads as load-two-reads
 
--- src/tops.rt:80:9
 load-two-requires : tie.Need-load-two-requires
 load-two-requires c κs = search needs
 
--- src/tops.rt:85:16
 sub-join-known : tie.Need-sub-join-known
 sub-join-known c = search needs
 
--- src/tops.rt:85:16
 part-join-known-start : tie.Need-part-join-known-start
 part-join-known-start c = search needs
 
--- src/tops.rt:85:16
 part-join-known-end : tie.Need-part-join-known-end
 part-join-known-end c = search needs
 
--- src/tops.rt:85:38
 sub-join-known-2 : tie.Need-sub-join-known-2
 sub-join-known-2 c = search needs
 
--- src/tops.rt:85:38
 part-join-known-start-2 : tie.Need-part-join-known-start-2
 part-join-known-start-2 c = search needs
 
--- src/tops.rt:85:38
 part-join-known-end-2 : tie.Need-part-join-known-end-2
 part-join-known-end-2 c = search needs
 
--- src/tops.rt:85:5
 join-known-requires : tie.Need-join-known-requires
 join-known-requires c κs =
     let entry = c .before .before .before .before .before .before .before in
@@ -47,11 +39,9 @@ join-known-requires c κs =
     let args = entry .args in
     good-two (entry .pre .2) _ _ (entry .pre .0) (at-load-two .load-two .ensures .1 (args .scratch .now))
 
--- src/tops.rt:76:1
 same-length : tie.Need-same-length
 same-length c = search needs
 
--- src/tops.rt:76:1
 returns : tie.Need-returns
 returns c =
     let entry = c .before .before .before .before .before .before .before .before .before .before in

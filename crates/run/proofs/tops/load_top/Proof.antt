@@ -9,18 +9,15 @@ use Rattle.run.proofs.tops.load_top.Reads as reads
 use Rattle.run.proofs.tops.load_top.Lts as lts
 use Rattle.stack.proofs.load.Reads as load-reads
 
--- src/tops.rt:37:19
 sub-load : tie.Need-sub-load
 sub-load c = search needs
 
--- src/tops.rt:37:5
 load-requires : tie.Need-load-requires
 load-requires c κs =
     let entry = c .before in
     let args = entry .args in
     (args .count, entry .pre .0, omega (arith, entry .pre .1), entry .pre .2)
 
--- src/tops.rt:32:1
 returns : tie.Need-returns
 returns c =
     let entry = c .before .before in

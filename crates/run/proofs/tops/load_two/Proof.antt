@@ -9,29 +9,24 @@ use Rattle.run.proofs.tops.load_two.Reads as reads
 use Rattle.run.proofs.tops.load_two.Lts as lts
 use Rattle.stack.proofs.load.Reads as load-reads
 
--- src/tops.rt:54:29
 sub-load : tie.Need-sub-load
 sub-load c = search needs
 
--- src/tops.rt:54:9
 load-requires : tie.Need-load-requires
 load-requires c κs =
     let entry = c .before in
     let args = entry .args in
     (args .count, entry .pre .0, omega (arith, entry .pre .1), entry .pre .2)
 
--- src/tops.rt:55:31
 sub-load-2 : tie.Need-sub-load-2
 sub-load-2 c = search needs
 
--- src/tops.rt:55:9
 load-requires-2 : tie.Need-load-requires-2
 load-requires-2 c κs =
     let entry = c .before .before in
     let args = entry .args in
     (args .count, entry .pre .0, omega (arith, entry .pre .1), entry .pre .2)
 
--- src/tops.rt:48:1
 returns : tie.Need-returns
 returns c =
     let entry = c .before .before .before in

@@ -11,35 +11,27 @@ use Rattle.run.proofs.tops.pervade_top.Lts as lts
 use Rattle.run.proofs.tops.load_two.Reads as load-two-reads
 use Rattle.run.proofs.tops.pervade_types.Reads as pervade-types-reads
 
--- src/tops.rt:100:9
 load-two-requires : tie.Need-load-two-requires
 load-two-requires c κs = search needs
 
--- src/tops.rt:106:9
 sub-pervade-types : tie.Need-sub-pervade-types
 sub-pervade-types c = search needs
 
--- src/tops.rt:106:9
 part-pervade-types-start : tie.Need-part-pervade-types-start
 part-pervade-types-start c = search needs
 
--- src/tops.rt:106:9
 part-pervade-types-end : tie.Need-part-pervade-types-end
 part-pervade-types-end c = search needs
 
--- src/tops.rt:107:9
 sub-pervade-types-2 : tie.Need-sub-pervade-types-2
 sub-pervade-types-2 c = search needs
 
--- src/tops.rt:107:9
 part-pervade-types-start-2 : tie.Need-part-pervade-types-start-2
 part-pervade-types-start-2 c = search needs
 
--- src/tops.rt:107:9
 part-pervade-types-end-2 : tie.Need-part-pervade-types-end-2
 part-pervade-types-end-2 c = search needs
 
--- src/tops.rt:105:5
 pervade-types-requires : tie.Need-pervade-types-requires
 pervade-types-requires c κs =
     let entry = c .before .before .before .before .before .before .before in
@@ -47,11 +39,9 @@ pervade-types-requires c κs =
     let args = entry .args in
     good-two (entry .pre .2) _ _ (entry .pre .0) (at-load-two .load-two .ensures .1 (args .scratch .now))
 
--- src/tops.rt:89:1
 same-length : tie.Need-same-length
 same-length c = search needs
 
--- src/tops.rt:89:1
 returns : tie.Need-returns
 returns c =
     let entry = c .before .before .before .before .before .before .before .before .before .before in

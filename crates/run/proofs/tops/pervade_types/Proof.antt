@@ -16,7 +16,6 @@ use Rattle.join.proofs.write_union.Reads as write-union-reads
 use Rattle.known.proofs.shape_at.Reads as shape-at-reads
 use Rattle.shape.proofs.pervade_dyn_shapes.Reads as pervade-dyn-shapes-reads
 
--- src/tops.rt:120:39
 shape-at-requires : tie.Need-shape-at-requires
 shape-at-requires c κs =
     let entry = c .before .before .before in
@@ -24,7 +23,6 @@ shape-at-requires c κs =
     let known = has-types _ _ (entry .pre) (λ i. omega (arith, at-shared-slice-known .shared-slice-known .given i)) (λ i. omega (arith, c .before .shared-slice-known2 .given i)) in
     (maxDepth, known .0)
 
--- src/tops.rt:120:55
 shape-at-requires-2 : tie.Need-shape-at-requires-2
 shape-at-requires-2 c κs =
     let entry = c .before .before .before .before in
@@ -33,15 +31,12 @@ shape-at-requires-2 c κs =
     let known = has-types _ _ (entry .pre) (λ i. omega (arith, at-shared-slice-known .shared-slice-known .given i)) (λ i. omega (arith, at-shared-slice-known2 .shared-slice-known2 .given i)) in
     (maxDepth, known .1)
 
--- src/tops.rt:120:9
 pervade-dyn-shapes-requires : tie.Need-pervade-dyn-shapes-requires
 pervade-dyn-shapes-requires c κs = search needs
 
--- src/tops.rt:123:9
 enum-told : tie.Need-enum-told
 enum-told c = search needs
 
--- src/tops.rt:123:9
 returns : tie.Need-returns
 returns c =
     let entry = c .before .before .before .before .before .before .before .before in
@@ -59,15 +54,12 @@ returns c =
 enum-told-2 : tie.Need-enum-told-2
 enum-told-2 c = search needs
 
--- src/tops.rt:129:5
 write-union-requires : tie.Need-write-union-requires
 write-union-requires c κs = search needs
 
--- src/tops.rt:115:1
 same-length : tie.Need-same-length
 same-length c = search needs
 
--- src/tops.rt:115:1
 returns-2 : tie.Need-returns-2
 returns-2 c =
     let entry = c .before .before .before .before .before .before .before .before .before .before .before .before .before in

@@ -11,23 +11,18 @@ use Rattle.run.proofs.tops.row_top.Lts as lts
 use Rattle.run.proofs.tops.load_top.Reads as load-top-reads
 use Rattle.ty.proofs.row_known.Reads as row-known-reads
 
--- src/tops.rt:69:9
 load-top-requires : tie.Need-load-top-requires
 load-top-requires c κs = search needs
 
--- src/tops.rt:72:15
 sub-row-known : tie.Need-sub-row-known
 sub-row-known c = search needs
 
--- src/tops.rt:72:15
 part-row-known-start : tie.Need-part-row-known-start
 part-row-known-start c = search needs
 
--- src/tops.rt:72:15
 part-row-known-end : tie.Need-part-row-known-end
 part-row-known-end c = search needs
 
--- src/tops.rt:72:5
 row-known-requires : tie.Need-row-known-requires
 row-known-requires c κs =
     let entry = c .before .before .before .before .before .before in
@@ -35,11 +30,9 @@ row-known-requires c κs =
     let args = entry .args in
     good-top (entry .pre .2) _ (entry .pre .0) (at-load-top .load-top .ensures .1 (args .scratch .now))
 
--- src/tops.rt:65:1
 same-length : tie.Need-same-length
 same-length c = search needs
 
--- src/tops.rt:65:1
 returns : tie.Need-returns
 returns c =
     let entry = c .before .before .before .before .before .before .before .before .before in

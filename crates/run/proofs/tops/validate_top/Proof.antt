@@ -9,23 +9,18 @@ use Rattle.run.proofs.tops.validate_top.Lts as lts
 use Rattle.run.proofs.tops.load_top.Reads as load-top-reads
 use Rattle.validate.proofs.validate_known.Reads as validate-known-reads
 
--- src/tops.rt:144:9
 load-top-requires : tie.Need-load-top-requires
 load-top-requires c κs = search needs
 
--- src/tops.rt:147:41
 sub-validate-known : tie.Need-sub-validate-known
 sub-validate-known c = search needs
 
--- src/tops.rt:147:41
 part-validate-known-start : tie.Need-part-validate-known-start
 part-validate-known-start c = search needs
 
--- src/tops.rt:147:41
 part-validate-known-end : tie.Need-part-validate-known-end
 part-validate-known-end c = search needs
 
--- src/tops.rt:147:5
 validate-known-requires : tie.Need-validate-known-requires
 validate-known-requires c κs =
     let entry = c .before .before .before .before .before .before .before in
@@ -33,11 +28,9 @@ validate-known-requires c κs =
     let args = entry .args in
     (good-by (entry .pre .0 .2) _ _ (entry .pre .1 .0) (entry .pre .1 .1) (entry .pre .0 .0) (at-load-top .load-top .ensures .1 (args .scratch .now)), entry .pre .0 .1)
 
--- src/tops.rt:133:1
 same-length : tie.Need-same-length
 same-length c = search needs
 
--- src/tops.rt:133:1
 returns : tie.Need-returns
 returns c =
     let entry = c .before .before .before .before .before .before .before .before .before .before in

@@ -17,26 +17,21 @@ use Rattle.record.proofs.whichever.Reads as whichever-reads
 use Rattle.shape.proofs.compatible_with.Reads as compatible-with-reads
 use Rattle.writer.proofs.as_tested.Reads as as-tested-reads
 
--- src/bytes.rt:63:26
 read-two-requires : tie.Need-read-two-requires
 read-two-requires c κs = search needs
 
--- src/bytes.rt:63:9
 whichever-requires : tie.Need-whichever-requires
 whichever-requires c κs = search needs
 
 enum-told : tie.Need-enum-told
 enum-told c = search needs
 
--- src/bytes.rt:65:9
 enum-told-2 : tie.Need-enum-told-2
 enum-told-2 c = search needs
 
--- src/bytes.rt:65:9
 as-tested-requires : tie.Need-as-tested-requires
 as-tested-requires c κs = search needs
 
--- src/bytes.rt:65:9
 returns : tie.Need-returns
 returns c =
     let entry = c .before .before .before .before .before .before .before in
@@ -50,7 +45,6 @@ returns c =
     (at-read-two .read-two .result) (at-read-two .read-two .ensures) (at-whichever .whichever .result) (at-whichever .whichever .ensures) in
     c .as-tested .ensures ∙ ap (mapped (λ _. true)) (ap loneOf (c .before .enum-told2 .given .1)) ∙ sym (shapes-told (λ s t. accepted (compatibleShapes s t)) known (c .before .enum-told2 .given .1))
 
--- src/bytes.rt:67:26
 shape-at-requires : tie.Need-shape-at-requires
 shape-at-requires c κs =
     let entry = c .before .before .before .before .before .before in
@@ -64,7 +58,6 @@ shape-at-requires c κs =
     (at-read-two .read-two .result) (at-read-two .read-two .ensures) (at-whichever .whichever .result) (at-whichever .whichever .ensures) in
     first-there (λ s t. accepted (compatibleShapes s t)) known (c .enum-told .given .1)
 
--- src/bytes.rt:67:42
 shape-at-requires-2 : tie.Need-shape-at-requires-2
 shape-at-requires-2 c κs =
     let entry = c .before .before .before .before .before .before .before in
@@ -78,15 +71,12 @@ shape-at-requires-2 c κs =
     (at-read-two .read-two .result) (at-read-two .read-two .ensures) (at-whichever .whichever .result) (at-whichever .whichever .ensures) in
     second-there (λ s t. accepted (compatibleShapes s t)) known (c .before .enum-told .given .1)
 
--- src/bytes.rt:67:10
 compatible-with-requires : tie.Need-compatible-with-requires
 compatible-with-requires c κs = search needs
 
--- src/bytes.rt:67:5
 tell-requires : tie.Need-tell-requires
 tell-requires c κs = search needs
 
--- src/bytes.rt:60:1
 returns-2 : tie.Need-returns-2
 returns-2 c =
     let entry = c .before .before .before .before .before .before .before .before .before .before in

@@ -15,22 +15,18 @@ use Rattle.record.proofs.read_lone.Reads as read-lone-reads
 use Rattle.shape.proofs.row_count.Reads as row-count-reads
 use Rattle.writer.proofs.as_counted.Reads as as-counted-reads
 
--- src/bytes.rt:93:9
 read-lone-requires : tie.Need-read-lone-requires
 read-lone-requires c κs = search needs
 
 enum-told : tie.Need-enum-told
 enum-told c = search needs
 
--- src/bytes.rt:95:9
 enum-told-2 : tie.Need-enum-told-2
 enum-told-2 c = search needs
 
--- src/bytes.rt:95:9
 as-counted-requires : tie.Need-as-counted-requires
 as-counted-requires c κs = search needs
 
--- src/bytes.rt:95:9
 returns : tie.Need-returns
 returns c =
     let entry = c .before .before .before .before .before in
@@ -40,7 +36,6 @@ returns c =
     record { small = λ i. omega (arith, at-shared-slice-known .shared-slice-known .given i); reads = at-read-lone .read-lone .ensures } in
     c .as-counted .ensures .1 ∙ ap (mapped dimOf) (ap loneOf (c .before .enum-told2 .given .1)) ∙ sym (shape-told (λ s. accepted (rowCount s)) known (c .before .enum-told2 .given .1))
 
--- src/bytes.rt:97:30
 shape-at-requires : tie.Need-shape-at-requires
 shape-at-requires c κs =
     let entry = c .before .before .before .before in
@@ -50,11 +45,9 @@ shape-at-requires c κs =
     record { small = λ i. omega (arith, at-shared-slice-known .shared-slice-known .given i); reads = at-read-lone .read-lone .ensures } in
     shape-there (λ s. accepted (rowCount s)) known (c .enum-told .given .1)
 
--- src/bytes.rt:97:20
 row-count-requires : tie.Need-row-count-requires
 row-count-requires c κs = search needs
 
--- src/bytes.rt:90:1
 returns-2 : tie.Need-returns-2
 returns-2 c =
     let entry = c .before .before .before .before .before .before in

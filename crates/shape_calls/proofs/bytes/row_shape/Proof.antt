@@ -17,22 +17,18 @@ use Rattle.shape.proofs.into_row.Reads as into-row-reads
 use Rattle.writer.proofs.as_written.Reads as as-written-reads
 use Rattle.writer.proofs.write_shape.Reads as write-shape-reads
 
--- src/bytes.rt:53:9
 read-lone-requires : tie.Need-read-lone-requires
 read-lone-requires c κs = search needs
 
 enum-told : tie.Need-enum-told
 enum-told c = search needs
 
--- src/bytes.rt:55:9
 enum-told-2 : tie.Need-enum-told-2
 enum-told-2 c = search needs
 
--- src/bytes.rt:55:9
 as-written-requires : tie.Need-as-written-requires
 as-written-requires c κs = search needs
 
--- src/bytes.rt:55:9
 returns : tie.Need-returns
 returns c =
     let entry = c .before .before .before .before .before .before in
@@ -44,7 +40,6 @@ returns c =
     deliver-handed (args .result .now) (c .as-written .result) (c .as-written .ensures ∙ ap loneOf (c .before .enum-told2 .given .1))
     (shape-told (λ s. recorded (rowShape s)) known (c .before .enum-told2 .given .1))
 
--- src/bytes.rt:57:26
 shape-at-requires : tie.Need-shape-at-requires
 shape-at-requires c κs =
     let entry = c .before .before .before .before .before in
@@ -54,19 +49,15 @@ shape-at-requires c κs =
     record { small = λ i. omega (arith, at-shared-slice-known .shared-slice-known .given i); reads = at-read-lone .read-lone .ensures } in
     shape-there (λ s. recorded (rowShape s)) known (c .enum-told .given .1)
 
--- src/bytes.rt:57:17
 into-row-requires : tie.Need-into-row-requires
 into-row-requires c κs = search needs
 
--- src/bytes.rt:57:5
 write-shape-requires : tie.Need-write-shape-requires
 write-shape-requires c κs = search needs
 
--- src/bytes.rt:50:1
 same-length : tie.Need-same-length
 same-length c = search needs
 
--- src/bytes.rt:50:1
 returns-2 : tie.Need-returns-2
 returns-2 c =
     let entry = c .before .before .before .before .before .before .before .before .before .before .before in

@@ -15,22 +15,18 @@ use Rattle.lent.proofs.tell.Reads as tell-reads
 use Rattle.record.proofs.read_lone.Reads as read-lone-reads
 use Rattle.writer.proofs.as_tested.Reads as as-tested-reads
 
--- src/bytes.rt:73:9
 read-lone-requires : tie.Need-read-lone-requires
 read-lone-requires c κs = search needs
 
 enum-told : tie.Need-enum-told
 enum-told c = search needs
 
--- src/bytes.rt:75:9
 enum-told-2 : tie.Need-enum-told-2
 enum-told-2 c = search needs
 
--- src/bytes.rt:75:9
 as-tested-requires : tie.Need-as-tested-requires
 as-tested-requires c κs = search needs
 
--- src/bytes.rt:75:9
 returns : tie.Need-returns
 returns c =
     let entry = c .before .before .before .before .before in
@@ -40,7 +36,6 @@ returns c =
     record { small = λ i. omega (arith, at-shared-slice-known .shared-slice-known .given i); reads = at-read-lone .read-lone .ensures } in
     c .as-tested .ensures ∙ ap (mapped (λ _. true)) (ap loneOf (c .before .enum-told2 .given .1)) ∙ sym (shape-told (λ s. accepted (isAny s)) known (c .before .enum-told2 .given .1))
 
--- src/bytes.rt:77:10
 any-shape-at-requires : tie.Need-any-shape-at-requires
 any-shape-at-requires c κs =
     let entry = c .before .before .before .before in
@@ -50,11 +45,9 @@ any-shape-at-requires c κs =
     record { small = λ i. omega (arith, at-shared-slice-known .shared-slice-known .given i); reads = at-read-lone .read-lone .ensures } in
     shape-there (λ s. accepted (isAny s)) known (c .enum-told .given .1)
 
--- src/bytes.rt:77:5
 tell-requires : tie.Need-tell-requires
 tell-requires c κs = search needs
 
--- src/bytes.rt:70:1
 returns-2 : tie.Need-returns-2
 returns-2 c =
     let entry = c .before .before .before .before .before .before in

@@ -16,22 +16,18 @@ use Rattle.record.proofs.read_lone.Reads as read-lone-reads
 use Rattle.shape.proofs.is_scalar.Reads as is-scalar-reads
 use Rattle.writer.proofs.as_tested.Reads as as-tested-reads
 
--- src/bytes.rt:83:9
 read-lone-requires : tie.Need-read-lone-requires
 read-lone-requires c κs = search needs
 
 enum-told : tie.Need-enum-told
 enum-told c = search needs
 
--- src/bytes.rt:85:9
 enum-told-2 : tie.Need-enum-told-2
 enum-told-2 c = search needs
 
--- src/bytes.rt:85:9
 as-tested-requires : tie.Need-as-tested-requires
 as-tested-requires c κs = search needs
 
--- src/bytes.rt:85:9
 returns : tie.Need-returns
 returns c =
     let entry = c .before .before .before .before .before in
@@ -41,7 +37,6 @@ returns c =
     record { small = λ i. omega (arith, at-shared-slice-known .shared-slice-known .given i); reads = at-read-lone .read-lone .ensures } in
     c .as-tested .ensures ∙ ap (mapped (λ _. true)) (ap loneOf (c .before .enum-told2 .given .1)) ∙ sym (shape-told (λ s. accepted (isScalar s)) known (c .before .enum-told2 .given .1))
 
--- src/bytes.rt:87:20
 shape-at-requires : tie.Need-shape-at-requires
 shape-at-requires c κs =
     let entry = c .before .before .before .before in
@@ -51,15 +46,12 @@ shape-at-requires c κs =
     record { small = λ i. omega (arith, at-shared-slice-known .shared-slice-known .given i); reads = at-read-lone .read-lone .ensures } in
     shape-there (λ s. accepted (isScalar s)) known (c .enum-told .given .1)
 
--- src/bytes.rt:87:10
 is-scalar-requires : tie.Need-is-scalar-requires
 is-scalar-requires c κs = search needs
 
--- src/bytes.rt:87:5
 tell-requires : tie.Need-tell-requires
 tell-requires c κs = search needs
 
--- src/bytes.rt:80:1
 returns-2 : tie.Need-returns-2
 returns-2 c =
     let entry = c .before .before .before .before .before .before .before in

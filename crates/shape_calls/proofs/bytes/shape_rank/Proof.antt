@@ -14,22 +14,18 @@ use Rattle.record.proofs.read_lone.Reads as read-lone-reads
 use Rattle.shape.proofs.rank.Reads as rank-reads
 use Rattle.writer.proofs.as_counted.Reads as as-counted-reads
 
--- src/bytes.rt:103:9
 read-lone-requires : tie.Need-read-lone-requires
 read-lone-requires c κs = search needs
 
 enum-told : tie.Need-enum-told
 enum-told c = search needs
 
--- src/bytes.rt:105:9
 enum-told-2 : tie.Need-enum-told-2
 enum-told-2 c = search needs
 
--- src/bytes.rt:105:9
 as-counted-requires : tie.Need-as-counted-requires
 as-counted-requires c κs = search needs
 
--- src/bytes.rt:105:9
 returns : tie.Need-returns
 returns c =
     let entry = c .before .before .before .before .before in
@@ -39,7 +35,6 @@ returns c =
     record { small = λ i. omega (arith, at-shared-slice-known .shared-slice-known .given i); reads = at-read-lone .read-lone .ensures } in
     c .as-counted .ensures .0 ∙ ap loneOf (c .before .enum-told2 .given .1) ∙ sym (shape-told (λ s. accepted (rank s)) known (c .before .enum-told2 .given .1))
 
--- src/bytes.rt:107:25
 shape-at-requires : tie.Need-shape-at-requires
 shape-at-requires c κs =
     let entry = c .before .before .before .before in
@@ -49,11 +44,9 @@ shape-at-requires c κs =
     record { small = λ i. omega (arith, at-shared-slice-known .shared-slice-known .given i); reads = at-read-lone .read-lone .ensures } in
     shape-there (λ s. accepted (rank s)) known (c .enum-told .given .1)
 
--- src/bytes.rt:107:20
 rank-requires : tie.Need-rank-requires
 rank-requires c κs = search needs
 
--- src/bytes.rt:100:1
 returns-2 : tie.Need-returns-2
 returns-2 c =
     let entry = c .before .before .before .before .before .before in

@@ -19,26 +19,21 @@ use Rattle.shape.proofs.pervade_dyn_shapes.Reads as pervade-dyn-shapes-reads
 use Rattle.writer.proofs.as_written.Reads as as-written-reads
 use Rattle.writer.proofs.write_shape.Reads as write-shape-reads
 
--- src/pervading.rt:21:26
 read-two-requires : tie.Need-read-two-requires
 read-two-requires c κs = search needs
 
--- src/pervading.rt:21:9
 whichever-requires : tie.Need-whichever-requires
 whichever-requires c κs = search needs
 
 enum-told : tie.Need-enum-told
 enum-told c = search needs
 
--- src/pervading.rt:23:9
 enum-told-2 : tie.Need-enum-told-2
 enum-told-2 c = search needs
 
--- src/pervading.rt:23:9
 as-written-requires : tie.Need-as-written-requires
 as-written-requires c κs = search needs
 
--- src/pervading.rt:23:9
 returns : tie.Need-returns
 returns c =
     let entry = c .before .before .before .before .before .before .before .before in
@@ -53,7 +48,6 @@ returns c =
     deliver-handed (args .result .now) (c .as-written .result) (c .as-written .ensures ∙ ap loneOf (c .before .enum-told2 .given .1))
     (shapes-told (λ s t. pervaded (rules.pervade (args .fill-a) (args .fill-b) s t)) known (c .before .enum-told2 .given .1))
 
--- src/pervading.rt:25:39
 shape-at-requires : tie.Need-shape-at-requires
 shape-at-requires c κs =
     let entry = c .before .before .before .before .before .before .before in
@@ -67,7 +61,6 @@ shape-at-requires c κs =
     (at-read-two .read-two .result) (at-read-two .read-two .ensures) (at-whichever .whichever .result) (at-whichever .whichever .ensures) in
     first-there (λ s t. pervaded (rules.pervade (args .fill-a) (args .fill-b) s t)) known (c .enum-told .given .1)
 
--- src/pervading.rt:25:55
 shape-at-requires-2 : tie.Need-shape-at-requires-2
 shape-at-requires-2 c κs =
     let entry = c .before .before .before .before .before .before .before .before in
@@ -81,15 +74,12 @@ shape-at-requires-2 c κs =
     (at-read-two .read-two .result) (at-read-two .read-two .ensures) (at-whichever .whichever .result) (at-whichever .whichever .ensures) in
     second-there (λ s t. pervaded (rules.pervade (args .fill-a) (args .fill-b) s t)) known (c .before .enum-told .given .1)
 
--- src/pervading.rt:25:9
 pervade-dyn-shapes-requires : tie.Need-pervade-dyn-shapes-requires
 pervade-dyn-shapes-requires c κs = search needs
 
--- src/pervading.rt:28:9
 enum-told-3 : tie.Need-enum-told-3
 enum-told-3 c = search needs
 
--- src/pervading.rt:28:9
 returns-2 : tie.Need-returns-2
 returns-2 c =
     let entry = c .before .before .before .before .before .before .before .before .before .before .before .before in
@@ -114,15 +104,12 @@ returns-2 c =
 enum-told-4 : tie.Need-enum-told-4
 enum-told-4 c = search needs
 
--- src/pervading.rt:34:5
 write-shape-requires : tie.Need-write-shape-requires
 write-shape-requires c κs = search needs
 
--- src/pervading.rt:18:1
 same-length : tie.Need-same-length
 same-length c = search needs
 
--- src/pervading.rt:18:1
 returns-3 : tie.Need-returns-3
 returns-3 c =
     let entry = c .before .before .before .before .before .before .before .before .before .before .before .before .before .before .before .before .before in

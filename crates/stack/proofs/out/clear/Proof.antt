@@ -6,15 +6,12 @@ use Rattle.stack.proofs.out.clear.Reads as reads
 use Rattle.stack.proofs.out.clear.Lts as lts
 use Rattle.stack.proofs.out.zero_first.Reads as zero-first-reads
 
--- src/out.rt:72:5
 zero-first-requires : tie.Need-zero-first-requires
 zero-first-requires c κs = search needs
 
--- src/out.rt:68:1
 same-length : tie.Need-same-length
 same-length c = search needs
 
--- src/out.rt:68:1
 returns : tie.Need-returns
 unfolding zeroed
 returns c =

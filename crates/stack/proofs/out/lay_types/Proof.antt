@@ -20,36 +20,30 @@ Inv-loop count lengths scratch result₀ at₀ k₀ result at k =
 abbrev μ-loop : tie.MeasureT-loop
 μ-loop count lengths scratch result₀ at₀ k₀ result at k = count - k
 
--- src/out.rt:56:5
 loop-holds : tie.Need-loop-holds Inv-loop μ-loop
 loop-holds c =
     let entry = c .before .before .before in
     let args = entry .args in
     (search needs, search needs, sym (stack-none (args .lengths .now) (args .scratch .now)), stack-start (args .lengths .now) (args .scratch .now) (args .result .now))
 
--- src/out.rt:57:13
 load-requires : tie.Need-load-requires Inv-loop μ-loop
 load-requires c κs =
     let entry = c .before .before .before .before .before in
     let args = entry .args in
     (args .count, args .scratch .now, c .loop-test .taken, entry .pre .0)
 
--- src/out.rt:60:13
 sub-lay : tie.Need-sub-lay Inv-loop μ-loop
 sub-lay c = c .load .ensures .0 .0
 
--- src/out.rt:60:13
 part-lay-start : tie.Need-part-lay-start Inv-loop μ-loop
 part-lay-start c = c .load .ensures .0 .0
 
--- src/out.rt:60:13
 part-lay-end : tie.Need-part-lay-end Inv-loop μ-loop
 part-lay-end c =
     let entry = c .before .before .before .before .before .before in
     let e : c .load .result .end ≤ length (entry .args .scratch .now) = omega (arith, c .load .ensures .0 .1, entry .pre .0 .stacked .room) in
     e
 
--- src/out.rt:60:9
 lay-requires : tie.Need-lay-requires Inv-loop μ-loop
 lay-requires c κs =
     let entry = c .before .before .before .before .before .before .before .before in
@@ -60,13 +54,11 @@ lay-requires c κs =
     let fits = lay-fits (args .lengths .now) (args .count) (args .scratch .now) (entry .pre .0) (at-loop .loop .k) (at-loop-test .loop-test .taken) (at-loop .loop .inv .2) (entry .pre .1) in
     rw (at-load .load .ensures .1 (args .scratch .now)) (omega (arith, fits, at-loop .loop .inv .1))
 
--- src/out.rt:61:15
 sub-at : tie.Need-sub-at Inv-loop μ-loop
 sub-at c =
     let at-load = c .before .before .before .before .before in
     at-load .load .ensures .0 .0
 
--- src/out.rt:61:9
 add-at : tie.Need-add-at Inv-loop μ-loop
 add-at c =
     let entry = c .before .before .before .before .before .before .before .before .before .before .before in
@@ -81,15 +73,12 @@ add-at c =
     (from .start) (from .end) (at-loop .loop .inv .2) (found .0 .0) (found .0 .1) (found .1 (args .scratch .now)) (entry .pre .1) in
     search needs
 
--- src/out.rt:62:9
 add-k : tie.Need-add-k Inv-loop μ-loop
 add-k c = search needs
 
--- src/out.rt:56:5
 loop-less : tie.Need-loop-less Inv-loop μ-loop
 loop-less c = search needs
 
--- src/out.rt:56:5
 loop-again : tie.Need-loop-again Inv-loop μ-loop
 loop-again c =
     let entry = c .before .before .before .before .before .before .before .before .before .before .before in
@@ -108,11 +97,9 @@ loop-again c =
     let next = stack-next (args .lengths .now) (args .scratch .now) (args .result .now) (at-loop .loop .result) (at-loop .loop .at) (at-loop .loop .k) front reached (omega (arith, fits)) in
     (omega arith, at-lay .lay .kept .1 .0 ∙ all, adds, at-lay .lay .ensures ∙ rw here next)
 
--- src/out.rt:50:1
 same-length : tie.Need-same-length Inv-loop μ-loop
 same-length c = c .before .loop .inv .1
 
--- src/out.rt:50:1
 returns : tie.Need-returns Inv-loop μ-loop
 returns c =
     let entry = c .before .before .before .before .before in

@@ -19,11 +19,9 @@ Inv-loop count lengths size₀ k₀ size k = (k ≤ count) × (size ≤ k * maxB
 abbrev μ-loop : tie.MeasureT-loop
 μ-loop count lengths size₀ k₀ size k = count - k
 
--- src/out.rt:43:5
 loop-holds : tie.Need-loop-holds Inv-loop μ-loop
 loop-holds c = (search needs, search needs, λ d h. sym (stack-none (c .args .lengths .now) d))
 
--- src/out.rt:44:17
 mul-size : tie.Need-mul-size Inv-loop μ-loop
 mul-size c =
     let entry = c .before .before in
@@ -31,7 +29,6 @@ mul-size c =
     let few = entry .pre .1 .stacked .few in
     search needs
 
--- src/out.rt:44:17
 shared-slice-read-size : tie.Need-shared-slice-read-size Inv-loop μ-loop
 shared-slice-read-size c =
     let entry = c .before .before .before in
@@ -40,7 +37,6 @@ shared-slice-read-size c =
     let few = entry .pre .1 .stacked .few in
     search needs
 
--- src/out.rt:44:9
 add-size : tie.Need-add-size Inv-loop μ-loop
 add-size c =
     let entry = c .before .before .before in
@@ -49,7 +45,6 @@ add-size c =
     let few = entry .pre .1 .stacked .few in
     search needs
 
--- src/out.rt:45:9
 add-k : tie.Need-add-k Inv-loop μ-loop
 add-k c =
     let entry = c .before .before .before in
@@ -58,11 +53,9 @@ add-k c =
     let few = entry .pre .1 .stacked .few in
     search needs
 
--- src/out.rt:43:5
 loop-less : tie.Need-loop-less Inv-loop μ-loop
 loop-less c = search needs
 
--- src/out.rt:43:5
 loop-again : tie.Need-loop-again Inv-loop μ-loop
 loop-again c =
     let entry = c .before .before .before in
@@ -72,7 +65,6 @@ loop-again c =
     let few = entry .pre .1 .stacked .few in
     (omega arith, omega arith, λ d h. total-more (args .lengths .now) (args .count) d h (at-loop .loop .k) (c .before .loop-test .taken) (at-loop .loop .inv .2 d h))
 
--- src/out.rt:37:1
 returns : tie.Need-returns Inv-loop μ-loop
 returns c =
     let entry = c .before .before in

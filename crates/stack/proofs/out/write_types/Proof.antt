@@ -11,13 +11,11 @@ use Rattle.stack.proofs.out.write_types.Lts as lts
 use Rattle.stack.proofs.out.lay_types.Reads as lay-types-reads
 use Rattle.stack.proofs.out.total.Reads as total-reads
 
--- src/out.rt:26:9
 total-requires : tie.Need-total-requires
 total-requires c κs =
     let entry = c .before .before .before in
     (entry .args .scratch .now, entry .pre)
 
--- src/out.rt:28:9
 returns : tie.Need-returns
 returns c =
     let entry = c .before .before .before .before .before in
@@ -26,18 +24,15 @@ returns c =
     let e = stack-left (args .lengths .now) (args .count) (args .scratch .now) h in
     sym (deliver-short (args .result .now) (ap accepted (sym e)) (omega (arith, c .before .total .ensures (args .scratch .now) (entry .pre), c .if1 .taken)))
 
--- src/out.rt:33:5
 lay-types-requires : tie.Need-lay-types-requires
 lay-types-requires c κs =
     let entry = c .before .before .before .before .before .before in
     let at-total = c .before .before in
     (entry .pre, omega (arith, at-total .total .ensures (entry .args .scratch .now) (entry .pre), c .before .if1 .left))
 
--- src/out.rt:22:1
 same-length : tie.Need-same-length
 same-length c = search needs
 
--- src/out.rt:22:1
 returns-2 : tie.Need-returns-2
 returns-2 c =
     let entry = c .before .before .before .before .before .before .before .before .before in

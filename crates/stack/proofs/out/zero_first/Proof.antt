@@ -16,33 +16,26 @@ Inv-loop buffer₀ n i₀ buffer i = (i ≤ n) × (length buffer ≡ length buff
 abbrev μ-loop : tie.MeasureT-loop
 μ-loop buffer₀ n i₀ buffer i = n - i
 
--- src/out.rt:78:5
 loop-holds : tie.Need-loop-holds Inv-loop μ-loop
 loop-holds c = (search needs, search needs, fill-none (c .args .buffer .now) 0)
 
--- src/out.rt:79:9
 slice-write-buffer : tie.Need-slice-write-buffer Inv-loop μ-loop
 slice-write-buffer c = search needs
 
--- src/out.rt:80:9
 add-i : tie.Need-add-i Inv-loop μ-loop
 add-i c = search needs
 
--- src/out.rt:78:5
 loop-less : tie.Need-loop-less Inv-loop μ-loop
 loop-less c = search needs
 
--- src/out.rt:78:5
 loop-again : tie.Need-loop-again Inv-loop μ-loop
 loop-again c =
     let entry = c .before .before in
     (omega arith, search needs, ap (λ (d : List ℕ). set d (c .before .loop .i) 0) (c .before .loop .inv .2) ∙ fill-more (c .before .loop .i) 0 (entry .args .buffer .now) (omega arith))
 
--- src/out.rt:73:1
 same-length : tie.Need-same-length Inv-loop μ-loop
 same-length c = c .before .loop .inv .1
 
--- src/out.rt:73:1
 returns : tie.Need-returns Inv-loop μ-loop
 returns c =
     let entry = c .before .before in

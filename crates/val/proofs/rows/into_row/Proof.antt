@@ -6,15 +6,12 @@ use Rattle.val.proofs.rows.into_row.Reads as reads
 use Rattle.val.proofs.rows.into_row.Lts as lts
 use Rattle.val.proofs.rows.row_by.Reads as row-by-reads
 
--- src/rows.rt:22:5
 row-by-requires : tie.Need-row-by-requires
 row-by-requires c κs = search needs
 
--- src/rows.rt:19:1
 same-length : tie.Need-same-length
 same-length c = search needs
 
--- src/rows.rt:19:1
 returns : tie.Need-returns
 unfolding valueRow
 returns c =

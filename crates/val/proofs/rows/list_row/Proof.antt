@@ -11,35 +11,27 @@ use Rattle.val.proofs.rows.first_of_list.Reads as first-of-list-reads
 use Rattle.val.proofs.rows.last_of_list.Reads as last-of-list-reads
 use Rattle.val.proofs.rows.row_of_list.Reads as row-of-list-reads
 
--- src/rows.rt:62:43
 enum-told : tie.Need-enum-told
 enum-told c = search needs
 
--- src/rows.rt:62:25
 row-of-list-requires : tie.Need-row-of-list-requires
 row-of-list-requires c κs = search needs
 
--- src/rows.rt:63:45
 enum-told-2 : tie.Need-enum-told-2
 enum-told-2 c = search needs
 
--- src/rows.rt:63:25
 first-of-list-requires : tie.Need-first-of-list-requires
 first-of-list-requires c κs = search needs
 
--- src/rows.rt:64:43
 enum-told-3 : tie.Need-enum-told-3
 enum-told-3 c = search needs
 
--- src/rows.rt:64:24
 last-of-list-requires : tie.Need-last-of-list-requires
 last-of-list-requires c κs = search needs
 
--- src/rows.rt:58:1
 same-length : tie.Need-same-length
 same-length c = search needs
 
--- src/rows.rt:58:1
 returns : tie.Need-returns
 returns c =
     let entry = c .before .before .before .before .before .before .before .before in
@@ -48,11 +40,9 @@ returns c =
     let args = entry .args in
     at-row-of-list .row-of-list .ensures ∙ ap (λ w. deliverRow (accepted (listRowFor w (args .list .now))) (args .result .now)) (sym (at-enum-told .enum-told .given .1))
 
--- src/rows.rt:58:1
 same-length-2 : tie.Need-same-length-2
 same-length-2 c = search needs
 
--- src/rows.rt:58:1
 returns-2 : tie.Need-returns-2
 returns-2 c =
     let entry = c .before .before .before .before .before .before .before .before in
@@ -61,11 +51,9 @@ returns-2 c =
     let args = entry .args in
     at-first-of-list .first-of-list .ensures ∙ ap (λ w. deliverRow (accepted (listRowFor w (args .list .now))) (args .result .now)) (sym (at-enum-told2 .enum-told2 .given .1))
 
--- src/rows.rt:58:1
 same-length-3 : tie.Need-same-length-3
 same-length-3 c = search needs
 
--- src/rows.rt:58:1
 returns-3 : tie.Need-returns-3
 returns-3 c =
     let entry = c .before .before .before .before .before .before .before .before in

@@ -11,42 +11,33 @@ use Rattle.val.proofs.rows.as_row.Reads as as-row-reads
 use Rattle.val.proofs.rows.list_row.Reads as list-row-reads
 use Rattle.val.proofs.rows.type_row.Reads as type-row-reads
 
--- src/rows.rt:42:20
 enum-known-v : tie.Need-enum-known-v
 enum-known-v c = search needs
 
--- src/rows.rt:43:46
 enum-told : tie.Need-enum-told
 enum-told c = search needs
 
--- src/rows.rt:43:24
 list-row-requires : tie.Need-list-row-requires
 list-row-requires c κs = search needs
 
--- src/rows.rt:44:52
 enum-told-2 : tie.Need-enum-told-2
 enum-told-2 c = search needs
 
--- src/rows.rt:44:29
 type-row-requires : tie.Need-type-row-requires
 type-row-requires c κs = search needs
 
--- src/rows.rt:44:22
 as-row-requires : tie.Need-as-row-requires
 as-row-requires c κs = search needs
 
--- src/rows.rt:38:1
 returns : tie.Need-returns
 returns c =
     let entry = c .before .before .before .before .before .before in
     let args = entry .args in
     rows-number (valueRowFor (args .which)) (args .list .now) (args .bytes .now) (args .result .now) (c .before .v .given .1) refl
 
--- src/rows.rt:38:1
 same-length : tie.Need-same-length
 same-length c = search needs
 
--- src/rows.rt:38:1
 returns-2 : tie.Need-returns-2
 returns-2 c =
     let entry = c .before .before .before .before .before .before .before .before .before in
@@ -55,11 +46,9 @@ returns-2 c =
     let args = entry .args in
     at-list-row .list-row .ensures ∙ rows-list (valueRowFor (args .which)) (args .list .now) (args .bytes .now) (args .result .now) (at-enum-told .enum-told .given .1)
 
--- src/rows.rt:38:1
 same-length-2 : tie.Need-same-length-2
 same-length-2 c = search needs
 
--- src/rows.rt:38:1
 returns-3 : tie.Need-returns-3
 returns-3 c =
     let entry = c .before .before .before .before .before .before .before .before .before .before in

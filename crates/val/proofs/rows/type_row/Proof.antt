@@ -11,35 +11,27 @@ use Rattle.ty.proofs.into_first_row.Reads as into-first-row-reads
 use Rattle.ty.proofs.into_last_row.Reads as into-last-row-reads
 use Rattle.ty.proofs.into_row.Reads as into-row-reads
 
--- src/rows.rt:52:45
 enum-told : tie.Need-enum-told
 enum-told c = search needs
 
--- src/rows.rt:52:25
 into-row-requires : tie.Need-into-row-requires
 into-row-requires c κs = search needs
 
--- src/rows.rt:53:51
 enum-told-2 : tie.Need-enum-told-2
 enum-told-2 c = search needs
 
--- src/rows.rt:53:25
 into-first-row-requires : tie.Need-into-first-row-requires
 into-first-row-requires c κs = search needs
 
--- src/rows.rt:54:49
 enum-told-3 : tie.Need-enum-told-3
 enum-told-3 c = search needs
 
--- src/rows.rt:54:24
 into-last-row-requires : tie.Need-into-last-row-requires
 into-last-row-requires c κs = search needs
 
--- src/rows.rt:48:1
 same-length : tie.Need-same-length
 same-length c = search needs
 
--- src/rows.rt:48:1
 returns : tie.Need-returns
 returns c =
     let entry = c .before .before .before .before .before .before .before .before in
@@ -48,11 +40,9 @@ returns c =
     let args = entry .args in
     at-into-row .into-row .ensures ∙ ap (λ w. deliver (mapped (λ t. writeTy (typeRowFor w t)) (lone (args .bytes .now))) (args .result .now)) (sym (at-enum-told .enum-told .given .1))
 
--- src/rows.rt:48:1
 same-length-2 : tie.Need-same-length-2
 same-length-2 c = search needs
 
--- src/rows.rt:48:1
 returns-2 : tie.Need-returns-2
 returns-2 c =
     let entry = c .before .before .before .before .before .before .before .before in
@@ -61,11 +51,9 @@ returns-2 c =
     let args = entry .args in
     at-into-first-row .into-first-row .ensures ∙ ap (λ w. deliver (mapped (λ t. writeTy (typeRowFor w t)) (lone (args .bytes .now))) (args .result .now)) (sym (at-enum-told2 .enum-told2 .given .1))
 
--- src/rows.rt:48:1
 same-length-3 : tie.Need-same-length-3
 same-length-3 c = search needs
 
--- src/rows.rt:48:1
 returns-3 : tie.Need-returns-3
 returns-3 c =
     let entry = c .before .before .before .before .before .before .before .before in

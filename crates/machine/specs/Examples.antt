@@ -18,7 +18,8 @@ use Rattle.rules.specs.Sizes.{cmpDim, larger, compatible, joinDim}
 use Rattle.rules.specs.Shapes.{isAny, rank, rowShape, mergeDims, mergeClosing, mergeFrom, joinDims, joinLonger, joinEnds, joinClosing, joinShapes}
 use Rattle.rules.specs.Order.{codeOf}
 use Rattle.rules.specs.Scalars.{supersetCodes, supersetOf, union}
-use Rattle.rules.specs.Pervade.{againstAbsent, together, pervadeDims, pervadeClosing, pervade}
+use Rattle.rules.specs.Pervade.{againstAbsent, together, walk, pervadeClosing}
+use Rattle.rules.specs.PervadeInSheets.{inSheetsAt, pervadeInSheets}
 use Rattle.rules.specs.Types.{joinTypes, whollyAny, rowScalar, rowBy}
 use Rattle.validation.specs.CheckShape.{agree, equalDim, equalDims, mismatch, shapeMismatch, sidedShape, checkShape}
 use Rattle.validation.specs.AsFields.{keepsLimits}
@@ -86,6 +87,10 @@ abbrev times : ℕ → Step → List Step
 times zero x = []
 times (suc n) x = x ∷ times n x
 
+-- [?] Num
+abbrev unknowns : Ty
+unknowns = ty (shape (unknown ∷ []) none) (plain num)
+
 -- ---- the examples
 
 unfoldable pub examples : List Example
@@ -99,13 +104,16 @@ examples =
     ∷ theTypes (put (nums (4 ∷ [])) ∷ put (nums (3 ∷ [])) ∷ pervading true false ∷ []) (nums (4 ∷ []) ∷ [])
     ∷ theTypes (put (nums (3 ∷ [])) ∷ put (nums (4 ∷ [])) ∷ pervading false true ∷ []) (nums (4 ∷ []) ∷ [])
     ∷ theRefusal (writeSteps (put (nums []) ∷ put (nums (4 ∷ [])) ∷ put (nums (3 ∷ [])) ∷ pervading false true ∷ [])) unpervaded 43
+    -- 12 on top, filled, meets ? below it and is ?; it stays 12 where the one below is filled.
+    ∷ theTypes (put unknowns ∷ put (nums (12 ∷ [])) ∷ pervading true false ∷ []) (unknowns ∷ [])
+    ∷ theTypes (put unknowns ∷ put (nums (12 ∷ [])) ∷ pervading false true ∷ []) (nums (12 ∷ []) ∷ [])
     -- The top is the first: of box Any and box All, the one that stands on top.
     ∷ theTypes (put (ty (shape [] none) (boxAll (shape [] none) (plain num))) ∷ put (ty (shape [] none) boxAny) ∷ pervading false false ∷ []) (ty (shape [] none) boxAny ∷ [])
     ∷ theTypes (put (ty (shape [] none) boxAny) ∷ put (ty (shape [] none) (boxAll (shape [] none) (plain num))) ∷ join ∷ []) (ty (shape [] none) (boxAll (shape [] none) (plain num)) ∷ [])
     -- Row, join, validate.
     ∷ theTypes (put (nums (2 ∷ 3 ∷ [])) ∷ row ∷ []) (nums (3 ∷ []) ∷ [])
     ∷ theTypes (put (nums (2 ∷ [])) ∷ put (nums (2 ∷ 3 ∷ [])) ∷ join ∷ []) (nums (2 ∷ []) ∷ [])
-    ∷ theTypes (put (nums (3 ∷ [])) ∷ validating (ty (shape (unknown ∷ []) none) (plain num)) ∷ []) (nums (3 ∷ []) ∷ [])
+    ∷ theTypes (put (nums (3 ∷ [])) ∷ validating unknowns ∷ []) (nums (3 ∷ []) ∷ [])
     ∷ theRefusal (writeSteps (put (of char []) ∷ validating (nums []) ∷ [])) wrongScalar 9
     ∷ theRefusal (writeSteps (put (nums (3 ∷ [])) ∷ validating (nums (2 ∷ [])) ∷ [])) wrongShape 17
     -- A mark is judged once both its bytes are there; the place is the step's mark.
@@ -130,10 +138,10 @@ examples =
 pub examples-shown : All Shown examples
 unfolding examples inside below byte judged number bytesOf code kindOf writeShape writeScalar writeTy readMark readDim readDims shapeFrom readName
     readFields defFrom boxFrom scalarFrom readTy cmpDim larger compatible joinDim isAny rank rowShape mergeDims mergeClosing mergeFrom joinDims
-    joinLonger joinEnds joinClosing joinShapes codeOf supersetCodes supersetOf union againstAbsent together pervadeDims pervadeClosing pervade
-    joinTypes whollyAny rowScalar rowBy agree equalDim equalDims mismatch shapeMismatch sidedShape checkShape keepsLimits checkScalar validate
+    joinLonger joinEnds joinClosing joinShapes codeOf supersetCodes supersetOf union againstAbsent together walk pervadeClosing inSheetsAt
+    pervadeInSheets    joinTypes whollyAny rowScalar rowBy agree equalDim equalDims mismatch shapeMismatch sidedShape checkShape keepsLimits checkScalar validate
     writeSteps pervadeTypes step opcodeFrom argumentFrom stepFrom workFrom sheetMore skimMore sheetFrom skimFrom sheetRun skim writeTypes
-examples-shown = (refl, (refl, (refl, (refl, (refl, (refl, (refl, (refl, (refl, (refl, (refl, (refl, (refl, (refl, (refl, (refl, (refl, (refl, (refl, (refl, (refl, (refl, (refl, (refl, (refl, tt)))))))))))))))))))))))))
+examples-shown = (refl, (refl, (refl, (refl, (refl, (refl, (refl, (refl, (refl, (refl, (refl, (refl, (refl, (refl, (refl, (refl, (refl, (refl, (refl, (refl, (refl, (refl, (refl, (refl, (refl, (refl, (refl, tt)))))))))))))))))))))))))))
 
 -- ---- the whole call
 
@@ -177,16 +185,16 @@ module _ (scratch : List ℕ) (enough : scratchBytes ≤ length scratch) where
 pub data RealExample : Type 0 where
   -- a shape and a real shape, and whether it fits
   theFit : Shape → RealShape → Bool → RealExample
-  theReal : RealShape → RealShape → Option RealShape → RealExample
+  theReal : Bool → Bool → RealShape → RealShape → Option RealShape → RealExample
   -- what is fed to put [?], put [3..], join, row, validate [5], and the real shapes left
   theRun : RealShape → RealShape → JoinSide → Option (List RealShape) → RealExample
 
 abbrev fiveSteps : List Step
-fiveSteps = put (ty (shape (unknown ∷ []) none) (plain num)) ∷ put (ty (shape (static 3 ∷ []) (some [])) (plain num)) ∷ join ∷ row ∷ validating (nums (5 ∷ [])) ∷ []
+fiveSteps = put unknowns ∷ put (ty (shape (static 3 ∷ []) (some [])) (plain num)) ∷ join ∷ row ∷ validating (nums (5 ∷ [])) ∷ []
 
 abbrev pub RealShown : RealExample → Type 0
 RealShown (theFit s r b) = fits s r ≡ b
-RealShown (theReal r q z) = realPervade r q ≡ z
+RealShown (theReal f g r q z) = realPervade f g r q ≡ z
 RealShown (theRun r q side z) = realRun fiveSteps (r, (q, (side, (tt, (tt, tt))))) [] ≡ z
 
 unfoldable pub realExamples : List RealExample
@@ -199,9 +207,15 @@ realExamples =
     ∷ theFit (shape (static 3 ∷ []) (some (static 3 ∷ []))) (3 ∷ []) false
     ∷ theFit (shape [] (some [])) [] true
     -- 1 against absent is 1, 1 yields also to 0, equals stay, else it stops.
-    ∷ theReal (1 ∷ []) [] (some (1 ∷ []))
-    ∷ theReal (0 ∷ 2 ∷ []) (1 ∷ 2 ∷ 7 ∷ []) (some (0 ∷ 2 ∷ 7 ∷ []))
-    ∷ theReal (3 ∷ []) (4 ∷ []) none
+    ∷ theReal false false (1 ∷ []) [] (some (1 ∷ []))
+    ∷ theReal false false (0 ∷ 2 ∷ []) (1 ∷ 2 ∷ 7 ∷ []) (some (0 ∷ 2 ∷ 7 ∷ []))
+    ∷ theReal false false (3 ∷ []) (4 ∷ []) none
+    -- Filled, the smaller grows to the larger, and the larger never shrinks; 1 still yields to 0, and absent yields.
+    ∷ theReal true false (3 ∷ []) (4 ∷ []) (some (4 ∷ []))
+    ∷ theReal false true (3 ∷ []) (4 ∷ []) none
+    ∷ theReal false true (4 ∷ []) (3 ∷ []) (some (4 ∷ []))
+    ∷ theReal true true (0 ∷ 1 ∷ 0 ∷ []) (1 ∷ 0 ∷ 5 ∷ []) (some (0 ∷ 0 ∷ 5 ∷ []))
+    ∷ theReal true true (1 ∷ []) (2 ∷ 3 ∷ []) (some (2 ∷ 3 ∷ []))
     -- A join keeps the top or the one below; a scalar's row is a scalar; a validation stops what does not fit.
     ∷ theRun (4 ∷ []) (3 ∷ 5 ∷ []) theTop (some ((5 ∷ []) ∷ []))
     ∷ theRun (4 ∷ []) (3 ∷ 5 ∷ []) theOneBelow none
@@ -209,7 +223,7 @@ realExamples =
 
 pub realExamples-shown : All RealShown realExamples
 unfolding realExamples fits realPervade realStep realRun
-realExamples-shown = (refl, (refl, (refl, (refl, (refl, (refl, (refl, (refl, (refl, (refl, (refl, tt)))))))))))
+realExamples-shown = (refl, (refl, (refl, (refl, (refl, (refl, (refl, (refl, (refl, (refl, (refl, (refl, (refl, (refl, (refl, (refl, tt))))))))))))))))
 
 -- ---- the conditions of demand 3
 

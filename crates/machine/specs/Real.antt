@@ -6,7 +6,7 @@ use mathlib.Core.List.{List, [], _∷_, reverse}
 use mathlib.Core.Option.{Option, none, some}
 use mathlib.Core.Path.{_≡_}
 use lib.ListN.{length, take, drop}
-use lib.Dec.{eqb, leb}
+use lib.Dec.{eqb, ltb, leb}
 use Rattle.model.specs.Types.{Dim, static, unknown, Shape, shape, Ty, shapeOf}
 use Rattle.machine.specs.Steps.{Step, put, row, pervading, join, validating, aJoin, isA, putBy, Rule, ofNone, ofOne, ofTwo}
 
@@ -45,20 +45,25 @@ Holds t r = fits (shapeOf t) r ≡ true
 
 -- ---- real pervading
 
--- Two sizes: 1 yields, equals stay, else it stops.
-abbrev pub realDim : ℕ → ℕ → Option ℕ
-realDim m n = cond (eqb m 1) (some n) (cond (eqb n 1) (some m) (cond (eqb m n) (some m) none))
+-- The smaller grows to the larger if its side is filled.
+abbrev pub grown : Bool → ℕ → Option ℕ
+grown fill larger = cond fill (some larger) none
+
+-- Two sizes: 1 yields, to 0 too; equals stay; where it would stop, the smaller grows, and else it stops (document 02, 2026-01). The
+-- first's fill is f, the second's g.
+abbrev pub realDim : Bool → Bool → ℕ → ℕ → Option ℕ
+realDim f g m n = cond (eqb m 1) (some n) (cond (eqb n 1) (some m) (cond (eqb m n) (some m) (cond (ltb m n) (grown f n) (grown g m))))
 
 abbrev pub consBoth : {A : Type 0} → Option A → Option (List A) → Option (List A)
 consBoth none r = none
 consBoth (some a) none = none
 consBoth (some a) (some r) = some (a ∷ r)
 
--- The term real pervading, index by index: 1 against absent is 1, and absent yields. None where it stops.
-unfoldable pub realPervade : RealShape → RealShape → Option RealShape
-realPervade [] q = some q
-realPervade (m ∷ r) [] = some (m ∷ r)
-realPervade (m ∷ r) (n ∷ q) = consBoth (realDim m n) (realPervade r q)
+-- The term real pervading, index by index: 1 against absent is 1, and absent yields, filled or not. None where it stops.
+unfoldable pub realPervade : Bool → Bool → RealShape → RealShape → Option RealShape
+realPervade f g [] q = some q
+realPervade f g (m ∷ r) [] = some (m ∷ r)
+realPervade f g (m ∷ r) (n ∷ q) = consBoth (realDim f g m n) (realPervade f g r q)
 
 -- ---- the real run
 
@@ -96,7 +101,7 @@ ontoReal rs (some r) = some (r ∷ rs)
 abbrev pub realRule : (x : Step) → Feed x → Rule RealShape (Option RealShape)
 realRule (put t) r = ofNone (some r)
 realRule row u = ofOne λ r. some (realRow r)
-realRule (pervading f g) u = ofTwo λ r q. realPervade r q
+realRule (pervading f g) u = ofTwo λ r q. realPervade f g r q
 realRule join side = ofTwo λ r q. some (keeps side r q)
 realRule (validating spec) u = ofOne λ r. cond (fits (shapeOf spec) r) (some r) none
 

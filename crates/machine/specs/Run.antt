@@ -9,7 +9,7 @@ use lib.Dec.{ltb}
 use Rattle.model.specs.Refusals.{unpervaded, underflow, overflow}
 use Rattle.model.specs.Types.{Ty, ty}
 use Rattle.format.specs.Outcome.{Outcome, accepted, refused}
-use Rattle.rules.specs.Pervade.{pervade}
+use Rattle.rules.specs.PervadeInSheets.{pervadeInSheets}
 use Rattle.rules.specs.Scalars.{union}
 use Rattle.rules.specs.Types.{joinTypes, intoRow}
 use Rattle.validation.specs.CheckShape.{unsided}
@@ -67,9 +67,9 @@ stepsLeft st = maxSteps - st .taken
 abbrev pub onto : Stack → Ruling Ty → Ruling Stack
 onto st a = following a λ t. gives (t ∷ st)
 
--- A pervading's scalar is the union, top first.
+-- A pervading's shape is that of sheets (document 02, 2026-01), its scalar the union, top first.
 unfoldable pub pervadeTypes : Bool → Bool → Ty → Ty → Ruling Ty
-pervadeTypes f g (ty s k) (ty t l) = following (orRefuses (pervade f g s t) unpervaded) λ x. gives (ty x (union k l))
+pervadeTypes f g (ty s k) (ty t l) = following (orRefuses (pervadeInSheets f g s t) unpervaded) λ x. gives (ty x (union k l))
 
 -- What each step makes of the types that it takes.
 abbrev pub ruleOf : Step → Rule Ty (Ruling Ty)

@@ -11,7 +11,7 @@ use borrow.Author.Tests.{lt-ltb}
 use Rattle.model.specs.Refusals.{unpervaded, overflow}
 use Rattle.model.specs.Types.{Shape, Scalar, Ty, ty}
 use Rattle.format.specs.Outcome.{Outcome, accepted, refused}
-use Rattle.rules.specs.Pervade.{pervade}
+use Rattle.rules.specs.PervadeInSheets.{pervadeInSheets}
 use Rattle.rules.specs.Scalars.{union}
 use Rattle.rules.specs.Types.{joinTypes}
 use Rattle.machine.specs.SheetLimits.{maxStack}
@@ -34,7 +34,7 @@ unfolding step
 step-put t st h = ap (λ b. cond b (gives (t ∷ st)) (refuses overflow)) (lt-ltb (length st) maxStack h)
 
 -- Of two types it is the pervading of their shapes, or refusal 8, with the union of their scalars.
-pub pervadeTypes-is : (f g : Bool) (s t : Shape) (k l : Scalar) → pervadeTypes f g (ty s k) (ty t l) ≡ following (orRefuses (pervade f g s t) unpervaded) (λ x. gives (ty x (union k l)))
+pub pervadeTypes-is : (f g : Bool) (s t : Shape) (k l : Scalar) → pervadeTypes f g (ty s k) (ty t l) ≡ following (orRefuses (pervadeInSheets f g s t) unpervaded) (λ x. gives (ty x (union k l)))
 unfolding pervadeTypes
 pervadeTypes-is f g s t k l = refl
 

@@ -13,8 +13,8 @@ use Rattle.model.specs.Within.{All, Within}
 use Rattle.format.specs.Records.{writeTy}
 use Rattle.format.specs.WriteRead.{write-read}
 use Rattle.format.specs.Suffices.{suffices}
-use Rattle.rules.specs.Pervade.{pervade}
-use Rattle.rules.specs.PervadeLaws.{pervade-within}
+use Rattle.rules.specs.PervadeInSheets.{pervadeInSheets}
+use Rattle.rules.specs.PervadeInSheetsLaws.{inSheets-within}
 use Rattle.rules.specs.Scalars.{union}
 use Rattle.rules.specs.ScalarsLaws.{union-within, union-inside, union-below}
 use Rattle.rules.specs.Types.{intoRow, joinTypes}
@@ -34,11 +34,11 @@ use Rattle.machine.specs.RuleOn.{Makes, ruleOn-makes}
 pub pervadeTypes-within : (f g : Bool) (t u x : Ty) → Within t → Within u → pervadeTypes f g t u ≡ gives x → Within x
 unfolding pervadeTypes
 pervadeTypes-within f g (ty s k) (ty t l) x v w e =
-    following-gives (orRefuses (pervade f g s t) unpervaded) e λ y e₁ e₂.
-    orRefuses-gives (pervade f g s t) unpervaded e₁ λ e₃.
+    following-gives (orRefuses (pervadeInSheets f g s t) unpervaded) e λ y e₁ e₂.
+    orRefuses-gives (pervadeInSheets f g s t) unpervaded e₁ λ e₃.
     let z : ty y (union k l) ≡ x = cc in
     rw (← z) record {
-      records = (rw e₃ at (pervade-within f g s t (v .records .0) (w .records .0)), union-within k l (v .records .1) (w .records .1));
+      records = (rw e₃ at (inSheets-within f g s t (v .records .0) (w .records .0)), union-within k l (v .records .1) (w .records .1));
       few = omega (arith, union-inside (max (inside k) (inside l)) k l (omega arith) (omega arith), v .few, w .few);
       shallow = omega (arith, union-below (max (below k) (below l)) k l (omega arith) (omega arith), v .shallow, w .shallow);
     }

@@ -9,10 +9,11 @@ use Rattle.model.specs.Types.{Dim, static, unknown, Shape, shape, Kind, bool, i
 use Rattle.format.specs.Records.{code}
 use Rattle.format.specs.Outcome.{accepted, refused}
 use Rattle.rules.specs.Sizes.{less, more, cmpDim, cmpDefined, larger, compatible, rowCompatible, joinDim}
-use Rattle.rules.specs.Shapes.{scalarShape, isScalar, rowCount, rank, rowShape, compatibleDims, compatibleShapes, mergeDims, mergeClosing, mergeFrom, joinDims, joinLonger, joinEnds, joinClosing, joinShapes}
+use Rattle.rules.specs.Shapes.{scalarShape, anyShape, isScalar, rowCount, rank, rowShape, compatibleDims, compatibleShapes, mergeDims, mergeClosing, mergeFrom, joinDims, joinLonger, joinEnds, joinClosing, joinShapes}
 use Rattle.rules.specs.Order.{codeOf, cmpList, cmpShape, cmpName, cmpScalar, compare}
 use Rattle.rules.specs.Scalars.{supersetCodes, supersetOf, compatibleCodes, compatibleScalars, compatibleWithBoxes, union, unrefineKind, unrefine}
-use Rattle.rules.specs.Pervade.{againstAbsent, together, pervadeDims, pervadeClosing, pervade}
+use Rattle.rules.specs.Pervade.{againstAbsent, together, walk, pervadeClosing, pervade}
+use Rattle.rules.specs.PervadeInSheets.{inSheetsAt, pervadeInSheets}
 use Rattle.rules.specs.Types.{anyTy, fieldIn, firstField, lastField, nthField, rowScalar, rowBy, intoRow, intoLastRow, intoNthRow, unboxed, boxes, copies, copiesFor, asBoxes}
 
 -- ---- how examples are written
@@ -85,7 +86,7 @@ join-ends = refl
 pub pervade-one :
     (pervade false false (statics (2 ∷ 1 ∷ [])) (statics (1 ∷ [])) ≡ some (closed (static 2 ∷ unknown ∷ [])))
     × (pervade false false (statics (1 ∷ [])) (statics (1 ∷ [])) ≡ some (statics (1 ∷ [])))
-unfolding againstAbsent together pervadeDims pervadeClosing pervade
+unfolding againstAbsent together walk pervadeClosing pervade
 pervade-one = (refl, refl)
 
 -- The smaller's side is the one to be filled: [5] with [2] gives [5] if the second is.
@@ -93,8 +94,47 @@ pub pervade-filled :
     (pervade true false (statics (5 ∷ [])) (statics (2 ∷ [])) ≡ none)
     × (pervade false true (statics (5 ∷ [])) (statics (2 ∷ [])) ≡ some (statics (5 ∷ [])))
     × (pervade true false (statics (2 ∷ [])) (statics (5 ∷ [])) ≡ some (statics (5 ∷ [])))
-unfolding cmpDim together pervadeDims pervadeClosing pervade
+unfolding cmpDim together walk pervadeClosing pervade
 pervade-filled = (refl, refl, refl)
+
+-- ---- pervading in sheets (document 02, 2026-01)
+
+-- [?]
+abbrev unknowns : Shape
+unknowns = closed (unknown ∷ [])
+
+-- [12], filled, with [?], [..] and [..3] is ?, whichever stands first; with both filled too.
+pub twelve-unknown :
+    (pervadeInSheets true false (statics (12 ∷ [])) unknowns ≡ some unknowns)
+    × (pervadeInSheets false true unknowns (statics (12 ∷ [])) ≡ some unknowns)
+    × (pervadeInSheets true true (statics (12 ∷ [])) unknowns ≡ some unknowns)
+    × (pervadeInSheets true false (statics (12 ∷ [])) anyShape ≡ some (shape (unknown ∷ []) (some [])))
+    × (pervadeInSheets true false (statics (12 ∷ [])) (ending (static 3 ∷ [])) ≡ some (shape (unknown ∷ []) (some (static 3 ∷ []))))
+unfolding together walk pervadeClosing inSheetsAt pervadeInSheets
+twelve-unknown = (refl, refl, refl, refl, refl)
+
+-- It stays 12 with [1..] and with [], which is closed; and where the other side is the filled one.
+pub twelve-stays :
+    (pervadeInSheets true false (statics (12 ∷ [])) (starting (1 ∷ [])) ≡ some (starting (12 ∷ [])))
+    × (pervadeInSheets true false (statics (12 ∷ [])) scalarShape ≡ some (statics (12 ∷ [])))
+    × (pervadeInSheets false true (statics (12 ∷ [])) unknowns ≡ some (statics (12 ∷ [])))
+    × (pervadeInSheets false true (statics (12 ∷ [])) anyShape ≡ some (starting (12 ∷ [])))
+unfolding againstAbsent together walk pervadeClosing inSheetsAt pervadeInSheets
+twelve-stays = (refl, refl, refl, refl)
+
+-- 0 is a static size other than 1: [0] filled with [?] is ?, and with [1] stays 0, since 1 yields.
+pub none-filled :
+    (pervadeInSheets true false (statics (0 ∷ [])) unknowns ≡ some unknowns)
+    × (pervadeInSheets true true (statics (0 ∷ [])) (statics (1 ∷ [])) ≡ some (statics (0 ∷ [])))
+unfolding together walk pervadeClosing inSheetsAt pervadeInSheets
+none-filled = (refl, refl)
+
+-- The separate call says 12 with [?] and with [..].
+pub twelve-apart :
+    (pervade true false (statics (12 ∷ [])) unknowns ≡ some (statics (12 ∷ [])))
+    × (pervade true false (statics (12 ∷ [])) anyShape ≡ some (starting (12 ∷ [])))
+unfolding againstAbsent together walk pervadeClosing pervade
+twelve-apart = (refl, refl)
 
 -- ---- scalars
 

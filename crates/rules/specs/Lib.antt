@@ -1,6 +1,7 @@
 pub mod Sizes
 pub mod Shapes
 pub mod Pervade
+pub mod PervadeInSheets
 pub mod Order
 pub mod Scalars
 pub mod Types
@@ -11,6 +12,7 @@ pub mod SizesLaws
 pub mod ShapesLaws
 pub mod ShapesSteps
 pub mod PervadeLaws
+pub mod PervadeInSheetsLaws
 pub mod PervadeSteps
 pub mod OrderLaws
 pub mod OrderSteps

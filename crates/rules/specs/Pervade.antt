@@ -31,6 +31,13 @@ neitherOne f g (static m) (static n) = byOrder f g (cmpDim (static m) (static n)
 unfoldable pub together : Bool → Bool → Dim → Dim → Option Dim
 together f g d e = cond (isOne d) (some e) (cond (isOne e) (some d) (neitherOne f g d e))
 
+-- One index, by what stands there on either side; at no index of the walk both are absent.
+abbrev pub pervadeAt : Bool → Bool → Option Dim → Option Dim → Option Dim
+pervadeAt f g none none = none
+pervadeAt f g none (some e) = some (againstAbsent e)
+pervadeAt f g (some d) none = some (againstAbsent d)
+pervadeAt f g (some d) (some e) = together f g d e
+
 -- ---- all indices
 
 -- The sizes, or the first index that refuses, where the walk stops.
@@ -44,11 +51,15 @@ thenRest none r = clash 0
 thenRest (some d) (sizes ds) = sizes (d ∷ ds)
 thenRest (some d) (clash i) = clash (suc i)
 
-unfoldable pub pervadeDims : Bool → Bool → List Dim → List Dim → Pervaded
-pervadeDims f g [] [] = sizes []
-pervadeDims f g [] (e ∷ p) = thenRest (some (againstAbsent e)) (pervadeDims f g [] p)
-pervadeDims f g (d ∷ o) [] = thenRest (some (againstAbsent d)) (pervadeDims f g o [])
-pervadeDims f g (d ∷ o) (e ∷ p) = thenRest (together f g d e) (pervadeDims f g o p)
+-- The walk over the indices of two lists, by any rule for one index.
+unfoldable pub walk : (Option Dim → Option Dim → Option Dim) → List Dim → List Dim → Pervaded
+walk rule [] [] = sizes []
+walk rule [] (e ∷ p) = thenRest (rule none (some e)) (walk rule [] p)
+walk rule (d ∷ o) [] = thenRest (rule (some d) none) (walk rule o [])
+walk rule (d ∷ o) (e ∷ p) = thenRest (rule (some d) (some e)) (walk rule o p)
+
+abbrev pub pervadeDims : Bool → Bool → List Dim → List Dim → Pervaded
+pervadeDims f g o p = walk (pervadeAt f g) o p
 
 -- ---- closing sizes, and shapes
 

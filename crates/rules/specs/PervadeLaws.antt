@@ -13,7 +13,7 @@ use Rattle.model.specs.Types.{Dim, static, unknown, Shape, shape}
 use Rattle.model.specs.Within.{All, Each, DimWithin, DimsWithin, ShapeWithin}
 use Rattle.rules.specs.Sizes.{Order, less, same, more, cmpDim, isOne}
 use Rattle.rules.specs.SizesLaws.{flip, cmpDim-flip, cmpDim-same}
-use Rattle.rules.specs.Pervade.{againstAbsent, filled, byOrder, neitherOne, together, Pervaded, sizes, clash, thenRest, pervadeDims, pervadeClosing, closedBy, pervade}
+use Rattle.rules.specs.Pervade.{againstAbsent, filled, byOrder, neitherOne, together, pervadeAt, Pervaded, sizes, clash, thenRest, walk, pervadeDims, pervadeClosing, closedBy, pervade}
 
 -- ---- one index
 
@@ -26,16 +26,27 @@ together-unknown f g e = go (isOne e)
     go true = refl
     go false = refl
 
--- two statics, unfilled: 1 yields, equals stay
-pub together-unfilled : (m n : ℕ) → together false false (static m) (static n) ≡ cond (eqb m 1) (some (static n)) (cond (eqb n 1) (some (static m)) (cond (eqb m n) (some (static m)) none))
+-- two statics: 1 yields, equals stay; else the larger, if the smaller's side is filled
+pub together-statics : (f g : Bool) (m n : ℕ)
+    → together f g (static m) (static n)
+    ≡ cond (eqb m 1) (some (static n)) (cond (eqb n 1) (some (static m)) (cond (eqb m n) (some (static m)) (cond (ltb m n) (filled f (static n)) (filled g (static m)))))
 unfolding together cmpDim
-together-unfilled m n = rw (go (ltb m n) (eqb m n) refl refl)
+together-statics f g m n = rw (go (ltb m n) (eqb m n) refl refl)
   where
-    go : (t u : Bool) → ltb m n ≡ t → eqb m n ≡ u → byOrder false false (cond t less (cond u same more)) (static m) (static n) ≡ cond u (some (static m)) none
+    go : (t u : Bool) → ltb m n ≡ t → eqb m n ≡ u
+        → byOrder f g (cond t less (cond u same more)) (static m) (static n) ≡ cond u (some (static m)) (cond t (filled f (static n)) (filled g (static m)))
     go true true h k = let x = ltb-true m n h in let y = eqb-true m n k in absurd (omega arith)
     go true false h k = refl
     go false true h k = refl
     go false false h k = refl
+
+-- unfilled, they stay only where they are equal
+pub together-unfilled : (m n : ℕ) → together false false (static m) (static n) ≡ cond (eqb m 1) (some (static n)) (cond (eqb n 1) (some (static m)) (cond (eqb m n) (some (static m)) none))
+together-unfilled m n = together-statics false false m n ∙ rw (go (ltb m n))
+  where
+    go : (t : Bool) → cond t (filled false (static n)) (filled false (static m)) ≡ none
+    go true = refl
+    go false = refl
 
 -- ---- what the answer says of the two lists
 
@@ -44,39 +55,54 @@ thenRest-sizes none r e k = let z : _≡_ {A = ℕ} 0 1 = cc in absurd (omega ar
 thenRest-sizes (some d) (sizes y) e k = k d y refl refl (cc)
 thenRest-sizes (some d) (clash i) e k = let z : _≡_ {A = ℕ} 0 1 = cc in absurd (omega arith)
 
-pub pervade-length : (f g : Bool) (o p x : List Dim) → pervadeDims f g o p ≡ sizes x → length x ≡ max (length o) (length p)
-unfolding pervadeDims
-pervade-length f g [] [] x h = let e : [] ≡ x = cc in rw (← e) (omega arith)
-pervade-length f g [] (e ∷ p) x h =
-    thenRest-sizes (some (againstAbsent e)) (pervadeDims f g [] p) h λ d y a b w.
-    let l = pervade-length f g [] p y b in rw (← w) (omega arith)
-pervade-length f g (d ∷ o) [] x h =
-    thenRest-sizes (some (againstAbsent d)) (pervadeDims f g o []) h λ d y a b w.
-    let l = pervade-length f g o [] y b in rw (← w) (omega arith)
-pervade-length f g (d ∷ o) (e ∷ p) x h =
-    thenRest-sizes (together f g d e) (pervadeDims f g o p) h λ d y a b w.
-    let l = pervade-length f g o p y b in rw (← w) (omega arith)
+pub thenRest-clash : {C : Type 0} (c : Option Dim) (r : Pervaded) {i : ℕ} → thenRest c r ≡ clash i → (c ≡ none → 0 ≡ i → C) → ((j : ℕ) → r ≡ clash j → suc j ≡ i → C) → C
+thenRest-clash none r e k l = k refl (cc)
+thenRest-clash (some d) (sizes y) e k l = let z : _≡_ {A = ℕ} 0 1 = cc in absurd (omega arith)
+thenRest-clash (some d) (clash j) e k l = l j refl (cc)
 
--- the walk stops where both have a size
-pub pervade-clash : (f g : Bool) (o p : List Dim) (i : ℕ) → pervadeDims f g o p ≡ clash i → i < min (length o) (length p)
-unfolding pervadeDims
-pervade-clash f g [] [] i h = let z : _≡_ {A = ℕ} 0 1 = cc in absurd (omega arith)
-pervade-clash f g [] (e ∷ p) i h = go (pervadeDims f g [] p) (pervade-clash f g [] p) h
-  where
-    go : (r : Pervaded) → ((i : ℕ) → r ≡ clash i → i < min 0 (length p)) → thenRest (some (againstAbsent e)) r ≡ clash i → i < min 0 (suc (length p))
-    go (sizes y) k h = let z : _≡_ {A = ℕ} 0 1 = cc in absurd (omega arith)
-    go (clash j) k h = let z = k j refl in absurd (omega arith)
-pervade-clash f g (d ∷ o) [] i h = go (pervadeDims f g o []) (pervade-clash f g o []) h
-  where
-    go : (r : Pervaded) → ((i : ℕ) → r ≡ clash i → i < min (length o) 0) → thenRest (some (againstAbsent d)) r ≡ clash i → i < min (suc (length o)) 0
-    go (sizes y) k h = let z : _≡_ {A = ℕ} 0 1 = cc in absurd (omega arith)
-    go (clash j) k h = let z = k j refl in absurd (omega arith)
-pervade-clash f g (d ∷ o) (e ∷ p) i h = go (together f g d e) (pervadeDims f g o p) (pervade-clash f g o p) h
-  where
-    go : (c : Option Dim) (r : Pervaded) → ((i : ℕ) → r ≡ clash i → i < min (length o) (length p)) → thenRest c r ≡ clash i → i < min (suc (length o)) (suc (length p))
-    go none r k h = let e : 0 ≡ i = cc in omega arith
-    go (some x) (sizes y) k h = let z : _≡_ {A = ℕ} 0 1 = cc in absurd (omega arith)
-    go (some x) (clash j) k h = let z = k j refl in let e : suc j ≡ i = cc in omega arith
+thenRest-stops : (c c′ : Option Dim) → (c ≡ none → c′ ≡ none) × (c′ ≡ none → c ≡ none) → (r r′ : Pervaded) → ((j : ℕ) → r ≡ clash j → r′ ≡ clash j)
+    → (i : ℕ) → thenRest c r ≡ clash i → thenRest c′ r′ ≡ clash i
+thenRest-stops none c′ h r r′ k i e = rw (h .0 refl) e
+thenRest-stops (some d) none h r r′ k i e = let z : _≡_ {A = Option Dim} (some d) none = h .1 refl in cc
+thenRest-stops (some d) (some d′) h (sizes y) r′ k i e = let z : _≡_ {A = ℕ} 0 1 = cc in absurd (omega arith)
+thenRest-stops (some d) (some d′) h (clash j) r′ k i e = rw (k j refl) e
+
+module _ (rule : Option Dim → Option Dim → Option Dim) where
+  pub walk-length : (o p x : List Dim) → walk rule o p ≡ sizes x → length x ≡ max (length o) (length p)
+  unfolding walk
+  walk-length [] [] x h = let e : [] ≡ x = cc in rw (← e) (omega arith)
+  walk-length [] (e ∷ p) x h =
+      thenRest-sizes (rule none (some e)) (walk rule [] p) h λ d y a b w.
+      let l = walk-length [] p y b in rw (← w) (omega arith)
+  walk-length (d ∷ o) [] x h =
+      thenRest-sizes (rule (some d) none) (walk rule o []) h λ d y a b w.
+      let l = walk-length o [] y b in rw (← w) (omega arith)
+  walk-length (d ∷ o) (e ∷ p) x h =
+      thenRest-sizes (rule (some d) (some e)) (walk rule o p) h λ d y a b w.
+      let l = walk-length o p y b in rw (← w) (omega arith)
+
+  -- Where a rule refuses no size against an absent one, the walk stops where both have a size.
+  pub walk-clash : ((d : Dim) → rule none (some d) ≡ none → ⊥) → ((d : Dim) → rule (some d) none ≡ none → ⊥) → (o p : List Dim) (i : ℕ) → walk rule o p ≡ clash i → i < min (length o) (length p)
+  unfolding walk
+  walk-clash u v [] [] i h = let z : _≡_ {A = ℕ} 0 1 = cc in absurd (omega arith)
+  walk-clash u v [] (e ∷ p) i h =
+      thenRest-clash (rule none (some e)) (walk rule [] p) h (λ x w. absurd (u e x)) λ j x w.
+      let z = walk-clash u v [] p j x in absurd (omega arith)
+  walk-clash u v (d ∷ o) [] i h =
+      thenRest-clash (rule (some d) none) (walk rule o []) h (λ x w. absurd (v d x)) λ j x w.
+      let z = walk-clash u v o [] j x in absurd (omega arith)
+  walk-clash u v (d ∷ o) (e ∷ p) i h =
+      thenRest-clash (rule (some d) (some e)) (walk rule o p) h (λ x w. omega arith) λ j x w.
+      let z = walk-clash u v o p j x in omega arith
+
+  -- Another that refuses wherever it refuses, and nowhere else, stops at the same index.
+  pub walk-stops : (other : Option Dim → Option Dim → Option Dim) → ((x y : Option Dim) → (rule x y ≡ none → other x y ≡ none) × (other x y ≡ none → rule x y ≡ none))
+      → (o p : List Dim) (i : ℕ) → walk rule o p ≡ clash i → walk other o p ≡ clash i
+  unfolding walk
+  walk-stops other h [] [] i e = let z : _≡_ {A = ℕ} 0 1 = cc in absurd (omega arith)
+  walk-stops other h [] (b ∷ p) i e = thenRest-stops (rule none (some b)) (other none (some b)) (h none (some b)) (walk rule [] p) (walk other [] p) (walk-stops other h [] p) i e
+  walk-stops other h (a ∷ o) [] i e = thenRest-stops (rule (some a) none) (other (some a) none) (h (some a) none) (walk rule o []) (walk other o []) (walk-stops other h o []) i e
+  walk-stops other h (a ∷ o) (b ∷ p) i e = thenRest-stops (rule (some a) (some b)) (other (some a) (some b)) (h (some a) (some b)) (walk rule o p) (walk other o p) (walk-stops other h o p) i e
 
 -- ---- limits
 
@@ -121,12 +147,22 @@ then-all none r h k = tt
 then-all (some d) (sizes y) h k = (h, k)
 then-all (some d) (clash i) h k = tt
 
-pervade-all : (f g : Bool) (o p : List Dim) → All DimWithin o → All DimWithin p → AllSizes (pervadeDims f g o p)
-unfolding pervadeDims
-pervade-all f g [] [] h k = tt
-pervade-all f g [] (e ∷ p) h k = then-all (some (againstAbsent e)) (pervadeDims f g [] p) (againstAbsent-within e (k .0)) (pervade-all f g [] p h (k .1))
-pervade-all f g (d ∷ o) [] h k = then-all (some (againstAbsent d)) (pervadeDims f g o []) (againstAbsent-within d (h .0)) (pervade-all f g o [] (h .1) k)
-pervade-all f g (d ∷ o) (e ∷ p) h k = then-all (together f g d e) (pervadeDims f g o p) (together-within f g d e (h .0) (k .0)) (pervade-all f g o p (h .1) (k .1))
+-- A rule for one index that keeps to the limits.
+abbrev pub KeepsWithin : (Option Dim → Option Dim → Option Dim) → Type 0
+KeepsWithin rule = (x y : Option Dim) → Each DimWithin x → Each DimWithin y → Each DimWithin (rule x y)
+
+pub pervadeAt-within : (f g : Bool) → KeepsWithin (pervadeAt f g)
+pervadeAt-within f g none none h k = tt
+pervadeAt-within f g none (some e) h k = againstAbsent-within e k
+pervadeAt-within f g (some d) none h k = againstAbsent-within d h
+pervadeAt-within f g (some d) (some e) h k = together-within f g d e h k
+
+walk-all : (rule : Option Dim → Option Dim → Option Dim) → KeepsWithin rule → (o p : List Dim) → All DimWithin o → All DimWithin p → AllSizes (walk rule o p)
+unfolding walk
+walk-all rule w [] [] h k = tt
+walk-all rule w [] (e ∷ p) h k = then-all (rule none (some e)) (walk rule [] p) (w none (some e) tt (k .0)) (walk-all rule w [] p h (k .1))
+walk-all rule w (d ∷ o) [] h k = then-all (rule (some d) none) (walk rule o []) (w (some d) none (h .0) tt) (walk-all rule w o [] (h .1) k)
+walk-all rule w (d ∷ o) (e ∷ p) h k = then-all (rule (some d) (some e)) (walk rule o p) (w (some d) (some e) (h .0) (k .0)) (walk-all rule w o p (h .1) (k .1))
 
 pub pervadeClosing-within : (c d : Option (List Dim)) → Each DimsWithin c → Each DimsWithin d → Each DimsWithin (pervadeClosing c d)
 unfolding pervadeClosing
@@ -136,14 +172,17 @@ pervadeClosing-within (some []) (some d) h k = k
 pervadeClosing-within (some (x ∷ c)) (some []) h k = h
 pervadeClosing-within (some (x ∷ c)) (some (y ∷ d)) h k = (omega arith, tt)
 
-pub pervade-within : (f g : Bool) (s t : Shape) → ShapeWithin s → ShapeWithin t → Each ShapeWithin (pervade f g s t)
-unfolding pervade
-pervade-within f g (shape o c) (shape p d) h k =
-    go (pervadeDims f g o p) (pervade-length f g o p) (pervade-all f g o p (h .0 .1) (k .0 .1))
+pub walk-within : (rule : Option Dim → Option Dim → Option Dim) → KeepsWithin rule → (o p : List Dim) (c d : Option (List Dim))
+    → ShapeWithin (shape o c) → ShapeWithin (shape p d) → Each ShapeWithin (closedBy (pervadeClosing c d) (walk rule o p))
+walk-within rule w o p c d h k = go (walk rule o p) (walk-length rule o p) (walk-all rule w o p (h .0 .1) (k .0 .1))
   where
     go : (r : Pervaded) → ((x : List Dim) → r ≡ sizes x → length x ≡ max (length o) (length p)) → AllSizes r → Each ShapeWithin (closedBy (pervadeClosing c d) r)
     go (sizes x) l a = let e = l x refl in ((omega arith, a), pervadeClosing-within c d (h .1) (k .1))
     go (clash i) l a = tt
+
+pub pervade-within : (f g : Bool) (s t : Shape) → ShapeWithin s → ShapeWithin t → Each ShapeWithin (pervade f g s t)
+unfolding pervade
+pervade-within f g (shape o c) (shape p d) h k = walk-within (pervadeAt f g) (pervadeAt-within f g) o p c d h k
 
 -- ---- the two sides
 
@@ -173,12 +212,19 @@ together-comm f g d e = go (isOne d) (isOne e) refl refl
     go false true h k = refl
     go false false h k = neitherOne-comm f g d e
 
-pub pervadeDims-comm : (f g : Bool) (o p : List Dim) → pervadeDims f g o p ≡ pervadeDims g f p o
-unfolding pervadeDims
-pervadeDims-comm f g [] [] = refl
-pervadeDims-comm f g [] (e ∷ p) = rw (pervadeDims-comm f g [] p)
-pervadeDims-comm f g (d ∷ o) [] = rw (pervadeDims-comm f g o [])
-pervadeDims-comm f g (d ∷ o) (e ∷ p) = rw (together-comm f g d e, pervadeDims-comm f g o p)
+pub pervadeAt-comm : (f g : Bool) (x y : Option Dim) → pervadeAt f g x y ≡ pervadeAt g f y x
+pervadeAt-comm f g none none = refl
+pervadeAt-comm f g none (some e) = refl
+pervadeAt-comm f g (some d) none = refl
+pervadeAt-comm f g (some d) (some e) = together-comm f g d e
+
+-- By two rules that are the same with the sides exchanged.
+pub walk-comm : (rule exchanged : Option Dim → Option Dim → Option Dim) → ((x y : Option Dim) → rule x y ≡ exchanged y x) → (o p : List Dim) → walk rule o p ≡ walk exchanged p o
+unfolding walk
+walk-comm rule exchanged h [] [] = refl
+walk-comm rule exchanged h [] (e ∷ p) = rw (h none (some e), walk-comm rule exchanged h [] p)
+walk-comm rule exchanged h (d ∷ o) [] = rw (h (some d) none, walk-comm rule exchanged h o [])
+walk-comm rule exchanged h (d ∷ o) (e ∷ p) = rw (h (some d) (some e), walk-comm rule exchanged h o p)
 
 pub pervadeClosing-comm : (c d : Option (List Dim)) → pervadeClosing c d ≡ pervadeClosing d c
 unfolding pervadeClosing
@@ -192,4 +238,4 @@ pervadeClosing-comm (some (x ∷ c)) (some (y ∷ d)) = refl
 
 pub pervade-comm : (f g : Bool) (s t : Shape) → pervade f g s t ≡ pervade g f t s
 unfolding pervade
-pervade-comm f g (shape o c) (shape p d) = rw (pervadeDims-comm f g o p, pervadeClosing-comm c d)
+pervade-comm f g (shape o c) (shape p d) = rw (walk-comm (pervadeAt f g) (pervadeAt g f) (pervadeAt-comm f g) o p, pervadeClosing-comm c d)

@@ -27,6 +27,11 @@ isAny (shape [] (some [])) = true
 isAny (shape [] (some (d ∷ c))) = false
 isAny (shape (d ∷ o) c) = false
 
+-- Open, by its closing list: named or empty, but not absent.
+abbrev pub isOpen : Option (List Dim) → Bool
+isOpen none = false
+isOpen (some c) = true
+
 -- The first opening size; without one, ? if open, else 1.
 unfoldable pub rowCount : Shape → Dim
 rowCount (shape (d ∷ o) c) = d

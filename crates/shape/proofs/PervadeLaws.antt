@@ -2,20 +2,24 @@
 use Prim.Native.Nat.{ℕ, suc, _+_, _≤_, _<_, max}
 use native.Mathlib.Numerals.{add-one}
 use native.Mathlib.Omega.{arith}
-use mathlib.Core.Bool.{Bool}
+use mathlib.Core.Bool.{Bool, true, false, not, _&&_, cond, and-true}
 use mathlib.Core.List.{List, map, [], _∷_}
 use mathlib.Core.Option.{Option, none, some, Option·map}
 use mathlib.Core.Path.{_≡_, sym, _∙_, ap, refl}
 use lib.ListN.{length, take, drop, set, getElem?, length-map}
 use lib.Seq.{length-take-le}
-use borrow.Author.Tests.{ne-eqb}
+use lib.Dec.{eqb}
+use borrow.Author.Tests.{eqb-true, ne-eqb}
 use Rattle.model.specs.Limits.{ones}
-use Rattle.model.specs.Types.{Dim, Shape, shape}
+use Rattle.model.specs.Types.{Dim, static, unknown, Shape, shape}
 use Rattle.format.specs.Records.{dimOf}
-use Rattle.record.specs.Answers.{dimsOf}
+use Rattle.record.specs.Answers.{dimsOf, closingFor}
 use Rattle.record.specs.declared.Dims.{Dims}
-use Rattle.rules.specs.Pervade.{sizes, clash, thenRest, pervadeDims, byOrder, together, againstAbsent, pervadeClosing, pervade}
-use Rattle.rules.specs.PervadeSteps.{pervadeAt, pervade-step, pervade-end, after, after-start, after-more, after-stop, after-end}
+use Rattle.record.specs.declared.DynShape.{DynShape}
+use Rattle.rules.specs.Shapes.{isOpen}
+use Rattle.rules.specs.Pervade.{againstAbsent, byOrder, together, pervadeAt, Pervaded, sizes, clash, thenRest, walk, pervadeClosing, closedBy}
+use Rattle.rules.specs.PervadeInSheets.{isOther, leftOpen}
+use Rattle.rules.specs.PervadeSteps.{walk-step, walk-end, after, after-start, after-more, after-stop, after-end}
 use Rattle.rules.specs.Sizes.{Order, cmpDim}
 use Rattle.record.proofs.ByValue.{one-more}
 use Rattle.shape.specs.Answers.{sizesBeside, shapeBeside}
@@ -69,38 +73,59 @@ module _ (f g : Bool) {x y r : Option Dim} where
   pub pervade-both : {d e : Dim} → some d ≡ x → some e ≡ y → r ≡ together f g d e → r ≡ pervadeAt f g x y
   pervade-both h k w = rw (← h, ← k) w
 
+-- ---- a size that may grow
+
+-- by its number
+pub other-number : (n : ℕ) → isOther (some (dimOf n)) ≡ not (eqb n 1) && not (eqb n ones)
+other-number n = go (eqb n ones) refl
+  where
+    go : (t : Bool) → eqb n ones ≡ t → isOther (some (cond t unknown (static n))) ≡ not (eqb n 1) && not t
+    go true e = rw (eqb-true n ones e)
+    go false e = sym (and-true (not (eqb n 1)))
+
+pub unknown-number : (b : Bool) (n : ℕ) → leftOpen b (some (dimOf n)) ≡ eqb n ones
+unknown-number b n = go (eqb n ones)
+  where
+    go : (t : Bool) → leftOpen b (some (cond t unknown (static n))) ≡ t
+    go true = refl
+    go false = refl
+
 -- ---- the walk over the indices
 
-module _ (f g : Bool) (o p : List Dim) where
+module _ (rule : Option Dim → Option Dim → Option Dim) (o p : List Dim) where
   -- what the first i indices gave stands in front of what the others give
   abbrev pub Walked : List ℕ → ℕ → Type 0
-  Walked done i = pervadeDims f g o p ≡ after (map dimOf (take i done)) (pervadeDims f g (drop i o) (drop i p))
+  Walked done i = walk rule o p ≡ after (map dimOf (take i done)) (walk rule (drop i o) (drop i p))
 
   pub walk-start : (done : List ℕ) → Walked done 0
-  walk-start done = sym (after-start (pervadeDims f g o p))
+  walk-start done = sym (after-start (walk rule o p))
 
-  module _ (done : List ℕ) (i : ℕ) (h : i < max (length o) (length p)) {c : Option Dim} (e : c ≡ pervadeAt f g (getElem? o i) (getElem? p i)) (w : Walked done i) where
-    index : pervadeDims f g o p ≡ after (map dimOf (take i done)) (thenRest c (pervadeDims f g (drop (suc i) o) (drop (suc i) p)))
-    index = w ∙ rw (e, pervade-step f g i o p h)
+  -- what the indices past i give
+  abbrev rest : ℕ → Pervaded
+  rest i = walk rule (drop (suc i) o) (drop (suc i) p)
+
+  module _ (done : List ℕ) (i : ℕ) (h : i < max (length o) (length p)) {c : Option Dim} (e : c ≡ rule (getElem? o i) (getElem? p i)) (w : Walked done i) where
+    index : walk rule o p ≡ after (map dimOf (take i done)) (thenRest c (rest i))
+    index = w ∙ rw (e, walk-step rule i o p h)
 
     pub walk-more : (v : ℕ) → i < length done → some (dimOf v) ≡ c → Walked (set done i v) (i + 1)
     walk-more v room u =
         index
-        ∙ ap (λ c. after (map dimOf (take i done)) (thenRest c (pervadeDims f g (drop (suc i) o) (drop (suc i) p)))) (sym u)
-        ∙ after-more (map dimOf (take i done)) (dimOf v) (pervadeDims f g (drop (suc i) o) (drop (suc i) p))
+        ∙ ap (λ c. after (map dimOf (take i done)) (thenRest c (rest i))) (sym u)
+        ∙ after-more (map dimOf (take i done)) (dimOf v) (rest i)
         ∙ rw (one-more done i v room, add-one)
 
-    pub walk-stop : i ≤ length done → none ≡ c → pervadeDims f g o p ≡ clash i
+    pub walk-stop : i ≤ length done → none ≡ c → walk rule o p ≡ clash i
     walk-stop room u =
         index
-        ∙ ap (λ c. after (map dimOf (take i done)) (thenRest c (pervadeDims f g (drop (suc i) o) (drop (suc i) p)))) (sym u)
-        ∙ after-stop (map dimOf (take i done)) (pervadeDims f g (drop (suc i) o) (drop (suc i) p))
+        ∙ ap (λ c. after (map dimOf (take i done)) (thenRest c (rest i))) (sym u)
+        ∙ after-stop (map dimOf (take i done)) (rest i)
         ∙ ap clash (length-map (take i done) dimOf ∙ length-take-le i done room)
 
-  pub walk-end : (done : List ℕ) (i : ℕ) {n : ℕ} → i ≡ n → n ≡ max (length o) (length p) → Walked done i → pervadeDims f g o p ≡ sizes (map dimOf (take n done))
-  walk-end done i {n} e k w =
+  pub walk-whole : (done : List ℕ) (i : ℕ) {n : ℕ} → i ≡ n → n ≡ max (length o) (length p) → Walked done i → walk rule o p ≡ sizes (map dimOf (take n done))
+  walk-whole done i {n} e k w =
       w
-      ∙ ap (after (map dimOf (take i done))) (pervade-end f g i o p (omega arith))
+      ∙ ap (after (map dimOf (take i done))) (walk-end rule i o p (omega arith))
       ∙ after-end (map dimOf (take i done))
       ∙ ap (λ j. sizes (map dimOf (take j done))) e
 
@@ -143,16 +168,14 @@ module _ {c d : Option (List Dim)} {l m : List Dim} (e : c ≡ some l) (f : d �
 
 -- ---- shapes
 
-pub pervade-beside :
-    (f g : Bool)
-    (o p : List Dim)
-    (c d : Option (List Dim))
-    (v : Pervasion)
-    {l : List Dim}
-    {s : Shape} →
-    sizesBeside v l ≡ pervadeDims f g o p →
-    s ≡ shape l (pervadeClosing c d) →
-    shapeBeside v s ≡ pervade f g (shape o c) (shape p d)
-unfolding pervade
-pervade-beside f g o p c d Pervades e h = rw (h, ← e)
-pervade-beside f g o p c d (Stopped i) e h = rw (← e)
+pub closed-beside : (c : Option (List Dim)) (v : Pervasion) {w : Pervaded} {l : List Dim} {s : Shape} → sizesBeside v l ≡ w → s ≡ shape l c → shapeBeside v s ≡ closedBy c w
+closed-beside c Pervades e h = rw (h, ← e)
+closed-beside c (Stopped i) e h = rw (← e)
+
+-- An open shape is one that is not closed.
+pub open-not : (s : DynShape) → isOpen (closingFor s) ≡ not (s .closed)
+open-not s = go (s .closed)
+  where
+    go : (b : Bool) → isOpen (cond b none (some (dimsOf (s .suffix)))) ≡ not b
+    go true = refl
+    go false = refl

@@ -1,15 +1,18 @@
 -- What the answers of this crate say, in the terms of the definitions: for each case of each, the paper's number and values.
+use mathlib.Core.Bool.{_||_, cond}
 use mathlib.Core.List.{List}
 use mathlib.Core.Option.{Option, none, some}
-use Rattle.model.specs.Types.{Dim, Shape}
+use Rattle.model.specs.Types.{Dim, unknown, Shape}
 use Rattle.format.specs.Records.{dimOf}
 use Rattle.rules.specs.Sizes as rules
-use Rattle.rules.specs.Pervade.{Pervaded, sizes, clash}
+use Rattle.rules.specs.Pervade.{pervadeAt, Pervaded, sizes, clash}
+use Rattle.rules.specs.PervadeInSheets.{mayGrow}
 use Rattle.record.specs.Answers.{dimsOf, shapeFor}
 use Rattle.shape.specs.declared.Order.{Order}
 use Rattle.shape.specs.declared.Order.the-variants.{Less, Same, More}
 use Rattle.shape.specs.declared.Spot.{Spot}
 use Rattle.shape.specs.declared.Spot.the-variants.{Absent, Size}
+use Rattle.shape.specs.declared.Side.{Side}
 use Rattle.shape.specs.declared.Meeting.{Meeting}
 use Rattle.shape.specs.declared.Meeting.the-variants.{Gives, Refuses}
 use Rattle.shape.specs.declared.DimsPervaded.{DimsPervaded}
@@ -29,6 +32,10 @@ spotOf (Size n) = some (dimOf n)
 abbrev pub meetingOf : Meeting → Option Dim
 meetingOf (Gives n) = some (dimOf n)
 meetingOf Refuses = none
+
+-- The rule for one index, by the two sides: a pervading where some sizes may grow.
+abbrev pub ruleFor : Side → Side → Option Dim → Option Dim → Option Dim
+ruleFor a b x y = cond (mayGrow (a .grows) (b .open) x y || mayGrow (b .grows) (a .open) y x) (some unknown) (pervadeAt (a .fill) (b .fill) x y)
 
 abbrev pub sizesBeside : Pervasion → List Dim → Pervaded
 sizesBeside Pervades ds = sizes ds

@@ -5,6 +5,7 @@ mod shapes;
 mod sizes;
 
 pub use pervade::pervade_dyn_shapes;
+pub use pervade::pervade_in_sheets;
 use record::Dims;
 use record::DynShape;
 pub use shapes::compatible_with;
@@ -33,6 +34,14 @@ pub enum Order {
 enum Spot {
     Absent,
     Size(u64),
+}
+
+// One side of a pervading: whether it is filled, whether its sizes may grow for that, which they do in sheets only, and whether its
+// shape is open.
+struct Side {
+    fill: bool,
+    grows: bool,
+    open: bool,
 }
 
 // What one index of a pervading gives.

@@ -4,6 +4,7 @@ use crate::Meeting;
 use crate::Order;
 use crate::Pervasion;
 use crate::ShapePervaded;
+use crate::Side;
 use crate::Spot;
 use crate::dims::get;
 use crate::dims::longer;
@@ -21,16 +22,34 @@ ghost use lib.ListN.{getElem?};
 ghost use Rattle.model.specs.Types.{shape};
 ghost use Rattle.format.specs.Records.{dimOf};
 ghost use Rattle.record.specs.Answers.{dimsOf, closingFor, shapeFor};
-ghost use Rattle.rules.specs.Pervade.{filled, againstAbsent, together, pervadeDims, pervadeClosing, pervade};
-ghost use Rattle.rules.specs.PervadeSteps.{pervadeAt};
-ghost use Rattle.shape.specs.Answers.{spotOf, meetingOf, dimsPervadedOf, shapePervadedOf};
+ghost use Rattle.rules.specs.Pervade.{filled, againstAbsent, together, pervadeAt, walk, pervadeClosing, closedBy, pervade};
+ghost use Rattle.rules.specs.PervadeInSheets.{isOther, leftOpen, mayGrow, pervadeInSheets};
+ghost use Rattle.shape.specs.Answers.{spotOf, meetingOf, ruleFor, dimsPervadedOf, shapePervadedOf};
 
+// The pervading of the separate call, which is the Rust's: no size grows.
 pub fn pervade_dyn_shapes(a: DynShape, b: DynShape, a_fill: bool, b_fill: bool) -> ShapePervaded
     ensures { λ r. ⌜ shapePervadedOf r ≡ pervade «a_fill» «b_fill» (shapeFor a) (shapeFor b) ⌝ }
 {
+    let a_side = Side { fill: a_fill, grows: false, open: !a.closed };
+    let b_side = Side { fill: b_fill, grows: false, open: !b.closed };
+    pervade_shapes(a, b, a_side, b_side)
+}
+
+// The pervading of sheets: a filled size may grow (document 02, 2026-01).
+pub fn pervade_in_sheets(a: DynShape, b: DynShape, a_fill: bool, b_fill: bool) -> ShapePervaded
+    ensures { λ r. ⌜ shapePervadedOf r ≡ pervadeInSheets «a_fill» «b_fill» (shapeFor a) (shapeFor b) ⌝ }
+{
+    let a_side = Side { fill: a_fill, grows: a_fill, open: !a.closed };
+    let b_side = Side { fill: b_fill, grows: b_fill, open: !b.closed };
+    pervade_shapes(a, b, a_side, b_side)
+}
+
+fn pervade_shapes(a: DynShape, b: DynShape, a_side: Side, b_side: Side) -> ShapePervaded
+    ensures { λ r. ⌜ shapePervadedOf r ≡ closedBy (pervadeClosing (closingFor a) (closingFor b)) (walk (ruleFor «a_side» «b_side») (dimsOf (a .dims)) (dimsOf (b .dims))) ⌝ }
+{
     let a_dims = a.dims;
     let b_dims = b.dims;
-    let walk = pervade_dims(a_dims, b_dims, a_fill, b_fill);
+    let walk = pervade_dims(a_dims, b_dims, a_side, b_side);
     let answer = walk.answer;
     let dims = walk.dims;
     let shape = pervade_closing(dims, a, b);
@@ -59,8 +78,8 @@ fn pervade_closing(dims: Dims, a: DynShape, b: DynShape) -> DynShape
 }
 
 // The walk stops at the first index that refuses.
-pub fn pervade_dims(a: Dims, b: Dims, fill_a: bool, fill_b: bool) -> DimsPervaded
-    ensures { λ r. ⌜ dimsPervadedOf r ≡ pervadeDims «fill_a» «fill_b» (dimsOf a) (dimsOf b) ⌝ }
+fn pervade_dims(a: Dims, b: Dims, a_side: Side, b_side: Side) -> DimsPervaded
+    ensures { λ r. ⌜ dimsPervadedOf r ≡ walk (ruleFor «a_side» «b_side») (dimsOf a) (dimsOf b) ⌝ }
 {
     let count = longer(a, b);
     let mut sizes = [0u64; MAX_SIZES];
@@ -69,7 +88,7 @@ pub fn pervade_dims(a: Dims, b: Dims, fill_a: bool, fill_b: bool) -> DimsPervade
         if i == count {
             break i;
         }
-        match pervade_at(a, b, i, fill_a, fill_b) {
+        match pervade_at(a, b, i, a_side, b_side) {
             Meeting::Gives(size) => {
                 sizes[i] = size;
             }
@@ -91,11 +110,52 @@ pub fn pervade_dims(a: Dims, b: Dims, fill_a: bool, fill_b: bool) -> DimsPervade
     }
 }
 
-fn pervade_at(a: Dims, b: Dims, i: usize, fill_a: bool, fill_b: bool) -> Meeting
-    ensures { λ r. ⌜ meetingOf r ≡ pervadeAt «fill_a» «fill_b» (getElem? (dimsOf a) i) (getElem? (dimsOf b) i) ⌝ }
+fn pervade_at(a: Dims, b: Dims, i: usize, a_side: Side, b_side: Side) -> Meeting
+    ensures { λ r. ⌜ meetingOf r ≡ ruleFor «a_side» «b_side» (getElem? (dimsOf a) i) (getElem? (dimsOf b) i) ⌝ }
 {
     let x = get(a, i);
     let y = get(b, i);
+    if may_grow(a_side.grows, b_side.open, x, y) {
+        return Meeting::Gives(UNKNOWN);
+    }
+    if may_grow(b_side.grows, a_side.open, y, x) {
+        return Meeting::Gives(UNKNOWN);
+    }
+    pervade_spots(x, y, a_side.fill, b_side.fill)
+}
+
+fn may_grow(grows: bool, open: bool, x: Spot, y: Spot) -> bool
+    ensures { λ r. ⌜ «r» ≡ mayGrow «grows» «open» (spotOf x) (spotOf y) ⌝ }
+{
+    if grows {
+        return is_other(x) && left_open(open, y);
+    }
+    false
+}
+
+// A static size other than 1.
+fn is_other(x: Spot) -> bool
+    ensures { λ r. ⌜ «r» ≡ isOther (spotOf x) ⌝ }
+{
+    let Spot::Size(size) = x else {
+        return false;
+    };
+    size != 1 && size != UNKNOWN
+}
+
+// The unknown, or nothing in an open shape.
+fn left_open(open: bool, x: Spot) -> bool
+    ensures { λ r. ⌜ «r» ≡ leftOpen «open» (spotOf x) ⌝ }
+{
+    let Spot::Size(size) = x else {
+        return open;
+    };
+    size == UNKNOWN
+}
+
+fn pervade_spots(x: Spot, y: Spot, fill_a: bool, fill_b: bool) -> Meeting
+    ensures { λ r. ⌜ meetingOf r ≡ pervadeAt «fill_a» «fill_b» (spotOf x) (spotOf y) ⌝ }
+{
     let Spot::Size(p) = x else {
         return against_absent(y);
     };

@@ -1,6 +1,4 @@
-use mathlib.Core.Path.{sym, ap, _∙_}
-use Rattle.shape.specs.Answers.{spotOf}
-use Rattle.shape.proofs.PervadeLaws.{pervade-absent, pervade-alone, pervade-both}
+use mathlib.Core.Path.{_∙_}
 use borrow.Author.Needs.{needs}
 use Rattle.shape.proofs.pervade.pervade_at.Statement.{statement}
 use Rattle.shape.proofs.pervade.pervade_at.Tie as tie
@@ -11,47 +9,37 @@ get-requires c κs = search needs
 get-requires-2 : tie.Need-get-requires-2
 get-requires-2 c κs = search needs
 
-enum-known-x : tie.Need-enum-known-x
-enum-known-x c = search needs
-
-enum-told : tie.Need-enum-told
-enum-told c = search needs
-
-against-absent-requires : tie.Need-against-absent-requires
-against-absent-requires c κs = search needs
+may-grow-requires : tie.Need-may-grow-requires
+may-grow-requires c κs = search needs
 
 returns : tie.Need-returns
 returns c =
-    let at-get = c .before .before .before .before in
-    let at-get2 = c .before .before .before in
-    pervade-absent _ _ (sym (ap spotOf (c .before .enum-told .given .1)) ∙ at-get .get .ensures) (at-get2 .get2 .ensures) (c .against-absent .ensures)
+    let at-get = c .before .before .before in
+    let at-get2 = c .before .before in
+    rw (← at-get .get .ensures, ← at-get2 .get2 .ensures, ← c .before .may-grow .ensures, c .if1 .taken)
 
-enum-known-y : tie.Need-enum-known-y
-enum-known-y c = search needs
-
-enum-told-2 : tie.Need-enum-told-2
-enum-told-2 c = search needs
-
-against-absent-requires-2 : tie.Need-against-absent-requires-2
-against-absent-requires-2 c κs = search needs
+may-grow-requires-2 : tie.Need-may-grow-requires-2
+may-grow-requires-2 c κs = search needs
 
 returns-2 : tie.Need-returns-2
 returns-2 c =
-    let at-get = c .before .before .before .before .before .before .before in
-    let at-get2 = c .before .before .before .before .before .before in
-    let at-x = c .before .before .before .before in
-    pervade-alone _ _ (sym (ap spotOf (at-x .x .given .1)) ∙ at-get .get .ensures) (sym (ap spotOf (c .before .enum-told2 .given .1)) ∙ at-get2 .get2 .ensures) (c .against-absent2 .ensures)
+    let at-get = c .before .before .before .before .before in
+    let at-get2 = c .before .before .before .before in
+    let at-may-grow = c .before .before .before in
+    rw (← at-get .get .ensures, ← at-get2 .get2 .ensures, ← at-may-grow .may-grow .ensures, ← c .before .may-grow2 .ensures, c .before .before .if1 .left, c .if2 .taken)
 
-pervade-sizes-requires : tie.Need-pervade-sizes-requires
-pervade-sizes-requires c κs = search needs
+pervade-spots-requires : tie.Need-pervade-spots-requires
+pervade-spots-requires c κs = search needs
 
 returns-3 : tie.Need-returns-3
 returns-3 c =
-    let at-get = c .before .before .before .before .before .before .before .before in
-    let at-get2 = c .before .before .before .before .before .before .before in
-    let at-x = c .before .before .before .before .before in
-    let at-y = c .before .before in
-    pervade-both _ _ (sym (ap spotOf (at-x .x .given .1)) ∙ at-get .get .ensures) (sym (ap spotOf (at-y .y .given .1)) ∙ at-get2 .get2 .ensures) (c .pervade-sizes .ensures)
+    let at-get = c .before .before .before .before .before .before in
+    let at-get2 = c .before .before .before .before .before in
+    let at-may-grow = c .before .before .before .before in
+    let at-if1 = c .before .before .before in
+    let at-may-grow2 = c .before .before in
+    c .pervade-spots .ensures
+    ∙ rw (← at-get .get .ensures, ← at-get2 .get2 .ensures, ← at-may-grow .may-grow .ensures, ← at-may-grow2 .may-grow2 .ensures, at-if1 .if1 .left, c .before .if2 .left)
 
 pub pervade-at-spec : {M : Type 1} → statement M
 pervade-at-spec =
@@ -59,13 +47,9 @@ pervade-at-spec =
     (tie.spec
     get-requires
     get-requires-2
-    enum-known-x
-    enum-told
-    against-absent-requires
+    may-grow-requires
     returns
-    enum-known-y
-    enum-told-2
-    against-absent-requires-2
+    may-grow-requires-2
     returns-2
-    pervade-sizes-requires
+    pervade-spots-requires
     returns-3)

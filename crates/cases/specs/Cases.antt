@@ -16,7 +16,7 @@ use Rattle.rules.specs.Shapes.{anyShape, isAny, rank, rowShape, mergeDims, merg
 use Rattle.rules.specs.Order.{codeOf}
 use Rattle.rules.specs.Scalars.{supersetCodes, supersetOf, union}
 use Rattle.rules.specs.Types.{whollyAny}
-use Rattle.rules.specs.Pervade.{againstAbsent, together, pervadeDims, pervadeClosing, pervade}
+use Rattle.rules.specs.Pervade.{againstAbsent, together, walk, pervadeClosing, pervade}
 use Rattle.rules.specs.Examples.{closed, ending, statics, starting, of}
 use Rattle.validation.specs.CheckShape.{Side, unsided, right, agree, equalDim, equalDims, mismatch, shapeMismatch, sidedShape, checkShape}
 use Rattle.validation.specs.AsFields.{keepsLimits}
@@ -138,7 +138,7 @@ cases-thirteen = refl
 
 pub cases-hold : All AllSay cases
 unfolding cases inside below cmpDim larger compatible rowShape isAny rank mergeDims mergeClosing mergeFrom joinDim joinDims joinLonger joinEnds
-    joinClosing joinShapes code codeOf supersetCodes supersetOf union whollyAny againstAbsent together pervadeDims pervadeClosing pervade numsScalar
+    joinClosing joinShapes code codeOf supersetCodes supersetOf union whollyAny againstAbsent together walk pervadeClosing pervade numsScalar
     lt sizesFrom valueSpec valueAsDim valueAsDims agree equalDim equalDims mismatch shapeMismatch sidedShape checkShape keepsLimits checkScalar
     validate
 cases-hold = (

@@ -5,12 +5,9 @@ use mathlib.Core.List.{List, [], _∷_, append-nil}
 use mathlib.Core.Option.{Option, none, some}
 use mathlib.Core.Path.{_≡_, refl, sym}
 use Rattle.model.specs.Types.{Dim, Shape, shape}
+use Rattle.rules.specs.Shapes.{isOpen}
 use Rattle.machine.specs.Real.{RealShape, fits}
 use Rattle.holding.specs.Fitting.{Fit, Fits, fits-of, of-fits}
-
-abbrev pub isOpen : Option (List Dim) → Bool
-isOpen none = false
-isOpen (some c) = true
 
 -- names no closing size
 abbrev pub BareClosing : Option (List Dim) → Type 0

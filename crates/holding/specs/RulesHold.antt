@@ -11,12 +11,12 @@ use lib.Dec.{eqb}
 use borrow.Author.Tests.{eqb-true}
 use Rattle.model.specs.Types.{Dim, static, unknown, Shape, shape}
 use Rattle.rules.specs.Sizes.{joinDim}
-use Rattle.rules.specs.Shapes.{rowShape, mergeDims, mergeClosing, mergeFrom, joinDims, joinEnds, joinClosing, joinShapes}
+use Rattle.rules.specs.Shapes.{isOpen, rowShape, mergeDims, mergeClosing, mergeFrom, joinDims, joinEnds, joinClosing, joinShapes}
 use Rattle.rules.specs.SizesLaws.{larger-either}
 use Rattle.machine.specs.Real.{RealShape, fits, realRow, JoinSide, theTop, theOneBelow, keeps}
 use Rattle.machine.specs.Conditions.{Alike}
 use Rattle.holding.specs.Fitting.{Fit}
-use Rattle.holding.specs.Bare.{isOpen, BareClosing, Bare, Rest, StartsWith, begins-of, of-begins}
+use Rattle.holding.specs.Bare.{BareClosing, Bare, Rest, StartsWith, begins-of, of-begins}
 
 -- ---- row
 

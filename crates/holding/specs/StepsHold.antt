@@ -11,21 +11,21 @@ use lib.Dec.{ltb}
 use Rattle.model.specs.Refusals.{unpervaded}
 use Rattle.model.specs.Types.{Shape, shape, Ty, ty, shapeOf}
 use Rattle.model.specs.Within.{All}
-use Rattle.rules.specs.Pervade.{pervade}
+use Rattle.rules.specs.PervadeInSheets.{pervadeInSheets}
 use Rattle.rules.specs.Scalars.{union}
 use Rattle.rules.specs.Types.{intoRow, rowBy, joinTypes}
 use Rattle.validation.specs.CheckShape.{unsided}
 use Rattle.validation.specs.Validate.{validate}
 use Rattle.validation.specs.ValidateLaws.{validate-shape}
 use Rattle.machine.specs.SheetLimits.{maxStack}
-use Rattle.machine.specs.Steps.{Step, put, row, pervading, join, validating, flagByte, Rule, ofNone, ofOne, ofTwo}
+use Rattle.machine.specs.Steps.{Step, put, row, pervading, join, validating, Rule, ofNone, ofOne, ofTwo}
 use Rattle.machine.specs.Run.{Ruling, gives, orRefuses, aside, Stack, onto, pervadeTypes, ruleOf, ruleOn, step, steps}
 use Rattle.machine.specs.Real.{RealShape, fits, Holds, realPervade, JoinSide, Feed, Feeds, realRow, keeps, ontoReal, realRule, realRuleOn, realStep, realRun, FitsPut, FitsPuts}
-use Rattle.machine.specs.Conditions.{namesClosing, NamesNoClosing, FillsNothing, Alike, JoinsAlike, Along}
+use Rattle.machine.specs.Conditions.{namesClosing, NamesNoClosing, Alike, JoinsAlike, Along}
 use Rattle.holding.specs.Bare.{Bare}
 use Rattle.holding.specs.PervadeHolds.{pervade-holds}
 use Rattle.holding.specs.RulesHold.{row-holds, join-holds, merge-holds}
-use Rattle.machine.specs.RunLaws.{unfilled, following-gives, orRefuses-gives, aside-gives}
+use Rattle.machine.specs.RunLaws.{following-gives, orRefuses-gives, aside-gives}
 use Rattle.machine.specs.RealLaws.{cond-some, ontoReal-some, goesOn-some}
 use Rattle.machine.specs.RuleOn.{room-gives}
 
@@ -98,14 +98,13 @@ row-made : (t : Ty) (r : RealShape) → HoldsBare t r → HoldsBare (intoRow t) 
 unfolding rowBy
 row-made (ty s k) r h = row-holds s r (h .1) (h .0)
 
-pervade-made : (f g : Bool) (t u : Ty) (r q : RealShape) → flagByte f g ≡ 0 → HoldsBare t r → HoldsBare u q → Made (pervadeTypes f g t u) (realPervade r q)
+pervade-made : (f g : Bool) (t u : Ty) (r q : RealShape) → HoldsBare t r → HoldsBare u q → Made (pervadeTypes f g t u) (realPervade f g r q)
 unfolding pervadeTypes
-pervade-made f g (ty s k) (ty t l) r q unfilled-flags h i x z e y =
-    following-gives (orRefuses (pervade f g s t) unpervaded) e λ v e₁ e₂.
-    orRefuses-gives (pervade f g s t) unpervaded e₁ λ e₃.
+pervade-made f g (ty s k) (ty t l) r q h i x z e y =
+    following-gives (orRefuses (pervadeInSheets f g s t) unpervaded) e λ v e₁ e₂.
+    orRefuses-gives (pervadeInSheets f g s t) unpervaded e₁ λ e₃.
     let w : ty v (union k l) ≡ x = cc in
-    let (a, b) = unfilled f g unfilled-flags in
-    rw (← w) (pervade-holds s t v r q z (h .1) (i .1) (h .0) (i .0) (rw (a, b) at e₃) y)
+    rw (← w) (pervade-holds f g s t v r q z (h .1) (i .1) (h .0) (i .0) e₃ y)
 
 join-made : (side : JoinSide) (t u : Ty) (r q : RealShape) → Alike (shapeOf t) (shapeOf u) → HoldsBare t r → HoldsBare u q → HoldsBare (joinTypes t u) (keeps side r q)
 unfolding joinTypes
@@ -117,28 +116,28 @@ validate-made spec t r n h x z e y =
     cond-some (fits (shapeOf spec) r) y λ fit v.
     rw (← v, validate-shape spec t x e₁) (merge-holds (shapeOf t) (shapeOf spec) r (h .1) (bare-of (shapeOf spec) n) (h .0) fit)
 
-rule-holds : (x : Step) (f : Feed x) → NamesNoClosing x → FillsNothing x → FitsPut x f → Preserves (JoinsAlike x) (ruleOf x) (realRule x f)
-rule-holds (put t) f n u p = λ x z e y. let w : t ≡ x = cc in let v : f ≡ z = cc in rw (← w, ← v) (p, bare-of (shapeOf t) n)
-rule-holds row f n u p = λ t r h x z e y. let w : intoRow t ≡ x = cc in let v : realRow r ≡ z = cc in rw (← w, ← v) (row-made t r h)
-rule-holds (pervading a b) f n u p = λ t u′ st r q c h i. pervade-made a b t u′ r q u h i
-rule-holds join f n u p = λ t u′ st r q c h i x z e y. let w : joinTypes t u′ ≡ x = cc in let v : keeps f r q ≡ z = cc in rw (← w, ← v) (join-made f t u′ r q c h i)
-rule-holds (validating spec) f n u p = λ t r h. validate-made spec t r n h
+rule-holds : (x : Step) (f : Feed x) → NamesNoClosing x → FitsPut x f → Preserves (JoinsAlike x) (ruleOf x) (realRule x f)
+rule-holds (put t) f n p = λ x z e y. let w : t ≡ x = cc in let v : f ≡ z = cc in rw (← w, ← v) (p, bare-of (shapeOf t) n)
+rule-holds row f n p = λ t r h x z e y. let w : intoRow t ≡ x = cc in let v : realRow r ≡ z = cc in rw (← w, ← v) (row-made t r h)
+rule-holds (pervading a b) f n p = λ t u st r q c h i. pervade-made a b t u r q h i
+rule-holds join f n p = λ t u st r q c h i x z e y. let w : joinTypes t u ≡ x = cc in let v : keeps f r q ≡ z = cc in rw (← w, ← v) (join-made f t u r q c h i)
+rule-holds (validating spec) f n p = λ t r h. validate-made spec t r n h
 
 -- ---- all steps
 
 step-holds : (x : Step) (st st₁ : Stack) (f : Feed x) (rs rs₁ : List RealShape)
-    → NamesNoClosing x → FillsNothing x → JoinsAlike x st → FitsPut x f → AllHold st rs → step x st ≡ gives st₁ → realStep x f rs ≡ some rs₁ → AllHold st₁ rs₁
+    → NamesNoClosing x → JoinsAlike x st → FitsPut x f → AllHold st rs → step x st ≡ gives st₁ → realStep x f rs ≡ some rs₁ → AllHold st₁ rs₁
 unfolding step realStep
-step-holds x st st₁ f rs rs₁ n u j p h e y = ruleOn-hold (JoinsAlike x) (ruleOf x) (realRule x f) st st₁ rs rs₁ (rule-holds x f n u p) j h e y
+step-holds x st st₁ f rs rs₁ n j p h e y = ruleOn-hold (JoinsAlike x) (ruleOf x) (realRule x f) st st₁ rs rs₁ (rule-holds x f n p) j h e y
 
 pub steps-hold : (xs : List Step) (st st₁ : Stack) (f : Feeds xs) (rs rs₁ : List RealShape)
-    → All NamesNoClosing xs → All FillsNothing xs → Along JoinsAlike xs st → FitsPuts xs f → AllHold st rs → steps xs st ≡ gives st₁ → realRun xs f rs ≡ some rs₁ → AllHold st₁ rs₁
+    → All NamesNoClosing xs → Along JoinsAlike xs st → FitsPuts xs f → AllHold st rs → steps xs st ≡ gives st₁ → realRun xs f rs ≡ some rs₁ → AllHold st₁ rs₁
 unfolding steps realRun
-steps-hold [] st st₁ f rs rs₁ n u j p h e y =
+steps-hold [] st st₁ f rs rs₁ n j p h e y =
     let w : st ≡ st₁ = cc in
     let v : rs ≡ rs₁ = cc in
     rw (← w, ← v) h
-steps-hold (x ∷ xs) st st₁ f rs rs₁ n u j p h e y =
+steps-hold (x ∷ xs) st st₁ f rs rs₁ n j p h e y =
     following-gives (step x st) e λ st₂ e₁ e₂.
     goesOn-some (realStep x (f .0) rs) y λ rs₂ y₁ y₂.
-    steps-hold xs st₂ st₁ (f .1) rs₂ rs₁ (n .1) (u .1) (j .1 st₂ e₁) (p .1) (step-holds x st st₂ (f .0) rs rs₂ (n .0) (u .0) (j .0) (p .0) h e₁ y₁) e₂ y₂
+    steps-hold xs st₂ st₁ (f .1) rs₂ rs₁ (n .1) (j .1 st₂ e₁) (p .1) (step-holds x st st₂ (f .0) rs rs₂ (n .0) (j .0) (p .0) h e₁ y₁) e₂ y₂

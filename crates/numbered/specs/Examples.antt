@@ -14,7 +14,7 @@ use Rattle.rules.specs.Sizes.{cmpDim, compatible}
 use Rattle.rules.specs.Shapes.{isAny, rowCount}
 use Rattle.rules.specs.Order.{codeOf}
 use Rattle.rules.specs.Scalars.{supersetCodes, supersetOf}
-use Rattle.rules.specs.Pervade.{together, pervadeDims, pervadeClosing, pervade}
+use Rattle.rules.specs.Pervade.{together, walk, pervadeClosing, pervade}
 use Rattle.rules.specs.Types.{whollyAny, copiesFor, asBoxes}
 use Rattle.validation.specs.CheckShape.{agree, mismatch, shapeMismatch, checkShape}
 use Rattle.validation.specs.CheckScalar.{checkScalar}
@@ -81,7 +81,7 @@ examples =
 
 pub examples-shown : All Shown examples
 unfolding examples replyTo lone deliver readTy shapeFrom scalarFrom boxFrom readMark readDims readDim judged byte number bytesOf code kindOf writeShape writeScalar
-    cmpDim compatible isAny rowCount codeOf supersetCodes supersetOf together pervadeDims pervadeClosing pervade whollyAny copiesFor asBoxes agree
+    cmpDim compatible isAny rowCount codeOf supersetCodes supersetOf together walk pervadeClosing pervade whollyAny copiesFor asBoxes agree
     mismatch shapeMismatch checkShape checkScalar validate checkShapeOnly sheetCall sizesFrom deliverBoxes valueSpec numsScalar valueAsDim valueAsDims
     deliverSizes inside below
 examples-shown = (refl, (refl, (refl, (refl, (refl, (refl, (refl, (refl, (refl, (refl, (refl, (refl, (refl, (refl, (refl, (refl, (refl, (refl, (refl, (refl, (refl, (refl, (refl, tt)))))))))))))))))))))))

@@ -20,7 +20,7 @@ use Rattle.lent.specs.Written.{delivered, Puts}
 use Rattle.lent.specs.declared.Written.{Written}
 use Rattle.lent.specs.declared.Written.the-variants.{Wrote, Refused as Unwritten}
 use Rattle.record.specs.Answers.{nothings}
-use Rattle.rules.specs.Pervade.{pervade}
+use Rattle.rules.specs.PervadeInSheets.{pervadeInSheets}
 use Rattle.rules.specs.Scalars.{union}
 use Rattle.machine.specs.Run.{pervadeTypes}
 use Rattle.record.proofs.LoneLaws.{both-accepted}
@@ -77,14 +77,14 @@ module _ (f g : Bool) (a b : Outcome Ty) {s t : Shape} (first : mapped shapeOf a
   abbrev Pervaded : Outcome (List ℕ)
   Pervaded = both (λ t u. mapped writeTy (atStart (pervadeTypes f g t u))) a b
 
-  pub types-clash : both nothings a b ≡ accepted 0 → pervade f g s t ≡ none → Pervaded ≡ refused unpervaded 0
+  pub types-clash : both nothings a b ≡ accepted 0 → pervadeInSheets f g s t ≡ none → Pervaded ≡ refused unpervaded 0
   unfolding pervadeTypes
   types-clash good e = by-scalars a b first second _ (λ k l. refused unpervaded 0) clash ∙ both-accepted a b good (λ t u x y. rw (x, y))
     where
       clash : (k l : Scalar) → mapped writeTy (atStart (pervadeTypes f g (ty s k) (ty t l))) ≡ refused unpervaded 0
       clash k l = rw e
 
-  pub types-pervade : {x : Shape} → pervade f g s t ≡ some x → both (λ t u. accepted (writeTy (ty x (union (scalarOf t) (scalarOf u))))) a b ≡ Pervaded
+  pub types-pervade : {x : Shape} → pervadeInSheets f g s t ≡ some x → both (λ t u. accepted (writeTy (ty x (union (scalarOf t) (scalarOf u))))) a b ≡ Pervaded
   unfolding pervadeTypes
   types-pervade {x} e = sym (by-scalars a b first second _ (λ k l. accepted (writeTy (ty x (union k l)))) meets)
     where

@@ -17,7 +17,7 @@ use Rattle.machine.specs.Run.{Ruling, gives, refuses}
 use Rattle.machine.specs.Call.{Tally, Called, called, zeroed, leftWith, sheetCall}
 use Rattle.machine.specs.WellFormed.{WellFormed, typesLeft}
 use Rattle.machine.specs.Real.{RealShape, fits, Holds, realPervade, Feeds, realStep, Through}
-use Rattle.machine.specs.Conditions.{NamesNoClosing, FillsNothing, RowsNoOpenDef, JoinsAlike, Along, Only, PutOrPervade, SamePuts}
+use Rattle.machine.specs.Conditions.{NamesNoClosing, RowsNoOpenDef, JoinsAlike, Along, Only, PutOrPervade, SamePuts}
 
 -- ---- what the call answers
 
@@ -64,11 +64,11 @@ pub record MakesAccepted (c : Check) (xs : List Step) (ts : List Ty) : Type 0 wh
   pub bytes : SheetOf (c .sheet) xs
   pub leaves : Leaves c ts
 
--- All conditions of the first half on the steps, a list that is worked in order from an empty stack: "names no closing sizes, fills
--- nothing, takes no row of an open Def, and joins only closed shapes of equal count or two open ones". The proof does without the third.
+-- All conditions of the first half on the steps, a list that is worked in order from an empty stack: "names no closing sizes, [...] takes
+-- no row of an open Def, and joins only closed shapes of equal count or two open ones". That it fills nothing is not asked any more: "the
+-- holding of real shapes then covers filled steps" (document 02, 2026-01). The proof does without the second.
 pub record FirstConditions (xs : List Step) : Type 0 where
   pub names-no-closing : All NamesNoClosing xs
-  pub fills-nothing : All FillsNothing xs
   pub rows-no-open-def : Along RowsNoOpenDef xs []
   pub joins-alike : Along JoinsAlike xs []
 
@@ -107,11 +107,13 @@ pub record Regrouped (c d : Check) (xs ys : List Step) : Type 0 where
 
 -- ---- the real run
 
--- the real pervading of the two on top stops
-abbrev pub TopsStop : List RealShape → Type 0
-TopsStop [] = ⊥
-TopsStop (r ∷ []) = ⊥
-TopsStop (r ∷ q ∷ rs) = realPervade r q ≡ none
+-- the real pervading of the two on top, filled as the flag byte says that follows the mark, stops
+abbrev pub TopsStop : Argument → List RealShape → Type 0
+TopsStop noArgument rs = ⊥
+TopsStop (aType spec) rs = ⊥
+TopsStop (flags f g) [] = ⊥
+TopsStop (flags f g) (r ∷ []) = ⊥
+TopsStop (flags f g) (r ∷ q ∷ rs) = realPervade f g r q ≡ none
 
 -- the one on top does not fit the spec that follows the mark
 abbrev pub TopUnfit : Argument → List RealShape → Type 0
@@ -123,7 +125,7 @@ TopUnfit (aType spec) (r ∷ rs) = fits (shapeOf spec) r ≡ false
 -- Why a step of it stops, of the real shapes that it takes: a pervading of two real shapes whose real pervading stops, or a validation
 -- of one that does not fit. There is no third reason, and so none that a shape is lacking.
 abbrev pub StopsBecause : Step → List RealShape → Type 0
-StopsBecause x rs = Only (isA aPervading x) (TopsStop rs) ⊎ Only (isA aValidating x) (TopUnfit (argumentOf x) rs)
+StopsBecause x rs = Only (isA aPervading x) (TopsStop (argumentOf x) rs) ⊎ Only (isA aValidating x) (TopUnfit (argumentOf x) rs)
 
 -- Why a run stops: its first step stops for one of the two reasons, or it goes on and the run stops later.
 abbrev pub RunStopsBecause : (xs : List Step) → Feeds xs → List RealShape → Type 0

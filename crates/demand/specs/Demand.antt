@@ -21,8 +21,8 @@ use Rattle.demand.specs.SecondCalls.{not-both, one-of-two, verdict-same,
 
 -- "For every list of puts, rows, pervadings, joins and validations that, worked in order from an empty stack, makes an accepted sheet":
 -- xs, whose bytes the call c accepts, whatever result and scratch held, and which leave the types ts, bottom first (`MakesAccepted`).
--- "Names no closing sizes, fills nothing, takes no row of an open Def, and joins only closed shapes of equal count or two open ones":
--- `FirstConditions`, a field for each.
+-- "Names no closing sizes, [...] takes no row of an open Def, and joins only closed shapes of equal count or two open ones":
+-- `FirstConditions`, a field for each. "Fills nothing" fell with document 02, 2026-01: pervadings may be filled.
 -- "Whatever real arrays fit the puts and whichever side each join keeps, if they get through the steps": f, a real shape for each put and
 -- a side for each join, which get through (`Through`) and leave the real shapes `left`, bottom first.
 -- "Each type left holds the shape of the real array there": `EachHolds`.

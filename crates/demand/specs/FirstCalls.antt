@@ -59,4 +59,4 @@ pub types-hold : (c : Check) (xs : List Step) (ts : List Ty) → MakesAccepted c
 types-hold c xs ts m k f left t =
     let worked = left-within (c .sheet) xs ts (m .bytes) (leaves-run c xs ts m) .0 in
     bottom-holds ts left
-    (steps-hold xs [] (reverse ts) f [] (reverse left) (k .names-no-closing) (k .fills-nothing) (k .joins-alike) (t .fit) tt worked (t .run))
+    (steps-hold xs [] (reverse ts) f [] (reverse left) (k .names-no-closing) (k .joins-alike) (t .fit) tt worked (t .run))

@@ -10,5 +10,6 @@ pub mod Numbered
 pub mod WorkedWith
 pub mod Worked
 pub mod WorkedOpen
+pub mod WorkedFilled
 pub mod WorkedSecond
 pub mod RealRun

@@ -19,7 +19,7 @@ use Rattle.format.specs.Reader.{Read, got, stopped, Reader, andThen, _>>=_, giv
 use Rattle.format.specs.Records.{Mark, mark, shapeMark, scalarMark, boxMark, boxCode, kindOf, isCount, isOptional, listCount, isPrinting, form, orStop, readMark, readDim, readDims}
 use Rattle.format.specs.Records.{shapeFrom, readName, readFields, defFrom, boxFrom, scalarFrom, readTy, readType}
 use Rattle.format.specs.Outcome.{Outcome, accepted, refused, mapped, alone, lone}
-use Rattle.rules.specs.Pervade.{pervade}
+use Rattle.rules.specs.PervadeInSheets.{pervadeInSheets}
 use Rattle.rules.specs.Scalars.{union}
 use Rattle.validation.specs.CheckShape.{unsided}
 use Rattle.validation.specs.Validate.{validate}
@@ -293,7 +293,7 @@ ruleOn-refuses (ofTwo f) (t ∷ u ∷ st) h = onto-refuses st (f t u) (h t u)
 
 pervading-refuses : (f g : Bool) (t u : Ty) → RefusesWith ofSheet (pervadeTypes f g t u)
 unfolding pervadeTypes
-pervading-refuses f g (ty s k) (ty t l) = go (pervade f g s t)
+pervading-refuses f g (ty s k) (ty t l) = go (pervadeInSheets f g s t)
   where
     go : (o : Option Shape) → RefusesWith ofSheet (following (orRefuses o unpervaded) λ x. gives (ty x (union k l)))
     go none = refl

@@ -12,7 +12,7 @@ use lib.ListN.{length, length-reverse}
 use Rattle.model.specs.Types.{Ty, shapeOf}
 use Rattle.format.specs.Reader.{Bytes}
 use Rattle.machine.specs.SheetLimits.{maxStack}
-use Rattle.machine.specs.Steps.{Step, put, row, pervading, join, validating, opcodeOf, takes, heightPast, aType, Rule, ofNone, ofOne, ofTwo}
+use Rattle.machine.specs.Steps.{Step, put, row, pervading, join, validating, opcodeOf, takes, heightPast, aType, flags, Rule, ofNone, ofOne, ofTwo}
 use Rattle.machine.specs.Run.{gives, Stack, step, steps}
 use Rattle.machine.specs.WellFormed.{WellFormed, heightAfter, typesLeft, Heights}
 use Rattle.machine.specs.Real.{RealShape, fits, realPervade, Feed, Feeds, realRow, keeps, ontoReal, realRule, realRuleOn, realStep, goesOn, realRun}
@@ -58,10 +58,10 @@ never-two g [] h = h
 never-two g (r ∷ []) h = h
 never-two g (r ∷ q ∷ rs) h = let z : _≡_ {A = ℕ} 0 1 = cc in absurd (omega arith)
 
-stuck-tops : (rs : List RealShape) → Stuck (ofTwo λ r q. realPervade r q) rs → TopsStop rs
-stuck-tops [] h = h
-stuck-tops (r ∷ []) h = h
-stuck-tops (r ∷ q ∷ rs) h = h
+stuck-tops : (f g : Bool) (rs : List RealShape) → Stuck (ofTwo λ r q. realPervade f g r q) rs → TopsStop (flags f g) rs
+stuck-tops f g [] h = h
+stuck-tops f g (r ∷ []) h = h
+stuck-tops f g (r ∷ q ∷ rs) h = h
 
 stuck-unfit : (spec : Ty) (rs : List RealShape) → Stuck (ofOne λ r. cond (fits (shapeOf spec) r) (some r) none) rs → TopUnfit (aType spec) rs
 stuck-unfit spec [] h = h
@@ -74,7 +74,7 @@ stuck-unfit spec (r ∷ rs) h = go (fits (shapeOf spec) r) h
 rule-stops : (x : Step) (u : Feed x) (rs : List RealShape) → Stuck (realRule x u) rs → StopsBecause x rs
 rule-stops (put t) r rs h = let z : _≡_ {A = ℕ} 0 1 = cc in absurd (omega arith)
 rule-stops row u rs h = absurd (never-one realRow rs h)
-rule-stops (pervading f g) u rs h = inl (stuck-tops rs h)
+rule-stops (pervading f g) u rs h = inl (stuck-tops f g rs h)
 rule-stops join side rs h = absurd (never-two (keeps side) rs h)
 rule-stops (validating spec) u rs h = inr (stuck-unfit spec rs h)
 

@@ -15,7 +15,8 @@ use Rattle.rules.specs.Sizes.{cmpDim, larger, compatible, joinDim}
 use Rattle.rules.specs.Shapes.{isAny, rowShape, mergeDims, mergeClosing, mergeFrom, joinDims, joinClosing, joinShapes}
 use Rattle.rules.specs.Order.{codeOf}
 use Rattle.rules.specs.Scalars.{supersetCodes, supersetOf, union}
-use Rattle.rules.specs.Pervade.{together, pervadeDims, pervadeClosing, pervade}
+use Rattle.rules.specs.Pervade.{together, walk, pervadeClosing}
+use Rattle.rules.specs.PervadeInSheets.{inSheetsAt, pervadeInSheets}
 use Rattle.rules.specs.Types.{joinTypes, whollyAny, rowScalar, rowBy}
 use Rattle.validation.specs.CheckShape.{agree, mismatch, shapeMismatch, sidedShape, checkShape}
 use Rattle.validation.specs.CheckScalar.{checkScalar}
@@ -73,8 +74,8 @@ worked-sheet = record {
 
 worked-run : sheetRun workedBytes ≡ accepted workedLeft
 unfolding inside below byte judged number code kindOf readMark readDim readDims shapeFrom scalarFrom readTy cmpDim larger compatible joinDim isAny
-    rowShape mergeDims mergeClosing mergeFrom joinDims joinClosing joinShapes codeOf supersetCodes supersetOf union together pervadeDims
-    pervadeClosing pervade joinTypes whollyAny rowScalar rowBy agree mismatch shapeMismatch sidedShape checkShape checkScalar validate pervadeTypes
+    rowShape mergeDims mergeClosing mergeFrom joinDims joinClosing joinShapes codeOf supersetCodes supersetOf union together walk
+    pervadeClosing inSheetsAt pervadeInSheets joinTypes whollyAny rowScalar rowBy agree mismatch shapeMismatch sidedShape checkShape checkScalar validate pervadeTypes
     step opcodeFrom argumentFrom stepFrom workFrom sheetMore sheetFrom sheetRun
 worked-run = refl
 
@@ -99,11 +100,10 @@ worked-buffers = worked-leaves (zeroes 15) (zeroes scratchBytes) (long-enough 15
 -- The row is of [2 ?] Num, no Def; the join is of [4] and [3], closed and of one size each.
 pub worked-conditions : FirstConditions workedSteps
 unfolding inside below code cmpDim larger compatible joinDim isAny rowShape mergeDims mergeClosing mergeFrom joinDims joinClosing joinShapes codeOf
-    supersetCodes supersetOf union together pervadeDims pervadeClosing pervade joinTypes whollyAny rowScalar rowBy agree mismatch shapeMismatch
+    supersetCodes supersetOf union together walk pervadeClosing inSheetsAt pervadeInSheets joinTypes whollyAny rowScalar rowBy agree mismatch shapeMismatch
     sidedShape checkShape checkScalar validate pervadeTypes step
 worked-conditions = record {
   names-no-closing = (refl, (tt, (refl, (tt, (refl, (tt, (refl, tt)))))));
-  fills-nothing = (tt, (tt, (tt, (refl, (tt, (tt, (tt, tt)))))));
   rows-no-open-def = as-worked RowsNoOpenDef workedSteps [] (tt, (refl, (tt, (tt, (tt, (tt, (tt, tt)))))));
   joins-alike = as-worked JoinsAlike workedSteps [] (tt, (tt, (tt, (tt, (tt, (refl, (tt, tt)))))));
 }

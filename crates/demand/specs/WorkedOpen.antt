@@ -114,7 +114,6 @@ pub open-conditions : FirstConditions openSteps
 unfolding code joinDim rank rowShape joinDims joinLonger joinEnds joinClosing joinShapes codeOf supersetCodes supersetOf union joinTypes firstField rowScalar rowBy step
 open-conditions = record {
   names-no-closing = (refl, (refl, (tt, (refl, (tt, tt)))));
-  fills-nothing = (tt, (tt, (tt, (tt, (tt, tt)))));
   rows-no-open-def = as-worked RowsNoOpenDef openSteps [] (tt, (tt, (tt, (tt, (refl, tt)))));
   joins-alike = as-worked JoinsAlike openSteps [] (tt, (tt, (tt, (tt, (tt, tt)))));
 }

@@ -18,7 +18,8 @@ use Rattle.format.specs.Outcome.{accepted, refused, shapeRecord}
 use Rattle.rules.specs.Sizes.{cmpDim}
 use Rattle.rules.specs.Order.{codeOf}
 use Rattle.rules.specs.Scalars.{supersetCodes, supersetOf, union}
-use Rattle.rules.specs.Pervade.{againstAbsent, together, pervadeDims, pervadeClosing, pervade}
+use Rattle.rules.specs.Pervade.{againstAbsent, together, walk, pervadeClosing}
+use Rattle.rules.specs.PervadeInSheets.{inSheetsAt, pervadeInSheets}
 use Rattle.machine.specs.SheetLimits.{scratchBytes, resultBytes}
 use Rattle.machine.specs.Steps.{Step, put, pervading, writeSteps, SheetOf}
 use Rattle.machine.specs.Run.{gives, refuses, pervadeTypes, step}
@@ -179,7 +180,7 @@ one-record = refl
 
 pairs-run : sheetRun pairsBytes ≡ accepted (oneLeft ∷ [])
 unfolding byte judged number code kindOf readMark readDim readDims shapeFrom scalarFrom readTy codeOf supersetCodes supersetOf union againstAbsent
-    together pervadeDims pervadeClosing pervade pervadeTypes step opcodeFrom argumentFrom stepFrom workFrom sheetMore sheetFrom sheetRun
+    together walk pervadeClosing inSheetsAt pervadeInSheets pervadeTypes step opcodeFrom argumentFrom stepFrom workFrom sheetMore sheetFrom sheetRun
 pairs-run = refl
 
 one-length : length (writeTypes (oneLeft ∷ [])) ≡ 15
@@ -194,7 +195,7 @@ pairs-leaves =
 -- [3] and [4] are refused at the pervading.
 unlike-run : sheetRun unlikeBytes ≡ refused unpervaded 34
 unfolding byte judged number code kindOf readMark readDim readDims shapeFrom scalarFrom readTy cmpDim codeOf supersetCodes supersetOf union together
-    pervadeDims pervadeClosing pervade pervadeTypes step opcodeFrom argumentFrom stepFrom workFrom sheetMore sheetFrom sheetRun
+    walk pervadeClosing inSheetsAt pervadeInSheets pervadeTypes step opcodeFrom argumentFrom stepFrom workFrom sheetMore sheetFrom sheetRun
 unlike-run = refl
 
 pub unlike-mismatched : Mismatched (checkWith unlikeBytes)

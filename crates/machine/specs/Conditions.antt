@@ -29,15 +29,6 @@ ArgumentNamesNoClosing (flags f g) = Unit {0}
 abbrev pub NamesNoClosing : Step → Type 0
 NamesNoClosing x = ArgumentNamesNoClosing (argumentOf x)
 
--- "fills nothing", or unfilled: flag byte 0.
-abbrev pub ArgumentFillsNothing : Argument → Type 0
-ArgumentFillsNothing noArgument = Unit {0}
-ArgumentFillsNothing (aType t) = Unit {0}
-ArgumentFillsNothing (flags f g) = flagByte f g ≡ 0
-
-abbrev pub FillsNothing : Step → Type 0
-FillsNothing x = ArgumentFillsNothing (argumentOf x)
-
 -- `Where`: asked where a test says yes, and elsewhere nothing is asked. `Only`: asked where it says yes, and elsewhere nothing passes.
 abbrev pub Where : Bool → Type 0 → Type 0
 Where true P = P
@@ -86,9 +77,18 @@ Along P (x ∷ xs) st = P x st × ((st₁ : Stack) → step x st ≡ gives st₁
 
 -- ---- the second half
 
+-- Unfilled: flag byte 0.
+abbrev pub ArgumentUnfilled : Argument → Type 0
+ArgumentUnfilled noArgument = Unit {0}
+ArgumentUnfilled (aType t) = Unit {0}
+ArgumentUnfilled (flags f g) = flagByte f g ≡ 0
+
+abbrev pub Unfilled : Step → Type 0
+Unfilled x = ArgumentUnfilled (argumentOf x)
+
 -- "puts and unfilled pervadings".
 abbrev pub PutOrPervade : Step → Type 0
-PutOrPervade x = Only (isA aPut x || isA aPervading x) (FillsNothing x)
+PutOrPervade x = Only (isA aPut x || isA aPervading x) (Unfilled x)
 
 abbrev pub withPut : Option Ty → List Ty → List Ty
 withPut none l = l

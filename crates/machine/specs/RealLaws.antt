@@ -1,11 +1,20 @@
--- What a real pervading, a real step and a real run that go on say of their parts, by continuation.
+-- What two sizes give unfilled; and what a real pervading, a real step and a real run that go on say of their parts, by continuation.
 use Prim.Native.Nat.{ℕ}
 use native.Mathlib.Omega.{arith}
 use mathlib.Core.Bool.{Bool, true, false, cond}
 use mathlib.Core.List.{List, _∷_}
 use mathlib.Core.Option.{Option, none, some}
 use mathlib.Core.Path.{_≡_, refl}
-use Rattle.machine.specs.Real.{RealShape, consBoth, ontoReal, goesOn}
+use lib.Dec.{eqb, ltb}
+use Rattle.machine.specs.Real.{RealShape, grown, realDim, consBoth, ontoReal, goesOn}
+
+-- Unfilled, two sizes that differ stop.
+pub realDim-unfilled : (m n : ℕ) → realDim false false m n ≡ cond (eqb m 1) (some n) (cond (eqb n 1) (some m) (cond (eqb m n) (some m) none))
+realDim-unfilled m n = rw (go (ltb m n))
+  where
+    go : (t : Bool) → cond t (grown false n) (grown false m) ≡ none
+    go true = refl
+    go false = refl
 
 pub consBoth-some : {A C : Type 0} (x : Option A) (r : Option (List A)) {z : List A} → consBoth x r ≡ some z → ((a : A) (l : List A) → x ≡ some a → r ≡ some l → a ∷ l ≡ z → C) → C
 consBoth-some none r e k = let z : _≡_ {A = ℕ} 0 1 = cc in absurd (omega arith)

@@ -81,7 +81,7 @@ realAt i r = namedBy (getElem? r i)
 abbrev pub realAsked : ℕ → List RealShape → Named
 realAsked i l = gather unnamed joinNamed (realAt i) l
 
-pub realPervade-joins : Joins joinNamed realAt differ realPervade
+pub realPervade-joins : Joins joinNamed realAt differ (realPervade false false)
 realPervade-joins = record { absorbs = λ x. refl; joins = λ i r q z e. named-realPervade r q z e i; refuses = differ-realPervade }
 
 -- ---- a real shape that fits asks for no less

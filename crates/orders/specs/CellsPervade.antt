@@ -9,11 +9,11 @@ use mathlib.Core.Path.{_≡_, refl, sym, _∙_}
 use lib.ListN.{getElem?}
 use lib.Dec.{eqb}
 use Rattle.model.specs.Types.{Dim, static, unknown}
-use Rattle.rules.specs.Pervade.{againstAbsent, together, Pervaded, sizes, clash, thenRest, pervadeDims}
-use Rattle.rules.specs.PervadeLaws.{together-unknown, together-unfilled, together-comm, thenRest-sizes}
+use Rattle.rules.specs.Pervade.{againstAbsent, together, sizes, clash, walk, pervadeDims}
+use Rattle.rules.specs.PervadeLaws.{together-unknown, together-unfilled, together-comm, thenRest-sizes, thenRest-clash}
 use Rattle.machine.specs.Real.{RealShape, realDim, consBoth, realPervade}
 use Rattle.orders.specs.Cells.{unnamed, differ, cell, namedIn, joinNamed, joinCell, cellStatic, cellOf, namedBy, joinNamed-comm, joinCell-comm}
-use Rattle.machine.specs.RealLaws.{consBoth-some}
+use Rattle.machine.specs.RealLaws.{realDim-unfilled, consBoth-some}
 
 -- ---- pervading joins cells
 
@@ -56,7 +56,7 @@ cell-together (static m) unknown x h =
 cell-together (static m) (static n) x h = cell-statics m n x h
 
 pub cell-pervade : (o p x : List Dim) → pervadeDims false false o p ≡ sizes x → (i : ℕ) → cellOf (getElem? x i) ≡ joinCell (cellOf (getElem? o i)) (cellOf (getElem? p i))
-unfolding pervadeDims
+unfolding walk
 cell-pervade [] [] x e i = let w : [] ≡ x = cc in rw (← w)
 cell-pervade [] (d ∷ p) x e zero =
     thenRest-sizes (some (againstAbsent d)) (pervadeDims false false [] p) e λ x₀ x₁ e₀ e₁ v.
@@ -96,13 +96,8 @@ differ-together (static m) unknown h =
     let w : _≡_ {A = ℕ} 0 1 = cc in absurd (omega arith)
 differ-together (static m) (static n) h = differ-statics m n h
 
-thenRest-clash : {C : Type 0} (c : Option Dim) (r : Pervaded) {i : ℕ} → thenRest c r ≡ clash i → (c ≡ none → 0 ≡ i → C) → ((j : ℕ) → r ≡ clash j → suc j ≡ i → C) → C
-thenRest-clash none r e k l = k refl (cc)
-thenRest-clash (some d) (sizes y) e k l = let z : _≡_ {A = ℕ} 0 1 = cc in absurd (omega arith)
-thenRest-clash (some d) (clash j) e k l = l j refl (cc)
-
 pub differ-pervade : (o p : List Dim) (i : ℕ) → pervadeDims false false o p ≡ clash i → namedIn (joinCell (cellOf (getElem? o i)) (cellOf (getElem? p i))) ≡ differ
-unfolding pervadeDims
+unfolding walk
 differ-pervade [] [] i e = let z : _≡_ {A = ℕ} 0 1 = cc in absurd (omega arith)
 differ-pervade [] (d ∷ p) i e =
     thenRest-clash (some (againstAbsent d)) (pervadeDims false false [] p) e
@@ -119,8 +114,8 @@ differ-pervade (d ∷ o) (f ∷ p) i e =
 
 -- ---- the same of real shapes
 
-named-realDim : (m n z : ℕ) → realDim m n ≡ some z → namedBy (some z) ≡ joinNamed (namedBy (some m)) (namedBy (some n))
-named-realDim m n z h = go (eqb m 1) (eqb n 1) (eqb m n) refl refl refl h
+named-realDim : (m n z : ℕ) → realDim false false m n ≡ some z → namedBy (some z) ≡ joinNamed (namedBy (some m)) (namedBy (some n))
+named-realDim m n z h = go (eqb m 1) (eqb n 1) (eqb m n) refl refl refl (sym (realDim-unfilled m n) ∙ h)
   where
     go : (t u v : Bool) → eqb m 1 ≡ t → eqb n 1 ≡ u → eqb m n ≡ v → cond t (some n) (cond u (some m) (cond v (some m) none)) ≡ some z
         → namedBy (some z) ≡ joinNamed (namedIn (cellStatic t m)) (namedIn (cellStatic u n))
@@ -129,8 +124,8 @@ named-realDim m n z h = go (eqb m 1) (eqb n 1) (eqb m n) refl refl refl h
     go false false true j k l h = let w : m ≡ z = cc in rw (← w, j, l)
     go false false false j k l h = let w : _≡_ {A = ℕ} 0 1 = cc in absurd (omega arith)
 
-differ-realDim : (m n : ℕ) → realDim m n ≡ none → joinNamed (namedBy (some m)) (namedBy (some n)) ≡ differ
-differ-realDim m n h = go (eqb m 1) (eqb n 1) (eqb m n) refl h
+differ-realDim : (m n : ℕ) → realDim false false m n ≡ none → joinNamed (namedBy (some m)) (namedBy (some n)) ≡ differ
+differ-realDim m n h = go (eqb m 1) (eqb n 1) (eqb m n) refl (sym (realDim-unfilled m n) ∙ h)
   where
     go : (t u v : Bool) → eqb m n ≡ v → cond t (some n) (cond u (some m) (cond v (some m) none)) ≡ none → joinNamed (namedIn (cellStatic t m)) (namedIn (cellStatic u n)) ≡ differ
     go true u v l h = let w : _≡_ {A = ℕ} 0 1 = cc in absurd (omega arith)
@@ -138,21 +133,21 @@ differ-realDim m n h = go (eqb m 1) (eqb n 1) (eqb m n) refl h
     go false false true l h = let w : _≡_ {A = ℕ} 0 1 = cc in absurd (omega arith)
     go false false false l h = rw l
 
-pub named-realPervade : (r q z : RealShape) → realPervade r q ≡ some z → (i : ℕ) → namedBy (getElem? z i) ≡ joinNamed (namedBy (getElem? r i)) (namedBy (getElem? q i))
+pub named-realPervade : (r q z : RealShape) → realPervade false false r q ≡ some z → (i : ℕ) → namedBy (getElem? z i) ≡ joinNamed (namedBy (getElem? r i)) (namedBy (getElem? q i))
 unfolding realPervade
 named-realPervade [] q z e i = let w : q ≡ z = cc in rw (← w)
 named-realPervade (m ∷ r) [] z e i = let w : m ∷ r ≡ z = cc in rw (← w) (sym (joinNamed-comm (namedBy (getElem? (m ∷ r) i)) unnamed))
-named-realPervade (m ∷ r) (n ∷ q) z e zero = consBoth-some (realDim m n) (realPervade r q) e λ x₀ x₁ e₀ e₁ v. rw (← v) (named-realDim m n x₀ e₀)
-named-realPervade (m ∷ r) (n ∷ q) z e (suc i) = consBoth-some (realDim m n) (realPervade r q) e λ x₀ x₁ e₀ e₁ v. rw (← v) (named-realPervade r q x₁ e₁ i)
+named-realPervade (m ∷ r) (n ∷ q) z e zero = consBoth-some (realDim false false m n) (realPervade false false r q) e λ x₀ x₁ e₀ e₁ v. rw (← v) (named-realDim m n x₀ e₀)
+named-realPervade (m ∷ r) (n ∷ q) z e (suc i) = consBoth-some (realDim false false m n) (realPervade false false r q) e λ x₀ x₁ e₀ e₁ v. rw (← v) (named-realPervade r q x₁ e₁ i)
 
 consBoth-none : {A C : Type 0} (x : Option A) (r : Option (List A)) → consBoth x r ≡ none → (x ≡ none → C) → (r ≡ none → C) → C
 consBoth-none none r e j k = j refl
 consBoth-none (some a) none e j k = k refl
 consBoth-none (some a) (some l) e j k = let z : _≡_ {A = ℕ} 0 1 = cc in absurd (omega arith)
 
-pub differ-realPervade : (r q : RealShape) → realPervade r q ≡ none → (i : ℕ) × (joinNamed (namedBy (getElem? r i)) (namedBy (getElem? q i)) ≡ differ)
+pub differ-realPervade : (r q : RealShape) → realPervade false false r q ≡ none → (i : ℕ) × (joinNamed (namedBy (getElem? r i)) (namedBy (getElem? q i)) ≡ differ)
 unfolding realPervade
 differ-realPervade [] q e = let w : _≡_ {A = ℕ} 0 1 = cc in absurd (omega arith)
 differ-realPervade (m ∷ r) [] e = let w : _≡_ {A = ℕ} 0 1 = cc in absurd (omega arith)
 differ-realPervade (m ∷ r) (n ∷ q) e =
-    consBoth-none (realDim m n) (realPervade r q) e (λ x. (0, differ-realDim m n x)) (λ y. let (i, h) = differ-realPervade r q y in (suc i, h))
+    consBoth-none (realDim false false m n) (realPervade false false r q) e (λ x. (0, differ-realDim m n x)) (λ y. let (i, h) = differ-realPervade r q y in (suc i, h))

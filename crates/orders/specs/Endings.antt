@@ -7,8 +7,8 @@ use mathlib.Core.List.{List, [], _∷_}
 use mathlib.Core.Option.{Option, none, some}
 use mathlib.Core.Path.{_≡_, refl, sym}
 use Rattle.model.specs.Types.{Dim, Shape}
+use Rattle.rules.specs.Shapes.{isOpen}
 use Rattle.rules.specs.Pervade.{pervadeClosing}
-use Rattle.holding.specs.Bare.{isOpen}
 use Rattle.orders.specs.Play.{Commutes}
 use Rattle.orders.specs.Asked.{closingOf}
 

@@ -11,6 +11,7 @@ use Rattle.model.specs.Refusals.{unpervaded}
 use Rattle.model.specs.Types.{Shape, Scalar, Ty, ty, shapeOf}
 use Rattle.model.specs.Within.{All}
 use Rattle.rules.specs.Pervade.{pervade}
+use Rattle.rules.specs.PervadeInSheetsLaws.{inSheets-unfilled}
 use Rattle.rules.specs.Scalars.{union}
 use Rattle.machine.specs.Steps.{Step, put, row, pervading, join, validating, aJoin, isA, putBy}
 use Rattle.machine.specs.Run.{Ruling, gives, refuses, following, orRefuses, Stack, onto, steps}
@@ -66,7 +67,7 @@ unfolding steps play
 pervading-plays xs [] h i = absurd (omega arith)
 pervading-plays xs (t ∷ []) h i = absurd (omega arith)
 pervading-plays xs (ty s k ∷ ty t l ∷ st) h i =
-    rw (step-pervading false false (ty s k) (ty t l) st, pervadeTypes-is false false s t k l) (go (pervade false false s t) (λ x. i x (union k l) st refl))
+    rw (step-pervading false false (ty s k) (ty t l) st, pervadeTypes-is false false s t k l, inSheets-unfilled s t) (go (pervade false false s t) (λ x. i x (union k l) st refl))
   where
     go : (r : Option Shape) → ((x : Shape) → Plays xs (ty x (union k l) ∷ st))
         → shapes (following (onto st (following (orRefuses r unpervaded) (λ x. gives (ty x (union k l))))) (λ st₁. steps xs st₁))
@@ -148,22 +149,22 @@ abbrev pub feedMoves : (xs : List Step) → Feeds xs → List (Move RealShape)
 feedMoves [] u = []
 feedMoves (x ∷ xs) f = feedMove (putBy x) (isA aJoin x) (f .0) ∷ feedMoves xs (f .1)
 
-pub real-play : (xs : List Step) (f : Feeds xs) (rs : List RealShape) → All PutOrPervade xs → realRun xs f rs ≡ play realPervade (feedMoves xs f) rs
+pub real-play : (xs : List Step) (f : Feeds xs) (rs : List RealShape) → All PutOrPervade xs → realRun xs f rs ≡ play (realPervade false false) (feedMoves xs f) rs
 unfolding realRun realStep play
 real-play [] f rs p = refl
 real-play (x ∷ xs) f rs p =
-    put-or-pervade (λ y. (g : Feeds (y ∷ xs)) → realRun (y ∷ xs) g rs ≡ play realPervade (feedMoves (y ∷ xs) g) rs)
+    put-or-pervade (λ y. (g : Feeds (y ∷ xs)) → realRun (y ∷ xs) g rs ≡ play (realPervade false false) (feedMoves (y ∷ xs) g) rs)
     (λ t g. real-play xs (g .1) (g .0 ∷ rs) (p .1))
     (λ g. mixing (g .1) rs λ z rest. real-play xs (g .1) (z ∷ rest) (p .1))
     x (p .0) f
   where
-    mixing : (g : Feeds xs) (rs : List RealShape) → ((z : RealShape) (rest : List RealShape) → realRun xs g (z ∷ rest) ≡ play realPervade (feedMoves xs g) (z ∷ rest))
-        → realRun (pervading false false ∷ xs) (tt, g) rs ≡ play realPervade (mix ∷ feedMoves xs g) rs
+    mixing : (g : Feeds xs) (rs : List RealShape) → ((z : RealShape) (rest : List RealShape) → realRun xs g (z ∷ rest) ≡ play (realPervade false false) (feedMoves xs g) (z ∷ rest))
+        → realRun (pervading false false ∷ xs) (tt, g) rs ≡ play (realPervade false false) (mix ∷ feedMoves xs g) rs
     mixing g [] i = refl
     mixing g (r ∷ []) i = refl
-    mixing g (r ∷ q ∷ rs) i = go (realPervade r q)
+    mixing g (r ∷ q ∷ rs) i = go (realPervade false false r q)
       where
-        go : (o : Option RealShape) → goesOn (ontoReal rs o) (λ rs₁. realRun xs g rs₁) ≡ mixed realPervade o (λ z. play realPervade (feedMoves xs g) (z ∷ rs))
+        go : (o : Option RealShape) → goesOn (ontoReal rs o) (λ rs₁. realRun xs g rs₁) ≡ mixed (realPervade false false) o (λ z. play (realPervade false false) (feedMoves xs g) (z ∷ rs))
         go none = refl
         go (some z) = i z rs
 

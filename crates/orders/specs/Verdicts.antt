@@ -74,7 +74,7 @@ module _ (xs : List Step) (p : Pervadings xs) (f : Feeds xs) where
   real-one k l =
       let (enough, left) = enough-feeds xs f 0 (p .only) (p .heights) in
       let same = real-play xs f [] (p .only) in
-      play-one named-commutes realPervade realPervade-joins (feedMoves xs f) enough (left ∙ p .one)
+      play-one named-commutes (realPervade false false) realPervade-joins (feedMoves xs f) enough (left ∙ p .one)
       (λ e w. k (same ∙ e) w)
       (λ r e w. l r (same ∙ e) w)
 

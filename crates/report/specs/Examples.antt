@@ -9,7 +9,8 @@ use Rattle.format.specs.Records.{code, kindOf, writeShape, writeScalar, writeTy
 use Rattle.rules.specs.Sizes.{cmpDim, larger, compatible, joinDim}
 use Rattle.rules.specs.Order.{codeOf}
 use Rattle.rules.specs.Scalars.{supersetCodes, supersetOf, union}
-use Rattle.rules.specs.Pervade.{againstAbsent, together, pervadeDims, pervadeClosing, pervade}
+use Rattle.rules.specs.Pervade.{againstAbsent, together, walk, pervadeClosing}
+use Rattle.rules.specs.PervadeInSheets.{inSheetsAt, pervadeInSheets}
 use Rattle.machine.specs.Run.{pervadeTypes, step}
 use Rattle.machine.specs.Sheet.{opcodeFrom, argumentFrom, stepFrom, workFrom, sheetMore, sheetFrom, sheetRun}
 use Rattle.machine.specs.Call.{writeTypes}
@@ -63,7 +64,7 @@ examples =
 pub examples-shown : All Shown examples
 unfolding examples inside below byte judged number bytesOf code kindOf writeShape writeScalar writeTy
     readMark readDim readDims shapeFrom readName readFields defFrom boxFrom scalarFrom readTy
-    cmpDim larger compatible joinDim codeOf supersetCodes supersetOf union againstAbsent together pervadeDims pervadeClosing pervade
+    cmpDim larger compatible joinDim codeOf supersetCodes supersetOf union againstAbsent together walk pervadeClosing inSheetsAt pervadeInSheets
     pervadeTypes step opcodeFrom argumentFrom stepFrom workFrom sheetMore sheetFrom sheetRun writeTypes
     hexOf decimalWithin headed typeLine typeLines reported
 examples-shown = (refl, (refl, (refl, (refl, (refl, tt)))))

@@ -328,6 +328,10 @@ def put(*types):
     return b"".join(b"PU" + a for a in types)
 
 
+def pervade(flag):
+    return b"PV" + bytes([flag])
+
+
 def check(spec):
     return b"VA" + spec
 
@@ -377,7 +381,7 @@ def worked():
     for first, second in ((a, b) for a in (*boxes, unknown) for b in (*boxes, unknown)):
         yield from (sheet(put(first, second), step) for step in (JOIN, PERVADE, check(first)))
     for flag in range(4):
-        yield from (sheet(put(a, b), b"PV" + bytes([flag])) for a, b in ((three, four), (four, three), (num("0"), num("1")), (num("3 2"), num("4"))))
+        yield from (sheet(put(a, b), pervade(flag)) for a, b in ((three, four), (four, three), (num("0"), num("1")), (num("3 2"), num("4"))))
     for a in (*boxes, num("2 3"), num("2..3"), num("..")):
         yield from (sheet(put(a), ROW * rows) for rows in range(4))
     # validation has no side here; it makes fields, and takes the spec's
@@ -391,6 +395,49 @@ def worked():
     yield sheet((put(unknown, three) + PERVADE + ROW) * 7)
     yield sheet(put(three), (put(three) + PERVADE) * 31, ROW)
     yield sheet(put(three), (put(three) + PERVADE) * 31, ROW, ROW)
+
+
+# sizes that are filled or not, and what they meet at the same index: ?, nothing in an open shape, nothing in a closed one, a static
+MEETINGS = (
+    ("12", "?"), ("12", ".."), ("12", "..3"), ("12", ""), ("12", "1"), ("12", "12"), ("12", "11"), ("3", "4"), ("12", "?.."),
+    ("12", "?..3"), ("12", "1.."), ("5 12", "1.."), ("5 12", "5..3"), ("5 12", "5"), ("0", "?"), ("0", ".."), ("0", ""), ("0", "1"),
+    ("0", "3"), ("1", "?"), ("1", ".."), ("1", ""), ("?", "?"), ("?", ".."), (f"{LARGEST}", "?"), (f"{LARGEST}", ".."),
+    ("12..", ".."), ("12..3", "?"), ("12..3", ".."), ("12..3", "..3"), ("12 ?", "? 12"), ("12 ?", "? 12.."), ("12", "? 12"), ("12..", "? 12"),
+    # the first index fine and the second refusing, and the other way round
+    ("12 3", "? 4"), ("12 4", "? 3"), ("3 12", "4 ?"), ("4 12", "3 ?"), ("12 3", "?.."), ("12 3 5", "? 4"), ("12 3 5", "? 4.."),
+    (EIGHT, " ".join("?" * 8)), (EIGHT, ".."), (f"{EIGHT}..{EIGHT}", f"..{EIGHT}"), (EIGHT, "? 2 ? 4 ? 6 ? 8"), (EIGHT, "? 2 ? 4.."),
+)  # fmt: skip
+
+
+def met():
+    """What is filled meets ? or nothing: by a sheet's rule, and by the separate call, which stays the Rust's."""
+    for top, below in (pair for a, b in MEETINGS for pair in ((num(a), num(b)), (num(b), num(a)))):
+        for flag in range(4):
+            yield sheet(put(below, top), pervade(flag))
+            yield ask("pervade", flag, top, below)
+    # later steps take the ?: it yields to 11, which 12 refuses, and [12] on [?..] is refused, which on [12..] passes
+    later = (ROW, check(num("12")), check(num("?")), check(num("..")), put(num("11")) + PERVADE, put(num("12")) + JOIN)
+    for flag, other in ((flag, other) for flag in range(4) for other in ("?", "..", "..3", "")):
+        yield from (sheet(put(num("12"), num(other)), pervade(flag), step) for step in later)
+
+
+def poured():
+    """Nothing but puts and pervadings, most of them filled, as many as a sheet has steps."""
+    twelve, unknown, some = num("12"), num("?"), num("..")
+    tables = (twelve, unknown, some, num(""), num("12 3"), num("..3"), num("1"), num("? 3"), num("0"))
+    for flag in range(4):
+        # one table over and over
+        for first in (twelve, unknown, some):
+            yield from (sheet(put(first), (put(other) + pervade(flag)) * 31, put(first)) for other in (unknown, twelve, some, num("")))
+        # all but the last by turns: 63 steps, 64 and 65; the stack full and then down to one type, time and again
+        turns = b"".join(put(tables[turn % 8]) + pervade(flag) for turn in range(31))
+        yield from (sheet(put(first), turns, last) for first in tables for last in (b"", put(twelve), put(twelve) * 2))
+        pile = put(twelve, unknown, some, twelve, num(""), unknown, twelve)
+        for last in (b"", pervade(flag)):
+            yield from (sheet(put(first), (pile + pervade(flag) * 7) * 4, pile, last) for first in (twelve, unknown))
+    # the flags by turns
+    turns = b"".join(put(tables[turn % 8]) + pervade(1 + turn % 3) for turn in range(31))
+    yield from (sheet(put(first), turns, put(first)) for first in tables)
 
 
 def buffers():
@@ -462,7 +509,7 @@ def lines():
 
 PARTS = (
     cases, dims, shapes, scalars, orders, rows, boxes, looked_up, joins, values, kinds, shape_checks, scalar_checks,
-    grown, judged, worked, buffers, sheet_lines, refused, lines,
+    grown, judged, worked, met, poured, buffers, sheet_lines, refused, lines,
 )  # fmt: skip
 
 

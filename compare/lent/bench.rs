@@ -3,7 +3,8 @@
 //!     bench [ROUNDS [PART]]    so many samples of each side, by turns; the cases whose names have this part
 //!
 //! The Rust's side reads the bytes into its `Type`s, works its rules on them, writes what is left straight to the result and clears a
-//! scratch of the same length. Validation calls the cut `validate` once: the limits are not measured. Both sides must answer the same.
+//! scratch of the same length. Validation calls the cut `validate` once: the limits are not measured. A sheet's pervading is no text of
+//! the Rust's, but oracle/filled.rs. Both sides must answer the same.
 
 #![allow(dead_code)]
 
@@ -12,6 +13,8 @@ mod bytes;
 #[path = "../oracle/edges.rs"]
 mod edges;
 mod expected;
+#[path = "../oracle/filled.rs"]
+mod filled;
 #[path = "../oracle/generate.rs"]
 mod generate;
 #[path = "../oracle/invent.rs"]

@@ -10,6 +10,8 @@ mod bytes;
 #[path = "../oracle/edges.rs"]
 mod edges;
 mod expected;
+#[path = "../oracle/filled.rs"]
+mod filled;
 #[path = "../oracle/generate.rs"]
 mod generate;
 #[path = "../oracle/invent.rs"]

@@ -135,7 +135,7 @@ fn sample_sheet() -> Vec<u8> {
     [two, checked, put(&num(2)), sheet::JOIN.into()].concat()
 }
 
-/// Cut and changed sheets, then steps, places and bytes at their limits.
+/// Cut and changed sheets, flags in range and out of it, then steps, places and bytes at their limits.
 fn sheets(out: &mut Lines) -> Result<()> {
     let mut sheet = |bytes: &[u8]| out.line("sheet", format!(" {}", hex_word(bytes)));
     let all = sample_sheet();
@@ -144,6 +144,11 @@ fn sheets(out: &mut Lines) -> Result<()> {
         for byte in BYTES {
             sheet(&[&all[..at], &[byte], all.get(at + 1..).unwrap_or(&[])].concat())?;
         }
+    }
+    let (below, top) = (num([2, 3]), num(open(vec![Dim::Dyn], vec![])));
+    for flag in BYTES {
+        sheet(&pervading(flag, &top, &below))?;
+        sheet(&pervading(flag, &below, &top))?;
     }
     for rows in [62, 63, 64] {
         let steps = [put(&num(3)), sheet::ROW.repeat(rows)].concat();
@@ -203,7 +208,13 @@ fn shape_pair(out: &mut Lines, a: &Type, b: &Type) -> Result<()> {
         out.line(request, &both)?;
     }
     (0..4).try_for_each(|flag| out.line("pervade", format!(" {flag}{both}")))?;
+    (0..4).try_for_each(|flag| out.line("sheet", format!(" {}", hex(&pervading(flag, a, b)))))?;
     SIDES.iter().try_for_each(|side| out.line("check_shape", format!(" {side}{both}")))
+}
+
+/// The sheet that pervades these two, the first on top.
+fn pervading(flag: u8, a: &Type, b: &Type) -> Vec<u8> {
+    [put(b), put(a), [&sheet::PERVADE[..], &[flag]].concat()].concat()
 }
 
 /// All lists of at most two of the sizes 0, 1, 2 and ?.
@@ -215,7 +226,7 @@ fn small_lists() -> Vec<Vec<Dim>> {
     lists
 }
 
-fn small_shapes() -> Vec<DynShape> {
+pub fn small_shapes() -> Vec<DynShape> {
     let mut shapes = Vec::new();
     for dims in small_lists() {
         shapes.push(dims.clone().into());

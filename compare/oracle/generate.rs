@@ -6,7 +6,7 @@ use crate::bytes::type_bytes;
 use crate::invent::{self, Random};
 use crate::limits::{LENT, LINE, PLACES};
 use crate::requests::{Call, REQUESTS, hex, size};
-use crate::uiua::Type;
+use crate::uiua::{Scalar, Type};
 use crate::{edges, sheet, specs};
 
 pub const SIDES: [&str; 3] = ["none", "left", "right"];
@@ -141,8 +141,14 @@ fn sheet_call(r: &mut Random) -> String {
     format!(" {scratch} {} {}", around(r, left), hex_word(&bytes))
 }
 
-/// Steps, most of which suit what the steps before have left on the stack.
+/// A sheet of any steps, or of puts and pervadings alone; sometimes damaged.
 pub fn sheet_bytes(r: &mut Random) -> Vec<u8> {
+    let bytes = if r.one_in(30) { pervaded(r) } else { mixed(r) };
+    if r.one_in(12) { invent::damaged(r, bytes) } else { bytes }
+}
+
+/// Steps, most of which suit what the steps before have left on the stack.
+fn mixed(r: &mut Random) -> Vec<u8> {
     let steps = if r.one_in(60) { r.pick(&[63, 64, 65]) } else { r.below(14) };
     let puts = r.pick(&[0, 0, 0, 0, 0, 7]);
     let mut bytes: Vec<u8> = (0..puts).flat_map(|_| put(&invent::ty(r))).collect();
@@ -153,14 +159,27 @@ pub fn sheet_bytes(r: &mut Random) -> Vec<u8> {
             Err(_) => bytes.extend(put(&invent::ty(r))),
         }
     }
-    if r.one_in(12) { invent::damaged(r, bytes) } else { bytes }
+    bytes
+}
+
+/// Few steps or as many as a sheet may have: puts that meet the first, and pervadings, most filled.
+fn pervaded(r: &mut Random) -> Vec<u8> {
+    let steps = if r.one_in(2) { r.below(14) } else { r.pick(&[63, 64, 64, 65]) };
+    let first = Scalar::Num.shaped(invent::shape(r));
+    let (mut bytes, mut height) = (put(&first), 1);
+    for _ in 1..steps {
+        let lays = height == 1 || height < PLACES && r.one_in(2);
+        height = if lays { height + 1 } else { height - 1 };
+        bytes.extend(if lays { put(&invent::met(r, &first)) } else { pervade(r) });
+    }
+    bytes
 }
 
 fn step(r: &mut Random, stack: &[Type]) -> Vec<u8> {
     let Some(top) = stack.last() else {
         return if r.one_in(30) { any_step(r) } else { put(&invent::ty(r)) };
     };
-    match r.below(32) {
+    match r.below(36) {
         0 => any_step(r),
         1..3 => {
             let (spec, ty) = specs::spec_and_type(r);
@@ -170,8 +189,9 @@ fn step(r: &mut Random, stack: &[Type]) -> Vec<u8> {
         8..11 => validate(&specs::loosened(r, top)),
         11 => validate(&invent::related(r, top)),
         12..22 if stack.len() > 1 => on_two(r),
-        22..30 if stack.len() == PLACES => on_two(r),
+        22..34 if stack.len() == PLACES => on_two(r),
         22..26 => put(&invent::related(r, top)),
+        30..36 if stack.len() < PLACES => [put(&invent::met(r, top)), pervade(r)].concat(),
         _ => put(&invent::resized(r, top)),
     }
 }
@@ -185,8 +205,12 @@ pub fn validate(spec: &Type) -> Vec<u8> {
 }
 
 fn on_two(r: &mut Random) -> Vec<u8> {
-    let flag = r.pick(&[0, 0, 1, 2, 3]);
-    if r.one_in(3) { sheet::JOIN.into() } else { [&sheet::PERVADE[..], &[flag]].concat() }
+    if r.one_in(3) { sheet::JOIN.into() } else { pervade(r) }
+}
+
+fn pervade(r: &mut Random) -> Vec<u8> {
+    let flag = r.pick(&[0, 0, 1, 1, 2, 2, 3]);
+    [&sheet::PERVADE[..], &[flag]].concat()
 }
 
 /// A step that the stack or its own bytes may not allow.

@@ -179,6 +179,22 @@ pub fn resized(r: &mut Random, ty: &Type) -> Type {
     copy
 }
 
+/// A copy to be pervaded with the type: what was static may be unknown and the other way round, the
+/// list may end sooner or go on, and the shape be open or closed, whatever the type's is.
+pub fn met(r: &mut Random, ty: &Type) -> Type {
+    let dims = &ty.shape.dims;
+    let count = if r.one_in(2) { dims.len() } else { r.below(dims.len() + 1) };
+    let other = |dim: &Dim| match dim {
+        Dim::Dyn => size(r),
+        dim => r.pick(&[*dim, *dim, Dim::Dyn, Dim::Dyn, Dim::Static(1)]),
+    };
+    let mut dims: Vec<Dim> = dims[..count].iter().map(other).collect();
+    if r.one_in(3) && dims.len() < SIZES {
+        dims.push(size(r));
+    }
+    Type { scalar: ty.scalar.clone(), shape: DynShape { dims, suffix: closing(r) } }
+}
+
 /// A copy with a few changes of any kind.
 pub fn related(r: &mut Random, ty: &Type) -> Type {
     let mut copy = ty.clone();

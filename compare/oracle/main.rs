@@ -2,9 +2,12 @@
 //!
 //!     oracle                                      answers the requests on its standard input
 //!     oracle generate SEED COUNT [MODE [WORD..]]  writes requests
+//!     oracle beside                               holds a sheet's pervading beside the Rust's
 
+mod beside;
 mod bytes;
 mod edges;
+mod filled;
 mod generate;
 mod invent;
 mod limits;
@@ -27,7 +30,8 @@ fn main() -> std::io::Result<()> {
             let words = rest.get(1..).unwrap_or(&[]);
             generate::generate(number(seed), number(count), mode, words)
         }
-        _ => fail("oracle, or oracle generate SEED COUNT [MODE [WORD..]]"),
+        [word] if word == "beside" => std::process::exit(!beside::all() as i32),
+        _ => fail("oracle, oracle generate SEED COUNT [MODE [WORD..]], or oracle beside"),
     }
 }
 

@@ -2,8 +2,8 @@
 
 use crate::bytes::{No, Reader, no, type_bytes};
 use crate::limits::{BUFFER, INPUT, PLACES, STEPS};
-use crate::rules;
 use crate::uiua::Type;
+use crate::{filled, rules};
 
 pub const PUT: [u8; 2] = *b"PU";
 pub const ROW: [u8; 2] = *b"RW";
@@ -108,7 +108,7 @@ fn flag(reader: &mut Reader, place: usize) -> Result<u64, No> {
 }
 
 fn pervaded(flag: u64, top: Type, below: Type) -> Result<Type, No> {
-    let shape = rules::pervade(flag, top.shape, below.shape)?;
+    let shape = filled::pervade(flag, top.shape, below.shape)?;
     let scalar = top.scalar.union(below.scalar);
     Ok(Type { scalar, shape })
 }

@@ -1,0 +1,84 @@
+//! Holds a sheet's pervading (filled.rs) beside the Rust's function. Unfilled, they must be equal.
+//! Filled, they must refuse alike and be equal but at the indices of which 2026-01 speaks: there the
+//! sheet has ?.
+
+use crate::edges::small_shapes;
+use crate::invent::{self, Random};
+use crate::uiua::{Dim, DynShape};
+use crate::{filled, rules};
+
+/// Pairs of longer shapes, drawn at random.
+const DRAWN: usize = 500_000;
+/// Differences printed.
+const SHOWN: usize = 10;
+
+/// All pairs of small shapes, then drawn ones, each with every flag: whether all are as they must be.
+pub fn all() -> bool {
+    let mut tally = Tally::default();
+    let shapes = small_shapes();
+    for (a, b) in shapes.iter().flat_map(|a| shapes.iter().map(move |b| (a, b))) {
+        tally.pair(a, b);
+    }
+    let mut random = Random(1);
+    for _ in 0..DRAWN {
+        let (a, b) = invent::pair(&mut random);
+        tally.pair(&a.shape, &b.shape);
+    }
+    tally.summary();
+    tally.differing == 0
+}
+
+#[derive(Default)]
+struct Tally {
+    /// Pervadings that are the Rust's, and those in which 2026-01 makes a difference.
+    equal: usize,
+    changed: usize,
+    differing: usize,
+}
+
+impl Tally {
+    fn pair(&mut self, a: &DynShape, b: &DynShape) {
+        (0..4).for_each(|flag| self.one(flag, a, b));
+    }
+
+    fn one(&mut self, flag: u64, a: &DynShape, b: &DynShape) {
+        let rusts = rules::pervade(flag, a.clone(), b.clone());
+        let wanted = rusts.clone().map(|shape| spoken(flag, a, b, shape));
+        let sheets = filled::pervade(flag, a.clone(), b.clone());
+        if sheets != wanted {
+            self.differing += 1;
+            if self.differing <= SHOWN {
+                println!("pervade {flag} {a:?} {b:?}\n  wanted {wanted:?}\n  sheet  {sheets:?}");
+            }
+        } else if sheets == rusts {
+            self.equal += 1;
+        } else {
+            self.changed += 1;
+        }
+    }
+
+    fn summary(&self) {
+        let Tally { equal, changed, differing } = self;
+        let sum = equal + changed + differing;
+        println!("{sum} pervadings: {equal} the Rust's, {changed} by 2026-01, {differing} differ");
+    }
+}
+
+/// The Rust's answer with ? at the indices of which 2026-01 speaks.
+fn spoken(flag: u64, a: &DynShape, b: &DynShape, mut shape: DynShape) -> DynShape {
+    let top = if flag & 1 == 0 { Vec::new() } else { met_by_unknown(a, b) };
+    let below = if flag & 2 == 0 { Vec::new() } else { met_by_unknown(b, a) };
+    top.into_iter().chain(below).for_each(|index| shape.dims[index] = Dim::Dyn);
+    shape
+}
+
+/// The indices at which `own` has 0, 2, 3 and so on, and `other` has ? or, being open, nothing.
+fn met_by_unknown(own: &DynShape, other: &DynShape) -> Vec<usize> {
+    let unknown = |index: usize| match &other.dims[..] {
+        dims if index < dims.len() => dims[index] == Dim::Dyn,
+        _ => other.suffix.is_some(),
+    };
+    let sizes = own.dims.iter().enumerate();
+    let fixed = sizes.filter(|(_, size)| ![Dim::Dyn, Dim::Static(1)].contains(size));
+    fixed.map(|(index, _)| index).filter(|&index| unknown(index)).collect()
+}

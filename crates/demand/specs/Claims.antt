@@ -107,7 +107,7 @@ pub record Regrouped (c d : Check) (xs ys : List Step) : Type 0 where
 
 -- ---- the real run
 
--- the real pervading of the two on top, filled as the flag byte says that follows the mark, stops
+-- the real pervading of the two on top, filled as the flag byte after the mark says, stops
 abbrev pub TopsStop : Argument → List RealShape → Type 0
 TopsStop noArgument rs = ⊥
 TopsStop (aType spec) rs = ⊥

@@ -36,8 +36,8 @@ use Rattle.demand.specs.WorkedWith.{numOf, nums, oneSize, anySize, num-w
 abbrev twelve : Ty
 twelve = nums (static 12 ∷ [])
 
-abbrev unknowns : Ty
-unknowns = nums (unknown ∷ [])
+abbrev unknownNums : Ty
+unknownNums = nums (unknown ∷ [])
 
 abbrev anything : Ty
 anything = numOf anyShape
@@ -45,9 +45,9 @@ anything = numOf anyShape
 -- put [?] Num, put [12] Num, pervade 1; put [..] Num, put [12] Num, pervade 1; put [?] Num, put [12] Num, pervade 3
 abbrev pub filledSteps : List Step
 filledSteps =
-    put unknowns ∷ put twelve ∷ pervading true false
+    put unknownNums ∷ put twelve ∷ pervading true false
     ∷ put anything ∷ put twelve ∷ pervading true false
-    ∷ put unknowns ∷ put twelve ∷ pervading true true
+    ∷ put unknownNums ∷ put twelve ∷ pervading true true
     ∷ []
 
 abbrev pub filledBytes : List ℕ
@@ -64,7 +64,7 @@ filledBytes =
 
 -- the types left, bottom first: [?] Num, [?..] Num, [?] Num
 abbrev pub filledLeft : List Ty
-filledLeft = unknowns ∷ numOf (shape (unknown ∷ []) (some [])) ∷ unknowns ∷ []
+filledLeft = unknownNums ∷ numOf (shape (unknown ∷ []) (some [])) ∷ unknownNums ∷ []
 
 -- the real arrays: 12 marks each time, against 20, against 15 2, and against 9
 abbrev pub filledFeeds : Feeds filledSteps
@@ -79,8 +79,8 @@ filledReal = (20 ∷ []) ∷ (15 ∷ 2 ∷ []) ∷ (12 ∷ []) ∷ []
 twelve-within : Within twelve
 twelve-within = nums-within (static 12 ∷ []) (omega arith, (omega arith, tt))
 
-unknowns-within : Within unknowns
-unknowns-within = nums-within (unknown ∷ []) (omega arith, (tt, tt))
+unknownNums-within : Within unknownNums
+unknownNums-within = nums-within (unknown ∷ []) (omega arith, (tt, tt))
 
 anything-within : Within anything
 anything-within = num-within anyShape ((omega arith, tt), (omega arith, tt))
@@ -89,7 +89,7 @@ pub filled-sheet : SheetOf filledBytes filledSteps
 unfolding bytesOf code writeShape writeScalar writeTy writeSteps
 filled-sheet = record {
   bytes = refl;
-  within = (unknowns-within, (twelve-within, (tt, (anything-within, (twelve-within, (tt, (unknowns-within, (twelve-within, (tt, tt)))))))));
+  within = (unknownNums-within, (twelve-within, (tt, (anything-within, (twelve-within, (tt, (unknownNums-within, (twelve-within, (tt, tt)))))))));
   few = omega arith;
 }
 
@@ -110,7 +110,7 @@ filled-leaves =
     let enough = long-enough scratchBytes in
     let room = long-enough 45 in
     let within : Within (numOf (shape (unknown ∷ []) (some []))) = num-within (shape (unknown ∷ []) (some [])) ((omega arith, (tt, tt)), (omega arith, tt)) in
-    run-leaves filledCheck enough filledLeft filled-run (unknowns-within, (within, (unknowns-within, tt))) (omega (arith, filled-length))
+    run-leaves filledCheck enough filledLeft filled-run (unknownNums-within, (within, (unknownNums-within, tt))) (omega (arith, filled-length))
 
 -- ---- it keeps the conditions
 

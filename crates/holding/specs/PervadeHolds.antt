@@ -52,9 +52,9 @@ fit-unless : (t : Bool) (c : Option Dim) (x : Dim) (z : ℕ) → cond t (some un
 fit-unless true c x z e k = let w : unknown ≡ x = cc in rw (← w) tt
 fit-unless false c x z e k = k refl e
 
-neither : (t u : Bool) → t || u ≡ false → u ≡ false
-neither true u h = let w : _≡_ {A = ℕ} 0 1 = cc in absurd (omega arith)
-neither false u h = h
+or-false-second : (t u : Bool) → t || u ≡ false → u ≡ false
+or-false-second true u h = let w : _≡_ {A = ℕ} 0 1 = cc in absurd (omega arith)
+or-false-second false u h = h
 
 -- a size that the other shape leaves open or does not have, against a real one, where it does not grow
 fit-against : (f g : Bool) (e : Dim) (m n z : ℕ) → mayGrow g true (some e) none ≡ false → Fit e n → realDim f g m n ≡ some z → Fit (againstAbsent e) z
@@ -83,32 +83,32 @@ fit-alone (static b) n h = go (eqb b 1)
     go false = h
 
 -- what an index gives where the first shape, which is open, has no size
-right-gives : (f g b : Bool) (d x : Dim) (m n z : ℕ) → Fit d n → inSheetsAt f g true b none (some d) ≡ some x → realDim f g m n ≡ some z → Fit x z
+absent-gives : (f g b : Bool) (d x : Dim) (m n z : ℕ) → Fit d n → inSheetsAt f g true b none (some d) ≡ some x → realDim f g m n ≡ some z → Fit x z
 unfolding inSheetsAt
-right-gives f g b d x m n z k h y =
+absent-gives f g b d x m n z k h y =
     fit-unless (mayGrow f b none (some d) || mayGrow g true (some d) none) (some (againstAbsent d)) x z h λ s i.
     let w : againstAbsent d ≡ x = cc in
-    rw (← w) (fit-against f g d m n z (neither (mayGrow f b none (some d)) (mayGrow g true (some d) none) s) k y)
+    rw (← w) (fit-against f g d m n z (or-false-second (mayGrow f b none (some d)) (mayGrow g true (some d) none) s) k y)
 
 -- and where the real shape has none there either
-alone-gives : (f g a b : Bool) (d x : Dim) (n : ℕ) → Fit d n → inSheetsAt f g a b none (some d) ≡ some x → Fit x n
+absent-alone : (f g a b : Bool) (d x : Dim) (n : ℕ) → Fit d n → inSheetsAt f g a b none (some d) ≡ some x → Fit x n
 unfolding inSheetsAt
-alone-gives f g a b d x n k h =
+absent-alone f g a b d x n k h =
     fit-unless (mayGrow f b none (some d) || mayGrow g a (some d) none) (some (againstAbsent d)) x n h λ s i.
     let w : againstAbsent d ≡ x = cc in
     rw (← w) (fit-alone d n k)
 
 -- what an index gives where the first shape has ?
-fit-right : (f g a b : Bool) (e x : Dim) (m n z : ℕ) → Fit e n → inSheetsAt f g a b (some unknown) (some e) ≡ some x → realDim f g m n ≡ some z → Fit x z
+unknown-gives : (f g a b : Bool) (e x : Dim) (m n z : ℕ) → Fit e n → inSheetsAt f g a b (some unknown) (some e) ≡ some x → realDim f g m n ≡ some z → Fit x z
 unfolding inSheetsAt
-fit-right f g a b e x m n z k h y =
+unknown-gives f g a b e x m n z k h y =
     fit-unless (mayGrow f b (some unknown) (some e) || mayGrow g a (some e) (some unknown)) (together f g unknown e) x z h λ s i.
     let w : againstAbsent e ≡ x = let v = together-unknown f g e in cc in
-    rw (← w) (fit-against f g e m n z (neither (mayGrow f b (some unknown) (some e)) (mayGrow g a (some e) (some unknown)) s) k y)
+    rw (← w) (fit-against f g e m n z (or-false-second (mayGrow f b (some unknown) (some e)) (mayGrow g a (some e) (some unknown)) s) k y)
 
-fit-statics : (f g a b : Bool) (m n z : ℕ) (x : Dim) → inSheetsAt f g a b (some (static m)) (some (static n)) ≡ some x → realDim f g m n ≡ some z → Fit x z
+statics-give : (f g a b : Bool) (m n z : ℕ) (x : Dim) → inSheetsAt f g a b (some (static m)) (some (static n)) ≡ some x → realDim f g m n ≡ some z → Fit x z
 unfolding inSheetsAt
-fit-statics f g a b m n z x h y =
+statics-give f g a b m n z x h y =
     fit-unless (mayGrow f b (some (static m)) (some (static n)) || mayGrow g a (some (static n)) (some (static m))) (together f g (static m) (static n)) x z h λ s i.
     go f g (eqb m 1) (eqb n 1) (eqb m n) (ltb m n) (sym (together-statics f g m n) ∙ i) y
   where
@@ -122,11 +122,11 @@ fit-statics f g a b m n z x h y =
     go f true false false false false h y = let w : static m ≡ x = cc in rw (← w) (cc)
     go f false false false false false h y = let w : _≡_ {A = ℕ} 0 1 = cc in absurd (omega arith)
 
-fit-both : (f g a b : Bool) (d e x : Dim) (m n z : ℕ) → Fit d m → Fit e n → inSheetsAt f g a b (some d) (some e) ≡ some x → realDim f g m n ≡ some z → Fit x z
-fit-both f g a b unknown e x m n z h k i y = fit-right f g a b e x m n z k i y
-fit-both f g a b (static c) unknown x m n z h k i y =
-    fit-right g f b a (static c) x n m z h (inSheetsAt-comm g f b a (some unknown) (some (static c)) ∙ i) (realDim-comm g f n m ∙ y)
-fit-both f g a b (static c) (static d) x m n z h k i y = fit-statics f g a b c d z x i (rw (← h, ← k) at y)
+both-give : (f g a b : Bool) (d e x : Dim) (m n z : ℕ) → Fit d m → Fit e n → inSheetsAt f g a b (some d) (some e) ≡ some x → realDim f g m n ≡ some z → Fit x z
+both-give f g a b unknown e x m n z h k i y = unknown-gives f g a b e x m n z k i y
+both-give f g a b (static c) unknown x m n z h k i y =
+    unknown-gives g f b a (static c) x n m z h (inSheetsAt-comm g f b a (some unknown) (some (static c)) ∙ i) (realDim-comm g f n m ∙ y)
+both-give f g a b (static c) (static d) x m n z h k i y = statics-give f g a b c d z x i (rw (← h, ← k) at y)
 
 -- ---- all indices
 
@@ -146,11 +146,11 @@ begins-right f g a b (d ∷ p) x r [] z h k e y = absurd k
 begins-right f g a b (d ∷ p) x [] (n ∷ q) z h k e y =
     thenRest-sizes (inSheetsAt f g a b none (some d)) (walk (inSheetsAt f g a b) [] p) e λ x₀ x₁ e₀ e₁ v.
     let w : n ∷ q ≡ z = cc in
-    rw (← v, ← w) (alone-gives f g a b d x₀ n (k .0) e₀, begins-right f g a b p x₁ [] q q h (k .1) e₁ refl)
+    rw (← v, ← w) (absent-alone f g a b d x₀ n (k .0) e₀, begins-right f g a b p x₁ [] q q h (k .1) e₁ refl)
 begins-right f g true b (d ∷ p) x (m ∷ r) (n ∷ q) z h k e y =
     thenRest-sizes (inSheetsAt f g true b none (some d)) (walk (inSheetsAt f g true b) [] p) e λ x₀ x₁ e₀ e₁ v.
     consBoth-some (realDim f g m n) (realPervade f g r q) y λ z₀ z₁ y₀ y₁ w.
-    rw (← v, ← w) (right-gives f g b d x₀ m n z₀ (k .0) e₀ y₀, begins-right f g true b p x₁ r q z₁ tt (k .1) e₁ y₁)
+    rw (← v, ← w) (absent-gives f g b d x₀ m n z₀ (k .0) e₀ y₀, begins-right f g true b p x₁ r q z₁ tt (k .1) e₁ y₁)
 begins-right f g false b (d ∷ p) x (m ∷ r) (n ∷ q) z h k e y = absurd h
 
 begins-pervade : (f g a b : Bool) (o p x : List Dim) (r q z : RealShape)
@@ -165,7 +165,7 @@ begins-pervade f g a b (d ∷ o) (c ∷ p) x (m ∷ r) [] z h k e y = absurd k
 begins-pervade f g a b (d ∷ o) (c ∷ p) x (m ∷ r) (n ∷ q) z h k e y =
     thenRest-sizes (inSheetsAt f g a b (some d) (some c)) (walk (inSheetsAt f g a b) o p) e λ x₀ x₁ e₀ e₁ v.
     consBoth-some (realDim f g m n) (realPervade f g r q) y λ z₀ z₁ y₀ y₁ w.
-    rw (← v, ← w) (fit-both f g a b d c x₀ m n z₀ (h .0) (k .0) e₀ y₀, begins-pervade f g a b o p x₁ r q z₁ (h .1) (k .1) e₁ y₁)
+    rw (← v, ← w) (both-give f g a b d c x₀ m n z₀ (h .0) (k .0) e₀ y₀, begins-pervade f g a b o p x₁ r q z₁ (h .1) (k .1) e₁ y₁)
 
 -- ---- shapes
 

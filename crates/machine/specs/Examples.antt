@@ -30,7 +30,7 @@ use Rattle.machine.specs.Steps.{Step, put, row, pervading, join, validat
 use Rattle.machine.specs.Run.{pervadeTypes, step}
 use Rattle.machine.specs.Sheet.{opcodeFrom, argumentFrom, stepFrom, workFrom, sheetMore, skimMore, sheetFrom, skimFrom, sheetRun, skim}
 use Rattle.machine.specs.Call.{tally, called, writeTypes, zeroed, handOver, sheetCall}
-use Rattle.machine.specs.Real.{RealShape, fits, realPervade, JoinSide, theTop, theOneBelow, realStep, realRun}
+use Rattle.machine.specs.Real.{RealShape, fits, realPervade, theTop, theOneBelow, Feeds, realStep, realRun}
 use Rattle.machine.specs.Conditions.{Alike, PutOrPervade}
 
 pub data Example : Type 0 where
@@ -88,8 +88,8 @@ times zero x = []
 times (suc n) x = x ∷ times n x
 
 -- [?] Num
-abbrev unknowns : Ty
-unknowns = ty (shape (unknown ∷ []) none) (plain num)
+abbrev unknownNums : Ty
+unknownNums = ty (shape (unknown ∷ []) none) (plain num)
 
 -- ---- the examples
 
@@ -105,15 +105,15 @@ examples =
     ∷ theTypes (put (nums (3 ∷ [])) ∷ put (nums (4 ∷ [])) ∷ pervading false true ∷ []) (nums (4 ∷ []) ∷ [])
     ∷ theRefusal (writeSteps (put (nums []) ∷ put (nums (4 ∷ [])) ∷ put (nums (3 ∷ [])) ∷ pervading false true ∷ [])) unpervaded 43
     -- 12 on top, filled, meets ? below it and is ?; it stays 12 where the one below is filled.
-    ∷ theTypes (put unknowns ∷ put (nums (12 ∷ [])) ∷ pervading true false ∷ []) (unknowns ∷ [])
-    ∷ theTypes (put unknowns ∷ put (nums (12 ∷ [])) ∷ pervading false true ∷ []) (nums (12 ∷ []) ∷ [])
+    ∷ theTypes (put unknownNums ∷ put (nums (12 ∷ [])) ∷ pervading true false ∷ []) (unknownNums ∷ [])
+    ∷ theTypes (put unknownNums ∷ put (nums (12 ∷ [])) ∷ pervading false true ∷ []) (nums (12 ∷ []) ∷ [])
     -- The top is the first: of box Any and box All, the one that stands on top.
     ∷ theTypes (put (ty (shape [] none) (boxAll (shape [] none) (plain num))) ∷ put (ty (shape [] none) boxAny) ∷ pervading false false ∷ []) (ty (shape [] none) boxAny ∷ [])
     ∷ theTypes (put (ty (shape [] none) boxAny) ∷ put (ty (shape [] none) (boxAll (shape [] none) (plain num))) ∷ join ∷ []) (ty (shape [] none) (boxAll (shape [] none) (plain num)) ∷ [])
     -- Row, join, validate.
     ∷ theTypes (put (nums (2 ∷ 3 ∷ [])) ∷ row ∷ []) (nums (3 ∷ []) ∷ [])
     ∷ theTypes (put (nums (2 ∷ [])) ∷ put (nums (2 ∷ 3 ∷ [])) ∷ join ∷ []) (nums (2 ∷ []) ∷ [])
-    ∷ theTypes (put (nums (3 ∷ [])) ∷ validating unknowns ∷ []) (nums (3 ∷ []) ∷ [])
+    ∷ theTypes (put (nums (3 ∷ [])) ∷ validating unknownNums ∷ []) (nums (3 ∷ []) ∷ [])
     ∷ theRefusal (writeSteps (put (of char []) ∷ validating (nums []) ∷ [])) wrongScalar 9
     ∷ theRefusal (writeSteps (put (nums (3 ∷ [])) ∷ validating (nums (2 ∷ [])) ∷ [])) wrongShape 17
     -- A mark is judged once both its bytes are there; the place is the step's mark.
@@ -139,7 +139,7 @@ pub examples-shown : All Shown examples
 unfolding examples inside below byte judged number bytesOf code kindOf writeShape writeScalar writeTy readMark readDim readDims shapeFrom readName
     readFields defFrom boxFrom scalarFrom readTy cmpDim larger compatible joinDim isAny rank rowShape mergeDims mergeClosing mergeFrom joinDims
     joinLonger joinEnds joinClosing joinShapes codeOf supersetCodes supersetOf union againstAbsent together walk pervadeClosing inSheetsAt
-    pervadeInSheets    joinTypes whollyAny rowScalar rowBy agree equalDim equalDims mismatch shapeMismatch sidedShape checkShape keepsLimits checkScalar validate
+    pervadeInSheets joinTypes whollyAny rowScalar rowBy agree equalDim equalDims mismatch shapeMismatch sidedShape checkShape keepsLimits checkScalar validate
     writeSteps pervadeTypes step opcodeFrom argumentFrom stepFrom workFrom sheetMore skimMore sheetFrom skimFrom sheetRun skim writeTypes
 examples-shown = (refl, (refl, (refl, (refl, (refl, (refl, (refl, (refl, (refl, (refl, (refl, (refl, (refl, (refl, (refl, (refl, (refl, (refl, (refl, (refl, (refl, (refl, (refl, (refl, (refl, (refl, (refl, tt)))))))))))))))))))))))))))
 
@@ -185,17 +185,23 @@ module _ (scratch : List ℕ) (enough : scratchBytes ≤ length scratch) where
 pub data RealExample : Type 0 where
   -- a shape and a real shape, and whether it fits
   theFit : Shape → RealShape → Bool → RealExample
+  -- which of two real shapes are filled, the two, and their real pervading
   theReal : Bool → Bool → RealShape → RealShape → Option RealShape → RealExample
-  -- what is fed to put [?], put [3..], join, row, validate [5], and the real shapes left
-  theRun : RealShape → RealShape → JoinSide → Option (List RealShape) → RealExample
+  -- some steps, what they are fed, and the real shapes left, top first
+  theRun : (xs : List Step) → Feeds xs → Option (List RealShape) → RealExample
 
+-- put [?], put [3..], join, row, validate [5]
 abbrev fiveSteps : List Step
-fiveSteps = put unknowns ∷ put (ty (shape (static 3 ∷ []) (some [])) (plain num)) ∷ join ∷ row ∷ validating (nums (5 ∷ [])) ∷ []
+fiveSteps = put unknownNums ∷ put (ty (shape (static 3 ∷ []) (some [])) (plain num)) ∷ join ∷ row ∷ validating (nums (5 ∷ [])) ∷ []
+
+-- put [?], put [12], pervade with the top filled
+abbrev twelveFilled : List Step
+twelveFilled = put unknownNums ∷ put (nums (12 ∷ [])) ∷ pervading true false ∷ []
 
 abbrev pub RealShown : RealExample → Type 0
 RealShown (theFit s r b) = fits s r ≡ b
 RealShown (theReal f g r q z) = realPervade f g r q ≡ z
-RealShown (theRun r q side z) = realRun fiveSteps (r, (q, (side, (tt, (tt, tt))))) [] ≡ z
+RealShown (theRun xs f z) = realRun xs f [] ≡ z
 
 unfoldable pub realExamples : List RealExample
 realExamples =
@@ -209,6 +215,7 @@ realExamples =
     -- 1 against absent is 1, 1 yields also to 0, equals stay, else it stops.
     ∷ theReal false false (1 ∷ []) [] (some (1 ∷ []))
     ∷ theReal false false (0 ∷ 2 ∷ []) (1 ∷ 2 ∷ 7 ∷ []) (some (0 ∷ 2 ∷ 7 ∷ []))
+    ∷ theReal false false (1 ∷ 3 ∷ []) (3 ∷ 1 ∷ []) (some (3 ∷ 3 ∷ []))
     ∷ theReal false false (3 ∷ []) (4 ∷ []) none
     -- Filled, the smaller grows to the larger, and the larger never shrinks; 1 still yields to 0, and absent yields.
     ∷ theReal true false (3 ∷ []) (4 ∷ []) (some (4 ∷ []))
@@ -217,13 +224,16 @@ realExamples =
     ∷ theReal true true (0 ∷ 1 ∷ 0 ∷ []) (1 ∷ 0 ∷ 5 ∷ []) (some (0 ∷ 0 ∷ 5 ∷ []))
     ∷ theReal true true (1 ∷ []) (2 ∷ 3 ∷ []) (some (2 ∷ 3 ∷ []))
     -- A join keeps the top or the one below; a scalar's row is a scalar; a validation stops what does not fit.
-    ∷ theRun (4 ∷ []) (3 ∷ 5 ∷ []) theTop (some ((5 ∷ []) ∷ []))
-    ∷ theRun (4 ∷ []) (3 ∷ 5 ∷ []) theOneBelow none
+    ∷ theRun fiveSteps (4 ∷ [], (3 ∷ 5 ∷ [], (theTop, (tt, (tt, tt))))) (some ((5 ∷ []) ∷ []))
+    ∷ theRun fiveSteps (4 ∷ [], (3 ∷ 5 ∷ [], (theOneBelow, (tt, (tt, tt))))) none
+    -- A pervading hands its fills on: 12 marks on top grow to 20 below, and 9 below do not grow to 12.
+    ∷ theRun twelveFilled (20 ∷ [], (12 ∷ [], (tt, tt))) (some ((20 ∷ []) ∷ []))
+    ∷ theRun twelveFilled (9 ∷ [], (12 ∷ [], (tt, tt))) none
     ∷ []
 
 pub realExamples-shown : All RealShown realExamples
 unfolding realExamples fits realPervade realStep realRun
-realExamples-shown = (refl, (refl, (refl, (refl, (refl, (refl, (refl, (refl, (refl, (refl, (refl, (refl, (refl, (refl, (refl, (refl, tt))))))))))))))))
+realExamples-shown = (refl, (refl, (refl, (refl, (refl, (refl, (refl, (refl, (refl, (refl, (refl, (refl, (refl, (refl, (refl, (refl, (refl, (refl, (refl, tt)))))))))))))))))))
 
 -- ---- the conditions of demand 3
 

@@ -45,12 +45,11 @@ Holds t r = fits (shapeOf t) r ≡ true
 
 -- ---- real pervading
 
--- The smaller grows to the larger if its side is filled.
+-- "The smaller grows to the larger if its side is filled", and else it stops (document 02, 2026-01).
 abbrev pub grown : Bool → ℕ → Option ℕ
 grown fill larger = cond fill (some larger) none
 
--- Two sizes: 1 yields, to 0 too; equals stay; where it would stop, the smaller grows, and else it stops (document 02, 2026-01). The
--- first's fill is f, the second's g.
+-- Two sizes: 1 yields, to 0 too; equals stay; where it would stop, the smaller may grow. The first's fill is f, the second's g.
 abbrev pub realDim : Bool → Bool → ℕ → ℕ → Option ℕ
 realDim f g m n = cond (eqb m 1) (some n) (cond (eqb n 1) (some m) (cond (eqb m n) (some m) (cond (ltb m n) (grown f n) (grown g m))))
 

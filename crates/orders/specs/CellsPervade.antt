@@ -1,5 +1,5 @@
--- Unfilled pervading joins what the two shapes say of each index, and is refused only where two sizes differ; real pervading does
--- the same with the sizes alone.
+-- Unfilled pervading joins what the two shapes say of each index, and is refused only where two sizes differ; unfilled real
+-- pervading does the same with the sizes alone.
 use Prim.Native.Nat.{ℕ, zero, suc}
 use native.Mathlib.Omega.{arith}
 use mathlib.Core.Bool.{Bool, true, false, cond}

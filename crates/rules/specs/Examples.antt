@@ -100,14 +100,14 @@ pervade-filled = (refl, refl, refl)
 -- ---- pervading in sheets (document 02, 2026-01)
 
 -- [?]
-abbrev unknowns : Shape
-unknowns = closed (unknown ∷ [])
+abbrev unknownSize : Shape
+unknownSize = closed (unknown ∷ [])
 
 -- [12], filled, with [?], [..] and [..3] is ?, whichever stands first; with both filled too.
 pub twelve-unknown :
-    (pervadeInSheets true false (statics (12 ∷ [])) unknowns ≡ some unknowns)
-    × (pervadeInSheets false true unknowns (statics (12 ∷ [])) ≡ some unknowns)
-    × (pervadeInSheets true true (statics (12 ∷ [])) unknowns ≡ some unknowns)
+    (pervadeInSheets true false (statics (12 ∷ [])) unknownSize ≡ some unknownSize)
+    × (pervadeInSheets false true unknownSize (statics (12 ∷ [])) ≡ some unknownSize)
+    × (pervadeInSheets true true (statics (12 ∷ [])) unknownSize ≡ some unknownSize)
     × (pervadeInSheets true false (statics (12 ∷ [])) anyShape ≡ some (shape (unknown ∷ []) (some [])))
     × (pervadeInSheets true false (statics (12 ∷ [])) (ending (static 3 ∷ [])) ≡ some (shape (unknown ∷ []) (some (static 3 ∷ []))))
 unfolding together walk pervadeClosing inSheetsAt pervadeInSheets
@@ -117,21 +117,28 @@ twelve-unknown = (refl, refl, refl, refl, refl)
 pub twelve-stays :
     (pervadeInSheets true false (statics (12 ∷ [])) (starting (1 ∷ [])) ≡ some (starting (12 ∷ [])))
     × (pervadeInSheets true false (statics (12 ∷ [])) scalarShape ≡ some (statics (12 ∷ [])))
-    × (pervadeInSheets false true (statics (12 ∷ [])) unknowns ≡ some (statics (12 ∷ [])))
+    × (pervadeInSheets false true (statics (12 ∷ [])) unknownSize ≡ some (statics (12 ∷ [])))
     × (pervadeInSheets false true (statics (12 ∷ [])) anyShape ≡ some (starting (12 ∷ [])))
 unfolding againstAbsent together walk pervadeClosing inSheetsAt pervadeInSheets
 twelve-stays = (refl, refl, refl, refl)
 
 -- 0 is a static size other than 1: [0] filled with [?] is ?, and with [1] stays 0, since 1 yields.
 pub none-filled :
-    (pervadeInSheets true false (statics (0 ∷ [])) unknowns ≡ some unknowns)
+    (pervadeInSheets true false (statics (0 ∷ [])) unknownSize ≡ some unknownSize)
     × (pervadeInSheets true true (statics (0 ∷ [])) (statics (1 ∷ [])) ≡ some (statics (0 ∷ [])))
 unfolding together walk pervadeClosing inSheetsAt pervadeInSheets
 none-filled = (refl, refl)
 
+-- 1 yields to ? as ever; and an index that gives ? does not save a later one that refuses.
+pub one-filled :
+    (pervadeInSheets true false (statics (1 ∷ [])) unknownSize ≡ some unknownSize)
+    × (pervadeInSheets true false (statics (12 ∷ 4 ∷ [])) (closed (unknown ∷ static 3 ∷ [])) ≡ none)
+unfolding cmpDim together walk pervadeClosing inSheetsAt pervadeInSheets
+one-filled = (refl, refl)
+
 -- The separate call says 12 with [?] and with [..].
 pub twelve-apart :
-    (pervade true false (statics (12 ∷ [])) unknowns ≡ some (statics (12 ∷ [])))
+    (pervade true false (statics (12 ∷ [])) unknownSize ≡ some (statics (12 ∷ [])))
     × (pervade true false (statics (12 ∷ [])) anyShape ≡ some (starting (12 ∷ [])))
 unfolding againstAbsent together walk pervadeClosing pervade
 twelve-apart = (refl, refl)

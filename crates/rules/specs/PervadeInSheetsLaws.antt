@@ -11,9 +11,9 @@ use lib.Dec.{eqb}
 use Rattle.model.specs.Types.{Dim, static, unknown, Shape, shape}
 use Rattle.model.specs.Within.{Each, DimWithin, ShapeWithin}
 use Rattle.rules.specs.Shapes.{isOpen}
-use Rattle.rules.specs.Pervade.{pervadeAt, clash, walk, pervadeDims, pervadeClosing, pervade}
+use Rattle.rules.specs.Pervade.{pervadeAt, clash, walk, pervadeDims, pervade}
 use Rattle.rules.specs.PervadeInSheets.{mayGrow, inSheetsAt, pervadeInSheets}
-use Rattle.rules.specs.PervadeLaws.{together-unknown, together-comm, walk-stops, KeepsWithin, pervadeAt-within, walk-within, pervadeAt-comm, walk-comm, pervadeClosing-comm}
+use Rattle.rules.specs.PervadeLaws.{together-unknown, together-comm, walk-clash-alike, KeepsWithin, pervadeAt-within, walk-within, pervadeAt-comm, walk-comm, pervadeClosing-comm}
 
 -- ---- no side filled
 
@@ -40,7 +40,7 @@ grows-gives true g b (some (static m)) (some (static n)) h e = go (eqb m 1) h
     go false h = let z : _≡_ {A = ℕ} 0 1 = cc in absurd (omega arith)
 
 -- An index refuses in a sheet exactly where it refuses in the separate call.
-index-refuses : (f g a b : Bool) (x y : Option Dim) → (inSheetsAt f g a b x y ≡ none → pervadeAt f g x y ≡ none) × (pervadeAt f g x y ≡ none → inSheetsAt f g a b x y ≡ none)
+index-refuses : (f g a b : Bool) (x y : Option Dim) → (inSheetsAt f g a b x y ≡ none) ↔ (pervadeAt f g x y ≡ none)
 unfolding inSheetsAt
 index-refuses f g a b x y = (there (mayGrow f b x y || mayGrow g a y x), here (mayGrow f b x y) (mayGrow g a y x) refl refl)
   where
@@ -53,10 +53,10 @@ index-refuses f g a b x y = (there (mayGrow f b x y || mayGrow g a y x), here (m
     here false false h k e = e
 
 -- So both stop at the same index.
-pub inSheets-stops : (f g a b : Bool) (o p : List Dim) (i : ℕ) → (walk (inSheetsAt f g a b) o p ≡ clash i) ↔ (pervadeDims f g o p ≡ clash i)
-inSheets-stops f g a b o p i =
-    (walk-stops (inSheetsAt f g a b) (pervadeAt f g) (index-refuses f g a b) o p i,
-    walk-stops (pervadeAt f g) (inSheetsAt f g a b) (λ x y. let (h, k) = index-refuses f g a b x y in (k, h)) o p i)
+pub inSheets-clash : (f g a b : Bool) (o p : List Dim) (i : ℕ) → (walk (inSheetsAt f g a b) o p ≡ clash i) ↔ (pervadeDims f g o p ≡ clash i)
+inSheets-clash f g a b o p i =
+    (walk-clash-alike (inSheetsAt f g a b) (pervadeAt f g) (index-refuses f g a b) o p i,
+    walk-clash-alike (pervadeAt f g) (inSheetsAt f g a b) (λ x y. let (h, k) = index-refuses f g a b x y in (k, h)) o p i)
 
 -- ---- limits
 

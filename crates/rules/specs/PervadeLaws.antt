@@ -4,6 +4,7 @@ use Prim.Native.Nat.{ℕ, suc, _<_, max, min}
 use native.Mathlib.Omega.{arith}
 use mathlib.Core.Bool.{Bool, true, false, cond}
 use mathlib.Core.List.{List, [], _∷_}
+use mathlib.Core.Logic.{_↔_}
 use mathlib.Core.Option.{Option, none, some}
 use mathlib.Core.Path.{_≡_, refl, sym, _∙_, ap}
 use lib.ListN.{length}
@@ -60,12 +61,12 @@ thenRest-clash none r e k l = k refl (cc)
 thenRest-clash (some d) (sizes y) e k l = let z : _≡_ {A = ℕ} 0 1 = cc in absurd (omega arith)
 thenRest-clash (some d) (clash j) e k l = l j refl (cc)
 
-thenRest-stops : (c c′ : Option Dim) → (c ≡ none → c′ ≡ none) × (c′ ≡ none → c ≡ none) → (r r′ : Pervaded) → ((j : ℕ) → r ≡ clash j → r′ ≡ clash j)
+thenRest-alike : (c c′ : Option Dim) → (c ≡ none) ↔ (c′ ≡ none) → (r r′ : Pervaded) → ((j : ℕ) → r ≡ clash j → r′ ≡ clash j)
     → (i : ℕ) → thenRest c r ≡ clash i → thenRest c′ r′ ≡ clash i
-thenRest-stops none c′ h r r′ k i e = rw (h .0 refl) e
-thenRest-stops (some d) none h r r′ k i e = let z : _≡_ {A = Option Dim} (some d) none = h .1 refl in cc
-thenRest-stops (some d) (some d′) h (sizes y) r′ k i e = let z : _≡_ {A = ℕ} 0 1 = cc in absurd (omega arith)
-thenRest-stops (some d) (some d′) h (clash j) r′ k i e = rw (k j refl) e
+thenRest-alike none c′ h r r′ k i e = rw (h .0 refl) e
+thenRest-alike (some d) none h r r′ k i e = let z : _≡_ {A = Option Dim} (some d) none = h .1 refl in cc
+thenRest-alike (some d) (some d′) h (sizes y) r′ k i e = let z : _≡_ {A = ℕ} 0 1 = cc in absurd (omega arith)
+thenRest-alike (some d) (some d′) h (clash j) r′ k i e = rw (k j refl) e
 
 module _ (rule : Option Dim → Option Dim → Option Dim) where
   pub walk-length : (o p x : List Dim) → walk rule o p ≡ sizes x → length x ≡ max (length o) (length p)
@@ -96,13 +97,19 @@ module _ (rule : Option Dim → Option Dim → Option Dim) where
       let z = walk-clash u v o p j x in omega arith
 
   -- Another that refuses wherever it refuses, and nowhere else, stops at the same index.
-  pub walk-stops : (other : Option Dim → Option Dim → Option Dim) → ((x y : Option Dim) → (rule x y ≡ none → other x y ≡ none) × (other x y ≡ none → rule x y ≡ none))
+  pub walk-clash-alike : (other : Option Dim → Option Dim → Option Dim) → ((x y : Option Dim) → (rule x y ≡ none) ↔ (other x y ≡ none))
       → (o p : List Dim) (i : ℕ) → walk rule o p ≡ clash i → walk other o p ≡ clash i
   unfolding walk
-  walk-stops other h [] [] i e = let z : _≡_ {A = ℕ} 0 1 = cc in absurd (omega arith)
-  walk-stops other h [] (b ∷ p) i e = thenRest-stops (rule none (some b)) (other none (some b)) (h none (some b)) (walk rule [] p) (walk other [] p) (walk-stops other h [] p) i e
-  walk-stops other h (a ∷ o) [] i e = thenRest-stops (rule (some a) none) (other (some a) none) (h (some a) none) (walk rule o []) (walk other o []) (walk-stops other h o []) i e
-  walk-stops other h (a ∷ o) (b ∷ p) i e = thenRest-stops (rule (some a) (some b)) (other (some a) (some b)) (h (some a) (some b)) (walk rule o p) (walk other o p) (walk-stops other h o p) i e
+  walk-clash-alike other h [] [] i e = let z : _≡_ {A = ℕ} 0 1 = cc in absurd (omega arith)
+  walk-clash-alike other h [] (b ∷ p) i e = thenRest-alike (rule none (some b)) (other none (some b)) (h none (some b)) (walk rule [] p) (walk other [] p) (walk-clash-alike other h [] p) i e
+  walk-clash-alike other h (a ∷ o) [] i e = thenRest-alike (rule (some a) none) (other (some a) none) (h (some a) none) (walk rule o []) (walk other o []) (walk-clash-alike other h o []) i e
+  walk-clash-alike other h (a ∷ o) (b ∷ p) i e = thenRest-alike (rule (some a) (some b)) (other (some a) (some b)) (h (some a) (some b)) (walk rule o p) (walk other o p) (walk-clash-alike other h o p) i e
+
+pub pervade-clash : (f g : Bool) (o p : List Dim) (i : ℕ) → pervadeDims f g o p ≡ clash i → i < min (length o) (length p)
+pervade-clash f g = walk-clash (pervadeAt f g) gives gives
+  where
+    gives : (d : Dim) → some (againstAbsent d) ≡ none → ⊥
+    gives d e = let z : _≡_ {A = ℕ} 0 1 = cc in absurd (omega arith)
 
 -- ---- limits
 

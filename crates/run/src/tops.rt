@@ -112,7 +112,7 @@ pub fn pervade_top(
     )
 }
 
-// The pervading of bytes that are known to be types: that of their shapes with the union of their scalars.
+// The pervading of bytes that are known to be types: that of sheets, of their shapes, with the union of their scalars.
 fn pervade_types(a: &[u8], b: &[u8], a_fill: bool, b_fill: bool, out: &mut [u8]) -> Written
     requires { ⌜ both nothings (lone (now a)) (lone (now b)) ≡ accepted 0 ⌝ }
     ensures { λ r. ⌜ delivered r (now (out .exit)) ≡ deliver

@@ -18,7 +18,7 @@ use Rattle.record.specs.declared.Dims.{Dims}
 use Rattle.record.specs.declared.DynShape.{DynShape}
 use Rattle.rules.specs.Shapes.{isOpen}
 use Rattle.rules.specs.Pervade.{againstAbsent, byOrder, together, pervadeAt, Pervaded, sizes, clash, thenRest, walk, pervadeClosing, closedBy}
-use Rattle.rules.specs.PervadeInSheets.{isOther, leftOpen}
+use Rattle.rules.specs.PervadeInSheets.{otherThanOne, unsettled}
 use Rattle.rules.specs.PervadeSteps.{walk-step, walk-end, after, after-start, after-more, after-stop, after-end}
 use Rattle.rules.specs.Sizes.{Order, cmpDim}
 use Rattle.record.proofs.ByValue.{one-more}
@@ -76,17 +76,17 @@ module _ (f g : Bool) {x y r : Option Dim} where
 -- ---- a size that may grow
 
 -- by its number
-pub other-number : (n : ℕ) → isOther (some (dimOf n)) ≡ not (eqb n 1) && not (eqb n ones)
+pub other-number : (n : ℕ) → otherThanOne (some (dimOf n)) ≡ not (eqb n 1) && not (eqb n ones)
 other-number n = go (eqb n ones) refl
   where
-    go : (t : Bool) → eqb n ones ≡ t → isOther (some (cond t unknown (static n))) ≡ not (eqb n 1) && not t
+    go : (t : Bool) → eqb n ones ≡ t → otherThanOne (some (cond t unknown (static n))) ≡ not (eqb n 1) && not t
     go true e = rw (eqb-true n ones e)
     go false e = sym (and-true (not (eqb n 1)))
 
-pub unknown-number : (b : Bool) (n : ℕ) → leftOpen b (some (dimOf n)) ≡ eqb n ones
+pub unknown-number : (b : Bool) (n : ℕ) → unsettled b (some (dimOf n)) ≡ eqb n ones
 unknown-number b n = go (eqb n ones)
   where
-    go : (t : Bool) → leftOpen b (some (cond t unknown (static n))) ≡ t
+    go : (t : Bool) → unsettled b (some (cond t unknown (static n))) ≡ t
     go true = refl
     go false = refl
 

@@ -23,7 +23,7 @@ ghost use Rattle.model.specs.Types.{shape};
 ghost use Rattle.format.specs.Records.{dimOf};
 ghost use Rattle.record.specs.Answers.{dimsOf, closingFor, shapeFor};
 ghost use Rattle.rules.specs.Pervade.{filled, againstAbsent, together, pervadeAt, walk, pervadeClosing, closedBy, pervade};
-ghost use Rattle.rules.specs.PervadeInSheets.{isOther, leftOpen, mayGrow, pervadeInSheets};
+ghost use Rattle.rules.specs.PervadeInSheets.{otherThanOne, unsettled, mayGrow, pervadeInSheets};
 ghost use Rattle.shape.specs.Answers.{spotOf, meetingOf, ruleFor, dimsPervadedOf, shapePervadedOf};
 
 // The pervading of the separate call, which is the Rust's: no size grows.
@@ -135,7 +135,7 @@ fn may_grow(grows: bool, open: bool, x: Spot, y: Spot) -> bool
 
 // A static size other than 1.
 fn is_other(x: Spot) -> bool
-    ensures { λ r. ⌜ «r» ≡ isOther (spotOf x) ⌝ }
+    ensures { λ r. ⌜ «r» ≡ otherThanOne (spotOf x) ⌝ }
 {
     let Spot::Size(size) = x else {
         return false;
@@ -145,7 +145,7 @@ fn is_other(x: Spot) -> bool
 
 // The unknown, or nothing in an open shape.
 fn left_open(open: bool, x: Spot) -> bool
-    ensures { λ r. ⌜ «r» ≡ leftOpen «open» (spotOf x) ⌝ }
+    ensures { λ r. ⌜ «r» ≡ unsettled «open» (spotOf x) ⌝ }
 {
     let Spot::Size(size) = x else {
         return open;

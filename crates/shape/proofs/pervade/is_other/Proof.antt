@@ -1,6 +1,6 @@
 use mathlib.Core.Path.{_∙_, sym, ap}
 use borrow.Author.Tests.{ne-eqb}
-use Rattle.rules.specs.PervadeInSheets.{isOther}
+use Rattle.rules.specs.PervadeInSheets.{otherThanOne}
 use Rattle.shape.specs.Answers.{spotOf}
 use Rattle.shape.proofs.PervadeLaws.{other-number}
 use borrow.Author.Needs.{needs}

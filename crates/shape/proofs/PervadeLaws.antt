@@ -2,7 +2,7 @@
 use Prim.Native.Nat.{ℕ, suc, _+_, _≤_, _<_, max}
 use native.Mathlib.Numerals.{add-one}
 use native.Mathlib.Omega.{arith}
-use mathlib.Core.Bool.{Bool, true, false, not, _&&_, cond, and-true}
+use mathlib.Core.Bool.{Bool, true, false, not, _&&_, _||_, cond, and-true}
 use mathlib.Core.List.{List, map, [], _∷_}
 use mathlib.Core.Option.{Option, none, some, Option·map}
 use mathlib.Core.Path.{_≡_, sym, _∙_, ap, refl}
@@ -18,7 +18,7 @@ use Rattle.record.specs.declared.Dims.{Dims}
 use Rattle.record.specs.declared.DynShape.{DynShape}
 use Rattle.rules.specs.Shapes.{isOpen}
 use Rattle.rules.specs.Pervade.{againstAbsent, byOrder, together, pervadeAt, Pervaded, sizes, clash, thenRest, walk, pervadeClosing, closedBy}
-use Rattle.rules.specs.PervadeInSheets.{otherThanOne, unsettled}
+use Rattle.rules.specs.PervadeInSheets.{otherThanOne, unsettled, mayGrow, inSheetsAt}
 use Rattle.rules.specs.PervadeSteps.{walk-step, walk-end, after, after-start, after-more, after-stop, after-end}
 use Rattle.rules.specs.Sizes.{Order, cmpDim}
 use Rattle.record.proofs.ByValue.{one-more}
@@ -89,6 +89,29 @@ unknown-number b n = go (eqb n ones)
     go : (t : Bool) → unsettled b (some (cond t unknown (static n))) ≡ t
     go true = refl
     go false = refl
+
+-- ---- an index in sheets, by which of its sizes may grow
+
+module _ (f g a b : Bool) (x y : Option Dim) {t : Bool} (first : t ≡ mayGrow f b x y) where
+  pub first-grows : t ≡ true → some unknown ≡ inSheetsAt f g a b x y
+  unfolding inSheetsAt
+  first-grows h = rw (← first, h)
+
+  module _ {u : Bool} (second : u ≡ mayGrow g a y x) (h : t ≡ false) where
+    pub second-grows : u ≡ true → some unknown ≡ inSheetsAt f g a b x y
+    unfolding inSheetsAt
+    second-grows k = rw (← first, ← second, h, k)
+
+    pub neither-grows : {c : Option Dim} → u ≡ false → c ≡ pervadeAt f g x y → c ≡ inSheetsAt f g a b x y
+    unfolding inSheetsAt
+    neither-grows k e = e ∙ rw (← first, ← second, h, k)
+
+-- Where no side is filled the two rules are one.
+pub walk-filled : (f g a b : Bool) (o p : List Dim) {t : Bool} → t ≡ f || g → walk (λ x y. cond t (inSheetsAt f g a b x y) (pervadeAt f g x y)) o p ≡ walk (inSheetsAt f g a b) o p
+unfolding inSheetsAt
+walk-filled true g a b o p e = rw e
+walk-filled false true a b o p e = rw e
+walk-filled false false a b o p e = rw e
 
 -- ---- the walk over the indices
 

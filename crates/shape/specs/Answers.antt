@@ -1,18 +1,18 @@
 -- What the answers of this crate say, in the terms of the definitions: for each case of each, the paper's number and values.
-use mathlib.Core.Bool.{_||_, cond}
+use mathlib.Core.Bool.{cond}
 use mathlib.Core.List.{List}
 use mathlib.Core.Option.{Option, none, some}
-use Rattle.model.specs.Types.{Dim, unknown, Shape}
+use Rattle.model.specs.Types.{Dim, Shape}
 use Rattle.format.specs.Records.{dimOf}
 use Rattle.rules.specs.Sizes as rules
 use Rattle.rules.specs.Pervade.{pervadeAt, Pervaded, sizes, clash}
-use Rattle.rules.specs.PervadeInSheets.{mayGrow}
+use Rattle.rules.specs.PervadeInSheets.{inSheetsAt}
 use Rattle.record.specs.Answers.{dimsOf, shapeFor}
 use Rattle.shape.specs.declared.Order.{Order}
 use Rattle.shape.specs.declared.Order.the-variants.{Less, Same, More}
 use Rattle.shape.specs.declared.Spot.{Spot}
 use Rattle.shape.specs.declared.Spot.the-variants.{Absent, Size}
-use Rattle.shape.specs.declared.Side.{Side}
+use Rattle.shape.specs.declared.Filling.{Filling}
 use Rattle.shape.specs.declared.Meeting.{Meeting}
 use Rattle.shape.specs.declared.Meeting.the-variants.{Gives, Refuses}
 use Rattle.shape.specs.declared.DimsPervaded.{DimsPervaded}
@@ -33,9 +33,9 @@ abbrev pub meetingOf : Meeting → Option Dim
 meetingOf (Gives n) = some (dimOf n)
 meetingOf Refuses = none
 
--- The rule for one index, by the two sides: a pervading where some sizes may grow.
-abbrev pub ruleFor : Side → Side → Option Dim → Option Dim → Option Dim
-ruleFor a b x y = cond (mayGrow (a .grows) (b .open) x y || mayGrow (b .grows) (a .open) y x) (some unknown) (pervadeAt (a .fill) (b .fill) x y)
+-- The rule for one index: that of sheets where a filled size may grow, else that of the separate call.
+abbrev pub ruleFor : Filling → Option Dim → Option Dim → Option Dim
+ruleFor t x y = cond (t .grows) (inSheetsAt (t .«a_fill») (t .«b_fill») (t .«a_open») (t .«b_open») x y) (pervadeAt (t .«a_fill») (t .«b_fill») x y)
 
 abbrev pub sizesBeside : Pervasion → List Dim → Pervaded
 sizesBeside Pervades ds = sizes ds

@@ -36,12 +36,13 @@ enum Spot {
     Size(u64),
 }
 
-// One side of a pervading: whether it is filled, whether its sizes may grow for that, which they do in sheets only, and whether its
-// shape is open.
-struct Side {
-    fill: bool,
+// What the walk over two lists goes by: which sides are filled, which shapes are open, and whether a filled size may grow, as in sheets.
+struct Filling {
+    a_fill: bool,
+    b_fill: bool,
+    a_open: bool,
+    b_open: bool,
     grows: bool,
-    open: bool,
 }
 
 // What one index of a pervading gives.
@@ -50,8 +51,8 @@ enum Meeting {
     Refuses,
 }
 
-// A pervading: clash names the first index that refuses. Sizes stand beside it, since an enum cannot hold an array; where
-// it is a clash they say nothing.
+// What a pervading answers: Stopped names the first index that refuses. Sizes stand beside it, since an enum cannot hold an array; where
+// it stopped they say nothing.
 pub enum Pervasion {
     Pervaded,
     Stopped(usize),

@@ -1,10 +1,10 @@
 // The pervading of two shapes by value.
 use crate::DimsPervaded;
+use crate::Filling;
 use crate::Meeting;
 use crate::Order;
 use crate::Pervasion;
 use crate::ShapePervaded;
-use crate::Side;
 use crate::Spot;
 use crate::dims::get;
 use crate::dims::longer;
@@ -23,33 +23,45 @@ ghost use Rattle.model.specs.Types.{shape};
 ghost use Rattle.format.specs.Records.{dimOf};
 ghost use Rattle.record.specs.Answers.{dimsOf, closingFor, shapeFor};
 ghost use Rattle.rules.specs.Pervade.{filled, againstAbsent, together, pervadeAt, walk, pervadeClosing, closedBy, pervade};
-ghost use Rattle.rules.specs.PervadeInSheets.{otherThanOne, unsettled, mayGrow, pervadeInSheets};
+ghost use Rattle.rules.specs.PervadeInSheets as rules;
+ghost use Rattle.rules.specs.PervadeInSheets.{otherThanOne, mayGrow, inSheetsAt, pervadeInSheets};
 ghost use Rattle.shape.specs.Answers.{spotOf, meetingOf, ruleFor, dimsPervadedOf, shapePervadedOf};
 
 // The pervading of the separate call, which is the Rust's: no size grows.
 pub fn pervade_dyn_shapes(a: DynShape, b: DynShape, a_fill: bool, b_fill: bool) -> ShapePervaded
     ensures { λ r. ⌜ shapePervadedOf r ≡ pervade «a_fill» «b_fill» (shapeFor a) (shapeFor b) ⌝ }
 {
-    let a_side = Side { fill: a_fill, grows: false, open: !a.closed };
-    let b_side = Side { fill: b_fill, grows: false, open: !b.closed };
-    pervade_shapes(a, b, a_side, b_side)
+    let filling = Filling {
+        a_fill,
+        b_fill,
+        a_open: !a.closed,
+        b_open: !b.closed,
+        grows: false,
+    };
+    pervade_shapes(a, b, filling)
 }
 
 // The pervading of sheets: a filled size may grow (document 02, 2026-01).
 pub fn pervade_in_sheets(a: DynShape, b: DynShape, a_fill: bool, b_fill: bool) -> ShapePervaded
     ensures { λ r. ⌜ shapePervadedOf r ≡ pervadeInSheets «a_fill» «b_fill» (shapeFor a) (shapeFor b) ⌝ }
 {
-    let a_side = Side { fill: a_fill, grows: a_fill, open: !a.closed };
-    let b_side = Side { fill: b_fill, grows: b_fill, open: !b.closed };
-    pervade_shapes(a, b, a_side, b_side)
+    let filling = Filling {
+        a_fill,
+        b_fill,
+        a_open: !a.closed,
+        b_open: !b.closed,
+        grows: a_fill || b_fill,
+    };
+    pervade_shapes(a, b, filling)
 }
 
-fn pervade_shapes(a: DynShape, b: DynShape, a_side: Side, b_side: Side) -> ShapePervaded
-    ensures { λ r. ⌜ shapePervadedOf r ≡ closedBy (pervadeClosing (closingFor a) (closingFor b)) (walk (ruleFor «a_side» «b_side») (dimsOf (a .dims)) (dimsOf (b .dims))) ⌝ }
+// Both pervadings: one walk over the opening sizes, and the closing lists.
+fn pervade_shapes(a: DynShape, b: DynShape, filling: Filling) -> ShapePervaded
+    ensures { λ r. ⌜ shapePervadedOf r ≡ closedBy (pervadeClosing (closingFor a) (closingFor b)) (walk (ruleFor filling) (dimsOf (a .dims)) (dimsOf (b .dims))) ⌝ }
 {
     let a_dims = a.dims;
     let b_dims = b.dims;
-    let walk = pervade_dims(a_dims, b_dims, a_side, b_side);
+    let walk = pervade_dims(a_dims, b_dims, filling);
     let answer = walk.answer;
     let dims = walk.dims;
     let shape = pervade_closing(dims, a, b);
@@ -78,8 +90,8 @@ fn pervade_closing(dims: Dims, a: DynShape, b: DynShape) -> DynShape
 }
 
 // The walk stops at the first index that refuses.
-fn pervade_dims(a: Dims, b: Dims, a_side: Side, b_side: Side) -> DimsPervaded
-    ensures { λ r. ⌜ dimsPervadedOf r ≡ walk (ruleFor «a_side» «b_side») (dimsOf a) (dimsOf b) ⌝ }
+fn pervade_dims(a: Dims, b: Dims, filling: Filling) -> DimsPervaded
+    ensures { λ r. ⌜ dimsPervadedOf r ≡ walk (ruleFor filling) (dimsOf a) (dimsOf b) ⌝ }
 {
     let count = longer(a, b);
     let mut sizes = [0u64; MAX_SIZES];
@@ -88,7 +100,7 @@ fn pervade_dims(a: Dims, b: Dims, a_side: Side, b_side: Side) -> DimsPervaded
         if i == count {
             break i;
         }
-        match pervade_at(a, b, i, a_side, b_side) {
+        match pervade_at(a, b, i, filling) {
             Meeting::Gives(size) => {
                 sizes[i] = size;
             }
@@ -110,31 +122,42 @@ fn pervade_dims(a: Dims, b: Dims, a_side: Side, b_side: Side) -> DimsPervaded
     }
 }
 
-fn pervade_at(a: Dims, b: Dims, i: usize, a_side: Side, b_side: Side) -> Meeting
-    ensures { λ r. ⌜ meetingOf r ≡ ruleFor «a_side» «b_side» (getElem? (dimsOf a) i) (getElem? (dimsOf b) i) ⌝ }
+fn pervade_at(a: Dims, b: Dims, i: usize, filling: Filling) -> Meeting
+    ensures { λ r. ⌜ meetingOf r ≡ ruleFor filling (getElem? (dimsOf a) i) (getElem? (dimsOf b) i) ⌝ }
 {
     let x = get(a, i);
     let y = get(b, i);
-    if may_grow(a_side.grows, b_side.open, x, y) {
-        return Meeting::Gives(UNKNOWN);
+    if filling.grows {
+        return meet_in_sheets(x, y, filling);
     }
-    if may_grow(b_side.grows, a_side.open, y, x) {
-        return Meeting::Gives(UNKNOWN);
-    }
-    pervade_spots(x, y, a_side.fill, b_side.fill)
+    meet(x, y, filling.a_fill, filling.b_fill)
 }
 
-fn may_grow(grows: bool, open: bool, x: Spot, y: Spot) -> bool
-    ensures { λ r. ⌜ «r» ≡ mayGrow «grows» «open» (spotOf x) (spotOf y) ⌝ }
+// Unknown where a filled size may grow, else as in the separate call.
+fn meet_in_sheets(x: Spot, y: Spot, filling: Filling) -> Meeting
+    ensures { λ r. ⌜ meetingOf r ≡ inSheetsAt (filling .«a_fill») (filling .«b_fill») (filling .«a_open») (filling .«b_open») (spotOf x) (spotOf y) ⌝ }
 {
-    if grows {
-        return is_other(x) && left_open(open, y);
+    if may_grow(filling.a_fill, filling.b_open, x, y) {
+        return Meeting::Gives(UNKNOWN);
+    }
+    if may_grow(filling.b_fill, filling.a_open, y, x) {
+        return Meeting::Gives(UNKNOWN);
+    }
+    meet(x, y, filling.a_fill, filling.b_fill)
+}
+
+// A size that is filled on its own side, and what it meets may be larger.
+fn may_grow(fill: bool, opening: bool, x: Spot, y: Spot) -> bool
+    ensures { λ r. ⌜ «r» ≡ mayGrow fill opening (spotOf x) (spotOf y) ⌝ }
+{
+    if fill {
+        return other_than_one(x) && unsettled(opening, y);
     }
     false
 }
 
 // A static size other than 1.
-fn is_other(x: Spot) -> bool
+fn other_than_one(x: Spot) -> bool
     ensures { λ r. ⌜ «r» ≡ otherThanOne (spotOf x) ⌝ }
 {
     let Spot::Size(size) = x else {
@@ -143,18 +166,19 @@ fn is_other(x: Spot) -> bool
     size != 1 && size != UNKNOWN
 }
 
-// The unknown, or nothing in an open shape.
-fn left_open(open: bool, x: Spot) -> bool
-    ensures { λ r. ⌜ «r» ≡ unsettled «open» (spotOf x) ⌝ }
+// The unknown, or nothing in a shape that is open.
+fn unsettled(opening: bool, x: Spot) -> bool
+    ensures { λ r. ⌜ «r» ≡ rules.unsettled opening (spotOf x) ⌝ }
 {
     let Spot::Size(size) = x else {
-        return open;
+        return opening;
     };
     size == UNKNOWN
 }
 
-fn pervade_spots(x: Spot, y: Spot, fill_a: bool, fill_b: bool) -> Meeting
-    ensures { λ r. ⌜ meetingOf r ≡ pervadeAt «fill_a» «fill_b» (spotOf x) (spotOf y) ⌝ }
+// The two sizes of an index, of which one may be absent.
+fn meet(x: Spot, y: Spot, a_fill: bool, b_fill: bool) -> Meeting
+    ensures { λ r. ⌜ meetingOf r ≡ pervadeAt «a_fill» «b_fill» (spotOf x) (spotOf y) ⌝ }
 {
     let Spot::Size(p) = x else {
         return against_absent(y);
@@ -162,7 +186,7 @@ fn pervade_spots(x: Spot, y: Spot, fill_a: bool, fill_b: bool) -> Meeting
     let Spot::Size(q) = y else {
         return against_absent(x);
     };
-    pervade_sizes(p, q, fill_a, fill_b)
+    pervade_sizes(p, q, a_fill, b_fill)
 }
 
 // 1 against absent is unknown.
@@ -179,8 +203,8 @@ fn against_absent(x: Spot) -> Meeting
 }
 
 // 1 yields, then the unknown; equal statics stay; else the larger, if the smaller's side is filled.
-fn pervade_sizes(a: u64, b: u64, fill_a: bool, fill_b: bool) -> Meeting
-    ensures { λ r. ⌜ meetingOf r ≡ together «fill_a» «fill_b» (dimOf a) (dimOf b) ⌝ }
+fn pervade_sizes(a: u64, b: u64, a_fill: bool, b_fill: bool) -> Meeting
+    ensures { λ r. ⌜ meetingOf r ≡ together «a_fill» «b_fill» (dimOf a) (dimOf b) ⌝ }
 {
     if a == 1 {
         return Meeting::Gives(b);
@@ -195,9 +219,9 @@ fn pervade_sizes(a: u64, b: u64, fill_a: bool, fill_b: bool) -> Meeting
         return Meeting::Gives(a);
     }
     match cmp(a, b) {
-        Order::Less => where_filled(fill_a, b),
+        Order::Less => where_filled(a_fill, b),
         Order::Same => Meeting::Gives(a),
-        Order::More => where_filled(fill_b, a),
+        Order::More => where_filled(b_fill, a),
     }
 }
 

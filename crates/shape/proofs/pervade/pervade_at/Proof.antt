@@ -9,47 +9,23 @@ get-requires c κs = search needs
 get-requires-2 : tie.Need-get-requires-2
 get-requires-2 c κs = search needs
 
-may-grow-requires : tie.Need-may-grow-requires
-may-grow-requires c κs = search needs
+meet-in-sheets-requires : tie.Need-meet-in-sheets-requires
+meet-in-sheets-requires c κs = search needs
 
 returns : tie.Need-returns
 returns c =
     let at-get = c .before .before .before in
     let at-get2 = c .before .before in
-    rw (← at-get .get .ensures, ← at-get2 .get2 .ensures, ← c .before .may-grow .ensures, c .if1 .taken)
+    c .meet-in-sheets .ensures ∙ rw (c .before .if1 .taken, at-get .get .ensures, at-get2 .get2 .ensures)
 
-may-grow-requires-2 : tie.Need-may-grow-requires-2
-may-grow-requires-2 c κs = search needs
+meet-requires : tie.Need-meet-requires
+meet-requires c κs = search needs
 
 returns-2 : tie.Need-returns-2
 returns-2 c =
-    let at-get = c .before .before .before .before .before in
-    let at-get2 = c .before .before .before .before in
-    let at-may-grow = c .before .before .before in
-    rw (← at-get .get .ensures, ← at-get2 .get2 .ensures, ← at-may-grow .may-grow .ensures, ← c .before .may-grow2 .ensures, c .before .before .if1 .left, c .if2 .taken)
-
-pervade-spots-requires : tie.Need-pervade-spots-requires
-pervade-spots-requires c κs = search needs
-
-returns-3 : tie.Need-returns-3
-returns-3 c =
-    let at-get = c .before .before .before .before .before .before in
-    let at-get2 = c .before .before .before .before .before in
-    let at-may-grow = c .before .before .before .before in
-    let at-if1 = c .before .before .before in
-    let at-may-grow2 = c .before .before in
-    c .pervade-spots .ensures
-    ∙ rw (← at-get .get .ensures, ← at-get2 .get2 .ensures, ← at-may-grow .may-grow .ensures, ← at-may-grow2 .may-grow2 .ensures, at-if1 .if1 .left, c .before .if2 .left)
+    let at-get = c .before .before .before in
+    let at-get2 = c .before .before in
+    c .meet .ensures ∙ rw (c .before .if1 .left, at-get .get .ensures, at-get2 .get2 .ensures)
 
 pub pervade-at-spec : {M : Type 1} → statement M
-pervade-at-spec =
-    tie.close
-    (tie.spec
-    get-requires
-    get-requires-2
-    may-grow-requires
-    returns
-    may-grow-requires-2
-    returns-2
-    pervade-spots-requires
-    returns-3)
+pervade-at-spec = tie.close (tie.spec get-requires get-requires-2 meet-in-sheets-requires returns meet-requires returns-2)

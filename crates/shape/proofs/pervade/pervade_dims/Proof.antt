@@ -13,16 +13,16 @@ use Rattle.shape.proofs.pervade.pervade_dims.Statement.{statement}
 use Rattle.shape.proofs.pervade.pervade_dims.Tie as tie
 
 abbrev Inv-loop : tie.InvT-loop
-Inv-loop a b a-side b-side count sizes₀ i₀ sizes i = (i ≤ count) × (length sizes ≡ 8) × Walked (ruleFor a-side b-side) (dimsOf a) (dimsOf b) sizes i
+Inv-loop a b filling count sizes₀ i₀ sizes i = (i ≤ count) × (length sizes ≡ 8) × Walked (ruleFor filling) (dimsOf a) (dimsOf b) sizes i
 
 abbrev μ-loop : tie.MeasureT-loop
-μ-loop a b a-side b-side count sizes₀ i₀ sizes i = count - i
+μ-loop a b filling count sizes₀ i₀ sizes i = count - i
 
 longer-requires : tie.Need-longer-requires Inv-loop μ-loop
 longer-requires c κs = search needs
 
 loop-holds : tie.Need-loop-holds Inv-loop μ-loop
-loop-holds c = (search needs, search needs, walk-start (ruleFor (c .before .args .a-side) (c .before .args .b-side)) (dimsOf (c .before .args .a)) (dimsOf (c .before .args .b)) [])
+loop-holds c = (search needs, search needs, walk-start (ruleFor (c .before .args .filling)) (dimsOf (c .before .args .a)) (dimsOf (c .before .args .b)) [])
 
 pervade-at-requires : tie.Need-pervade-at-requires Inv-loop μ-loop
 pervade-at-requires c κs = search needs
@@ -54,7 +54,7 @@ loop-again c =
     let args = entry .args in (
       omega arith,
       simp length-set (at-loop .loop .inv .1),
-      walk-more (ruleFor (args .a-side) (args .b-side)) (dimsOf (args .a)) (dimsOf (args .b)) (at-loop .loop .sizes) (at-loop .loop .i)
+      walk-more (ruleFor (args .filling)) (dimsOf (args .a)) (dimsOf (args .b)) (at-loop .loop .sizes) (at-loop .loop .i)
           (omega (arith, at-longer .longer .ensures .0)) (at-pervade-at .pervade-at .ensures) (at-loop .loop .inv .2) (c .before .size .given .0 .0) (omega arith)
           (sym (ap meetingOf (c .before .size .given .1))),
     )
@@ -71,7 +71,7 @@ returns c =
     let args = entry .args in
     ⊎-elim (λ w. absurd (omega arith))
     (λ w. ap clash (w .4)
-    ∙ sym (walk-stop (ruleFor (args .a-side) (args .b-side)) (dimsOf (args .a)) (dimsOf (args .b)) (at-loop .loop .sizes) (at-loop .loop .i) (omega (arith, at-longer .longer .ensures .0))
+    ∙ sym (walk-stop (ruleFor (args .filling)) (dimsOf (args .a)) (dimsOf (args .b)) (at-loop .loop .sizes) (at-loop .loop .i) (omega (arith, at-longer .longer .ensures .0))
     (w .1 .ensures) (at-loop .loop .inv .2) (omega arith) (sym (ap meetingOf (w .3 .given .1))))) (at-if1 .if1 .came)
 
 returns-2 : tie.Need-returns-2 Inv-loop μ-loop
@@ -80,7 +80,7 @@ returns-2 c =
     let at-longer = c .before .before .before in
     let at-loop = c .before .before in
     let args = entry .args in
-    ⊎-elim (λ w. sym (walk-whole (ruleFor (args .a-side) (args .b-side)) (dimsOf (args .a)) (dimsOf (args .b)) (at-loop .loop .sizes) (at-loop .loop .i) (w .0 .taken) (at-longer .longer .ensures .0)
+    ⊎-elim (λ w. sym (walk-whole (ruleFor (args .filling)) (dimsOf (args .a)) (dimsOf (args .b)) (at-loop .loop .sizes) (at-loop .loop .i) (w .0 .taken) (at-longer .longer .ensures .0)
     (at-loop .loop .inv .2))) (λ w. absurd (omega arith)) (c .before .if1 .came)
 
 pub pervade-dims-spec : {M : Type 1} → statement M

@@ -2,8 +2,8 @@ use mathlib.Core.Path.{refl, sym, ap}
 use Rattle.shape.specs.Answers.{spotOf}
 use Rattle.shape.proofs.PervadeLaws.{pervade-absent, pervade-alone, pervade-both}
 use borrow.Author.Needs.{needs}
-use Rattle.shape.proofs.pervade.pervade_spots.Statement.{statement}
-use Rattle.shape.proofs.pervade.pervade_spots.Tie as tie
+use Rattle.shape.proofs.pervade.meet.Statement.{statement}
+use Rattle.shape.proofs.pervade.meet.Tie as tie
 
 enum-known-x : tie.Need-enum-known-x
 enum-known-x c = search needs
@@ -40,8 +40,8 @@ returns-3 c =
     let at-y = c .before .before in
     pervade-both _ _ (sym (ap spotOf (at-x .x .given .1))) (sym (ap spotOf (at-y .y .given .1))) (c .pervade-sizes .ensures)
 
-pub pervade-spots-spec : {M : Type 1} → statement M
-pervade-spots-spec =
+pub meet-spec : {M : Type 1} → statement M
+meet-spec =
     tie.close
     (tie.spec
     enum-known-x

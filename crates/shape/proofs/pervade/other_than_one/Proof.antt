@@ -4,8 +4,8 @@ use Rattle.rules.specs.PervadeInSheets.{otherThanOne}
 use Rattle.shape.specs.Answers.{spotOf}
 use Rattle.shape.proofs.PervadeLaws.{other-number}
 use borrow.Author.Needs.{needs}
-use Rattle.shape.proofs.pervade.is_other.Statement.{statement}
-use Rattle.shape.proofs.pervade.is_other.Tie as tie
+use Rattle.shape.proofs.pervade.other_than_one.Statement.{statement}
+use Rattle.shape.proofs.pervade.other_than_one.Tie as tie
 
 enum-known-x : tie.Need-enum-known-x
 enum-known-x c = search needs
@@ -24,5 +24,5 @@ returns-2 c =
 returns-3 : tie.Need-returns-3
 returns-3 c = search needs
 
-pub is-other-spec : {M : Type 1} → statement M
-is-other-spec = tie.close (tie.spec enum-known-x enum-told returns returns-2 returns-3)
+pub other-than-one-spec : {M : Type 1} → statement M
+other-than-one-spec = tie.close (tie.spec enum-known-x enum-told returns returns-2 returns-3)

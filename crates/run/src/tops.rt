@@ -4,8 +4,9 @@ use join::write_union;
 use known::shape_at;
 use lent::Written;
 use limits::refusal::UNPERVADED;
+use shape::Pervading;
 use shape::Pervasion;
-use shape::pervade_in_sheets;
+use shape::pervade_dyn_shapes;
 use stack::Bounds;
 use stack::load;
 use ty::Which;
@@ -118,7 +119,13 @@ fn pervade_types(a: &[u8], b: &[u8], a_fill: bool, b_fill: bool, out: &mut [u8])
     ensures { λ r. ⌜ delivered r (now (out .exit)) ≡ deliver
         (both (λ t u. mapped writeTy (atStart (pervadeTypes «a_fill» «b_fill» t u))) (lone (now (a .entry))) (lone (now (b .entry)))) (now (out .entry)) ⌝ }
 {
-    let pervaded = pervade_in_sheets(shape_at(a, 0), shape_at(b, 0), a_fill, b_fill);
+    let pervaded = pervade_dyn_shapes(
+        shape_at(a, 0),
+        shape_at(b, 0),
+        a_fill,
+        b_fill,
+        Pervading::InSheets,
+    );
     let answer = pervaded.answer;
     if let Pervasion::Stopped(_) = answer {
         return Written::Refused {

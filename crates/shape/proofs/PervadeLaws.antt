@@ -13,16 +13,19 @@ use borrow.Author.Tests.{eqb-true, ne-eqb}
 use Rattle.model.specs.Limits.{ones}
 use Rattle.model.specs.Types.{Dim, static, unknown, Shape, shape}
 use Rattle.format.specs.Records.{dimOf}
-use Rattle.record.specs.Answers.{dimsOf, closingFor}
+use Rattle.record.specs.Answers.{dimsOf, closingFor, shapeFor}
 use Rattle.record.specs.declared.Dims.{Dims}
 use Rattle.record.specs.declared.DynShape.{DynShape}
 use Rattle.rules.specs.Shapes.{isOpen}
-use Rattle.rules.specs.Pervade.{againstAbsent, byOrder, together, pervadeAt, Pervaded, sizes, clash, thenRest, walk, pervadeClosing, closedBy}
-use Rattle.rules.specs.PervadeInSheets.{otherThanOne, unsettled, mayGrow, inSheetsAt}
+use Rattle.rules.specs.Pervade.{againstAbsent, byOrder, together, pervadeAt, Pervaded, sizes, clash, thenRest, walk, pervadeClosing, closedBy, pervade}
+use Rattle.rules.specs.PervadeInSheets.{otherThanOne, unsettled, mayGrow, inSheetsAt, pervadeInSheets}
 use Rattle.rules.specs.PervadeSteps.{walk-step, walk-end, after, after-start, after-more, after-stop, after-end}
 use Rattle.rules.specs.Sizes.{Order, cmpDim}
 use Rattle.record.proofs.ByValue.{one-more}
-use Rattle.shape.specs.Answers.{sizesBeside, shapeBeside}
+use Rattle.shape.specs.Answers.{pervadeAs, anyGrows, ruleFor, sizesBeside, shapeBeside}
+use Rattle.shape.specs.declared.Pervading.{Pervading}
+use Rattle.shape.specs.declared.Pervading.the-variants.{Separate, InSheets}
+use Rattle.shape.specs.declared.Filling.{Filling}
 use Rattle.shape.specs.declared.Pervasion.{Pervasion}
 use Rattle.shape.specs.declared.Pervasion.the-variants.{Pervaded as Pervades, Stopped}
 use Rattle.shape.proofs.SizeLaws.{one-number}
@@ -90,28 +93,27 @@ unknown-number b n = go (eqb n ones)
     go true = refl
     go false = refl
 
--- ---- an index in sheets, by which of its sizes may grow
+-- either of two tests
+pub either-first : {t x : Bool} (y : Bool) → t ≡ x → t ≡ true → t ≡ x || y
+either-first y e h = rw (← e, h)
 
-module _ (f g a b : Bool) (x y : Option Dim) {t : Bool} (first : t ≡ mayGrow f b x y) where
-  pub first-grows : t ≡ true → some unknown ≡ inSheetsAt f g a b x y
-  unfolding inSheetsAt
-  first-grows h = rw (← first, h)
+pub either-second : {t u x y : Bool} → t ≡ x → u ≡ y → t ≡ false → u ≡ x || y
+either-second e k h = rw (← e, h) k
 
-  module _ {u : Bool} (second : u ≡ mayGrow g a y x) (h : t ≡ false) where
-    pub second-grows : u ≡ true → some unknown ≡ inSheetsAt f g a b x y
+-- ---- one index, by whether a size grows there
+
+module _ (t : Filling) (x y : Option Dim) where
+  pub index-plain : {c : Option Dim} → t .grows ≡ false → c ≡ pervadeAt (t .«a_fill») (t .«b_fill») x y → c ≡ ruleFor t x y
+  index-plain h e = rw h e
+
+  module _ (h : t .grows ≡ true) {v : Bool} (either : v ≡ mayGrow (t .«a_fill») (t .«b_open») x y || mayGrow (t .«b_fill») (t .«a_open») y x) where
+    pub index-grows : v ≡ true → some unknown ≡ ruleFor t x y
     unfolding inSheetsAt
-    second-grows k = rw (← first, ← second, h, k)
+    index-grows k = rw (h, ← either, k)
 
-    pub neither-grows : {c : Option Dim} → u ≡ false → c ≡ pervadeAt f g x y → c ≡ inSheetsAt f g a b x y
+    pub index-stays : {c : Option Dim} → v ≡ false → c ≡ pervadeAt (t .«a_fill») (t .«b_fill») x y → c ≡ ruleFor t x y
     unfolding inSheetsAt
-    neither-grows k e = e ∙ rw (← first, ← second, h, k)
-
--- Where no side is filled the two rules are one.
-pub walk-filled : (f g a b : Bool) (o p : List Dim) {t : Bool} → t ≡ f || g → walk (λ x y. cond t (inSheetsAt f g a b x y) (pervadeAt f g x y)) o p ≡ walk (inSheetsAt f g a b) o p
-unfolding inSheetsAt
-walk-filled true g a b o p e = rw e
-walk-filled false true a b o p e = rw e
-walk-filled false false a b o p e = rw e
+    index-stays k e = rw (h, ← either, k) e
 
 -- ---- the walk over the indices
 
@@ -196,9 +198,20 @@ closed-beside c Pervades e h = rw (h, ← e)
 closed-beside c (Stopped i) e h = rw (← e)
 
 -- An open shape is one that is not closed.
-pub open-not : (s : DynShape) → isOpen (closingFor s) ≡ not (s .closed)
+open-not : (s : DynShape) → isOpen (closingFor s) ≡ not (s .closed)
 open-not s = go (s .closed)
   where
     go : (b : Bool) → isOpen (cond b none (some (dimsOf (s .suffix)))) ≡ not b
     go true = refl
     go false = refl
+
+-- The pervading that is asked for, by whether any size may grow: where no side is filled the two are one.
+pub pervaded-as : (f g : Bool) (s t : DynShape) (v : Pervading) {grows : Bool} → grows ≡ anyGrows v f g
+    → closedBy (pervadeClosing (closingFor s) (closingFor t))
+      (walk (λ x y. cond grows (inSheetsAt f g (not (s .closed)) (not (t .closed)) x y) (pervadeAt f g x y)) (dimsOf (s .dims)) (dimsOf (t .dims)))
+    ≡ pervadeAs v f g (shapeFor s) (shapeFor t)
+unfolding inSheetsAt pervadeInSheets pervade
+pervaded-as f g s t Separate e = rw e
+pervaded-as true g s t InSheets e = rw (e, open-not s, open-not t)
+pervaded-as false true s t InSheets e = rw (e, open-not s, open-not t)
+pervaded-as false false s t InSheets e = rw e

@@ -1,17 +1,19 @@
 -- What the answers of this crate say, in the terms of the definitions: for each case of each, the paper's number and values.
-use mathlib.Core.Bool.{cond}
+use mathlib.Core.Bool.{Bool, false, _||_, cond}
 use mathlib.Core.List.{List}
 use mathlib.Core.Option.{Option, none, some}
 use Rattle.model.specs.Types.{Dim, Shape}
 use Rattle.format.specs.Records.{dimOf}
 use Rattle.rules.specs.Sizes as rules
-use Rattle.rules.specs.Pervade.{pervadeAt, Pervaded, sizes, clash}
-use Rattle.rules.specs.PervadeInSheets.{inSheetsAt}
+use Rattle.rules.specs.Pervade.{pervadeAt, Pervaded, sizes, clash, pervade}
+use Rattle.rules.specs.PervadeInSheets.{inSheetsAt, pervadeInSheets}
 use Rattle.record.specs.Answers.{dimsOf, shapeFor}
 use Rattle.shape.specs.declared.Order.{Order}
 use Rattle.shape.specs.declared.Order.the-variants.{Less, Same, More}
 use Rattle.shape.specs.declared.Spot.{Spot}
 use Rattle.shape.specs.declared.Spot.the-variants.{Absent, Size}
+use Rattle.shape.specs.declared.Pervading.{Pervading}
+use Rattle.shape.specs.declared.Pervading.the-variants.{Separate, InSheets}
 use Rattle.shape.specs.declared.Filling.{Filling}
 use Rattle.shape.specs.declared.Meeting.{Meeting}
 use Rattle.shape.specs.declared.Meeting.the-variants.{Gives, Refuses}
@@ -33,7 +35,17 @@ abbrev pub meetingOf : Meeting → Option Dim
 meetingOf (Gives n) = some (dimOf n)
 meetingOf Refuses = none
 
--- The rule for one index: that of sheets where a filled size may grow, else that of the separate call.
+-- The pervading that is asked for.
+abbrev pub pervadeAs : Pervading → Bool → Bool → Shape → Shape → Option Shape
+pervadeAs Separate f g s t = pervade f g s t
+pervadeAs InSheets f g s t = pervadeInSheets f g s t
+
+-- In sheets a size may grow where a side is filled; in the separate call none does.
+abbrev pub anyGrows : Pervading → Bool → Bool → Bool
+anyGrows Separate f g = false
+anyGrows InSheets f g = f || g
+
+-- The rule for one index: that of sheets where any size may grow, else that of the separate call.
 abbrev pub ruleFor : Filling → Option Dim → Option Dim → Option Dim
 ruleFor t x y = cond (t .grows) (inSheetsAt (t .«a_fill») (t .«b_fill») (t .«a_open») (t .«b_open») x y) (pervadeAt (t .«a_fill») (t .«b_fill») x y)
 

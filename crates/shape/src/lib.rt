@@ -5,7 +5,6 @@ mod shapes;
 mod sizes;
 
 pub use pervade::pervade_dyn_shapes;
-pub use pervade::pervade_in_sheets;
 use record::Dims;
 use record::DynShape;
 pub use shapes::compatible_with;
@@ -36,7 +35,14 @@ enum Spot {
     Size(u64),
 }
 
-// What the walk over two lists goes by: which sides are filled, which shapes are open, and whether a filled size may grow, as in sheets.
+// Which pervading is asked for: that of the separate call, which is the Rust's, or that of sheets, where a filled size may grow
+// (document 02, 2026-01).
+pub enum Pervading {
+    Separate,
+    InSheets,
+}
+
+// What the walk over two lists goes by: which sides are filled, which shapes are open, and whether any size may grow.
 struct Filling {
     a_fill: bool,
     b_fill: bool,

@@ -3,6 +3,7 @@ use crate::DimsPervaded;
 use crate::Filling;
 use crate::Meeting;
 use crate::Order;
+use crate::Pervading;
 use crate::Pervasion;
 use crate::ShapePervaded;
 use crate::Spot;
@@ -16,49 +17,34 @@ use record::Dims;
 use record::DynShape;
 use record::no_dims;
 use writer::size_count;
+ghost use mathlib.Core.Bool.{_||_};
 ghost use mathlib.Core.Path.{_≡_};
 ghost use mathlib.Core.Option.{Option·map};
 ghost use lib.ListN.{getElem?};
 ghost use Rattle.model.specs.Types.{shape};
 ghost use Rattle.format.specs.Records.{dimOf};
 ghost use Rattle.record.specs.Answers.{dimsOf, closingFor, shapeFor};
-ghost use Rattle.rules.specs.Pervade.{filled, againstAbsent, together, pervadeAt, walk, pervadeClosing, closedBy, pervade};
+ghost use Rattle.rules.specs.Pervade.{filled, againstAbsent, together, pervadeAt, walk, pervadeClosing};
 ghost use Rattle.rules.specs.PervadeInSheets as rules;
-ghost use Rattle.rules.specs.PervadeInSheets.{otherThanOne, mayGrow, inSheetsAt, pervadeInSheets};
-ghost use Rattle.shape.specs.Answers.{spotOf, meetingOf, ruleFor, dimsPervadedOf, shapePervadedOf};
+ghost use Rattle.rules.specs.PervadeInSheets.{otherThanOne, mayGrow};
+ghost use Rattle.shape.specs.Answers.{pervadeAs, anyGrows, spotOf, meetingOf, ruleFor, dimsPervadedOf, shapePervadedOf};
 
-// The pervading of the separate call, which is the Rust's: no size grows.
-pub fn pervade_dyn_shapes(a: DynShape, b: DynShape, a_fill: bool, b_fill: bool) -> ShapePervaded
-    ensures { λ r. ⌜ shapePervadedOf r ≡ pervade «a_fill» «b_fill» (shapeFor a) (shapeFor b) ⌝ }
+pub fn pervade_dyn_shapes(
+    a: DynShape,
+    b: DynShape,
+    a_fill: bool,
+    b_fill: bool,
+    pervading: Pervading,
+) -> ShapePervaded
+    ensures { λ r. ⌜ shapePervadedOf r ≡ pervadeAs pervading «a_fill» «b_fill» (shapeFor a) (shapeFor b) ⌝ }
 {
     let filling = Filling {
         a_fill,
         b_fill,
         a_open: !a.closed,
         b_open: !b.closed,
-        grows: false,
+        grows: any_grows(pervading, a_fill, b_fill),
     };
-    pervade_shapes(a, b, filling)
-}
-
-// The pervading of sheets: a filled size may grow (document 02, 2026-01).
-pub fn pervade_in_sheets(a: DynShape, b: DynShape, a_fill: bool, b_fill: bool) -> ShapePervaded
-    ensures { λ r. ⌜ shapePervadedOf r ≡ pervadeInSheets «a_fill» «b_fill» (shapeFor a) (shapeFor b) ⌝ }
-{
-    let filling = Filling {
-        a_fill,
-        b_fill,
-        a_open: !a.closed,
-        b_open: !b.closed,
-        grows: a_fill || b_fill,
-    };
-    pervade_shapes(a, b, filling)
-}
-
-// Both pervadings: one walk over the opening sizes, and the closing lists.
-fn pervade_shapes(a: DynShape, b: DynShape, filling: Filling) -> ShapePervaded
-    ensures { λ r. ⌜ shapePervadedOf r ≡ closedBy (pervadeClosing (closingFor a) (closingFor b)) (walk (ruleFor filling) (dimsOf (a .dims)) (dimsOf (b .dims))) ⌝ }
-{
     let a_dims = a.dims;
     let b_dims = b.dims;
     let walk = pervade_dims(a_dims, b_dims, filling);
@@ -66,6 +52,16 @@ fn pervade_shapes(a: DynShape, b: DynShape, filling: Filling) -> ShapePervaded
     let dims = walk.dims;
     let shape = pervade_closing(dims, a, b);
     ShapePervaded { answer, shape }
+}
+
+// Whether any size may grow: in sheets, where a side is filled.
+fn any_grows(pervading: Pervading, a_fill: bool, b_fill: bool) -> bool
+    ensures { λ r. ⌜ «r» ≡ anyGrows pervading «a_fill» «b_fill» ⌝ }
+{
+    let Pervading::InSheets = pervading else {
+        return false;
+    };
+    a_fill || b_fill
 }
 
 // An absent closing list yields to the other's, an empty one to a named one only; two named ones give an empty one.
@@ -127,23 +123,17 @@ fn pervade_at(a: Dims, b: Dims, i: usize, filling: Filling) -> Meeting
 {
     let x = get(a, i);
     let y = get(b, i);
-    if filling.grows {
-        return meet_in_sheets(x, y, filling);
+    if filling.grows && either_grows(x, y, filling) {
+        return Meeting::Gives(UNKNOWN);
     }
     meet(x, y, filling.a_fill, filling.b_fill)
 }
 
-// Unknown where a filled size may grow, else as in the separate call.
-fn meet_in_sheets(x: Spot, y: Spot, filling: Filling) -> Meeting
-    ensures { λ r. ⌜ meetingOf r ≡ inSheetsAt (filling .«a_fill») (filling .«b_fill») (filling .«a_open») (filling .«b_open») (spotOf x) (spotOf y) ⌝ }
+// One of the two sizes of an index may grow.
+fn either_grows(x: Spot, y: Spot, filling: Filling) -> bool
+    ensures { λ r. ⌜ «r» ≡ mayGrow (filling .«a_fill») (filling .«b_open») (spotOf x) (spotOf y) || mayGrow (filling .«b_fill») (filling .«a_open») (spotOf y) (spotOf x) ⌝ }
 {
-    if may_grow(filling.a_fill, filling.b_open, x, y) {
-        return Meeting::Gives(UNKNOWN);
-    }
-    if may_grow(filling.b_fill, filling.a_open, y, x) {
-        return Meeting::Gives(UNKNOWN);
-    }
-    meet(x, y, filling.a_fill, filling.b_fill)
+    may_grow(filling.a_fill, filling.b_open, x, y) || may_grow(filling.b_fill, filling.a_open, y, x)
 }
 
 // A size that is filled on its own side, and what it meets may be larger.

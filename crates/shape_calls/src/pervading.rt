@@ -5,6 +5,7 @@ use limits::refusal::UNPERVADED;
 use record::Lone;
 use record::read_two;
 use record::whichever;
+use shape::Pervading;
 use shape::Pervasion;
 use shape::pervade_dyn_shapes;
 use writer::as_written;
@@ -22,7 +23,13 @@ pub fn pervade(a: &[u8], b: &[u8], fill_a: bool, fill_b: bool, result: &mut [u8]
     let Lone::Accepted = read else {
         return as_written(read);
     };
-    let pervaded = pervade_dyn_shapes(shape_at(a, 0), shape_at(b, 0), fill_a, fill_b);
+    let pervaded = pervade_dyn_shapes(
+        shape_at(a, 0),
+        shape_at(b, 0),
+        fill_a,
+        fill_b,
+        Pervading::Separate,
+    );
     let answer = pervaded.answer;
     if let Pervasion::Stopped(_) = answer {
         return Written::Refused {

@@ -14,7 +14,7 @@ use Rattle.run.proofs.tops.pervade_types.Reads as reads
 use Rattle.run.proofs.tops.pervade_types.Lts as lts
 use Rattle.join.proofs.write_union.Reads as write-union-reads
 use Rattle.known.proofs.shape_at.Reads as shape-at-reads
-use Rattle.shape.proofs.pervade_in_sheets.Reads as pervade-in-sheets-reads
+use Rattle.shape.proofs.pervade_dyn_shapes.Reads as pervade-dyn-shapes-reads
 
 shape-at-requires : tie.Need-shape-at-requires
 shape-at-requires c κs =
@@ -31,8 +31,8 @@ shape-at-requires-2 c κs =
     let known = has-types _ _ (entry .pre) (λ i. omega (arith, at-shared-slice-known .shared-slice-known .given i)) (λ i. omega (arith, at-shared-slice-known2 .shared-slice-known2 .given i)) in
     (maxDepth, known .1)
 
-pervade-in-sheets-requires : tie.Need-pervade-in-sheets-requires
-pervade-in-sheets-requires c κs = search needs
+pervade-dyn-shapes-requires : tie.Need-pervade-dyn-shapes-requires
+pervade-dyn-shapes-requires c κs = search needs
 
 enum-told : tie.Need-enum-told
 enum-told c = search needs
@@ -44,11 +44,11 @@ returns c =
     let at-shared-slice-known2 = c .before .before .before .before .before .before in
     let at-shape-at = c .before .before .before .before in
     let at-shape-at2 = c .before .before .before in
-    let at-pervade-in-sheets = c .before .before in
+    let at-pervade-dyn-shapes = c .before .before in
     let args = entry .args in
     let first = whole-shape (args .a .now) (λ i. omega (arith, at-shared-slice-known .shared-slice-known .given i)) (first-good _ _ (entry .pre)) (at-shape-at .shape-at .result) (at-shape-at .shape-at .ensures) in
     let second = whole-shape (args .b .now) (λ i. omega (arith, at-shared-slice-known2 .shared-slice-known2 .given i)) (second-good _ _ (entry .pre)) (at-shape-at2 .shape-at2 .result) (at-shape-at2 .shape-at2 .ensures) in
-    let clash = sym (at-pervade-in-sheets .pervade-in-sheets .ensures) ∙ ap (λ v. shapeBeside v (shapeFor (at-pervade-in-sheets .pervade-in-sheets .result .shape))) (c .enum-told .given .1) in
+    let clash = sym (at-pervade-dyn-shapes .pervade-dyn-shapes .ensures) ∙ ap (λ v. shapeBeside v (shapeFor (at-pervade-dyn-shapes .pervade-dyn-shapes .result .shape))) (c .enum-told .given .1) in
     sym (deliver-refused _ (types-clash (args .a-fill) (args .b-fill) (lone (args .a .now)) (lone (args .b .now)) first second (entry .pre) clash))
 
 enum-told-2 : tie.Need-enum-told-2
@@ -67,13 +67,13 @@ returns-2 c =
     let at-shared-slice-known2 = c .before .before .before .before .before .before .before .before .before .before .before in
     let at-shape-at = c .before .before .before .before .before .before .before .before .before in
     let at-shape-at2 = c .before .before .before .before .before .before .before .before in
-    let at-pervade-in-sheets = c .before .before .before .before .before .before .before in
+    let at-pervade-dyn-shapes = c .before .before .before .before .before .before .before in
     let at-enum-told2 = c .before .before .before .before .before in
     let at-write-union = c .before .before in
     let args = entry .args in
     let first = whole-shape (args .a .now) (λ i. omega (arith, at-shared-slice-known .shared-slice-known .given i)) (first-good _ _ (entry .pre)) (at-shape-at .shape-at .result) (at-shape-at .shape-at .ensures) in
     let second = whole-shape (args .b .now) (λ i. omega (arith, at-shared-slice-known2 .shared-slice-known2 .given i)) (second-good _ _ (entry .pre)) (at-shape-at2 .shape-at2 .result) (at-shape-at2 .shape-at2 .ensures) in
-    let meets = sym (at-pervade-in-sheets .pervade-in-sheets .ensures) ∙ ap (λ v. shapeBeside v (shapeFor (at-pervade-in-sheets .pervade-in-sheets .result .shape))) (at-enum-told2 .enum-told2 .given .1) in
+    let meets = sym (at-pervade-dyn-shapes .pervade-dyn-shapes .ensures) ∙ ap (λ v. shapeBeside v (shapeFor (at-pervade-dyn-shapes .pervade-dyn-shapes .result .shape))) (at-enum-told2 .enum-told2 .given .1) in
     let made = types-pervade (args .a-fill) (args .b-fill) (lone (args .a .now)) (lone (args .b .now)) first second meets in
     at-write-union .write-union .ensures ∙ ap (λ o. deliver o (args .out .now)) made
 
@@ -83,7 +83,7 @@ pervade-types-spec =
     (tie.spec
     shape-at-requires
     shape-at-requires-2
-    pervade-in-sheets-requires
+    pervade-dyn-shapes-requires
     enum-told
     returns
     enum-told-2

@@ -1,4 +1,5 @@
-use mathlib.Core.Path.{_∙_}
+use mathlib.Core.Logic.{⊎-elim}
+use Rattle.shape.proofs.PervadeLaws.{index-plain, index-grows, index-stays}
 use borrow.Author.Needs.{needs}
 use Rattle.shape.proofs.pervade.pervade_at.Statement.{statement}
 use Rattle.shape.proofs.pervade.pervade_at.Tie as tie
@@ -9,23 +10,27 @@ get-requires c κs = search needs
 get-requires-2 : tie.Need-get-requires-2
 get-requires-2 c κs = search needs
 
-meet-in-sheets-requires : tie.Need-meet-in-sheets-requires
-meet-in-sheets-requires c κs = search needs
+either-grows-requires : tie.Need-either-grows-requires
+either-grows-requires c κs = search needs
 
 returns : tie.Need-returns
 returns c =
-    let at-get = c .before .before .before in
-    let at-get2 = c .before .before in
-    c .meet-in-sheets .ensures ∙ rw (c .before .if1 .taken, at-get .get .ensures, at-get2 .get2 .ensures)
+    let entry = c .before .before .before .before .before in
+    let at-get = c .before .before .before .before in
+    let at-get2 = c .before .before .before in
+    rw (← at-get .get .ensures, ← at-get2 .get2 .ensures) (index-grows (entry .args .filling) _ _ (c .before .before .if1 .taken) (c .before .either-grows .ensures) (c .if2 .taken))
 
 meet-requires : tie.Need-meet-requires
 meet-requires c κs = search needs
 
 returns-2 : tie.Need-returns-2
 returns-2 c =
+    let entry = c .before .before .before .before in
     let at-get = c .before .before .before in
     let at-get2 = c .before .before in
-    c .meet .ensures ∙ rw (c .before .if1 .left, at-get .get .ensures, at-get2 .get2 .ensures)
+    rw (← at-get .get .ensures, ← at-get2 .get2 .ensures)
+    (⊎-elim (λ w. index-stays (entry .args .filling) _ _ (w .0 .taken) (w .1 .ensures) (w .2 .left) (c .meet .ensures)) (λ w. index-plain (entry .args .filling) _ _ (w .left) (c .meet .ensures))
+    (c .before .if1 .came))
 
 pub pervade-at-spec : {M : Type 1} → statement M
-pervade-at-spec = tie.close (tie.spec get-requires get-requires-2 meet-in-sheets-requires returns meet-requires returns-2)
+pervade-at-spec = tie.close (tie.spec get-requires get-requires-2 either-grows-requires returns meet-requires returns-2)

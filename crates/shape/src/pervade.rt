@@ -29,6 +29,7 @@ ghost use Rattle.rules.specs.PervadeInSheets as rules;
 ghost use Rattle.rules.specs.PervadeInSheets.{otherThanOne, mayGrow};
 ghost use Rattle.shape.specs.Answers.{pervadeAs, anyGrows, spotOf, meetingOf, ruleFor, dimsPervadedOf, shapePervadedOf};
 
+// Asked for the separate call's pervading it is the Rust's function of this name; both go the one walk.
 pub fn pervade_dyn_shapes(
     a: DynShape,
     b: DynShape,

@@ -1,7 +1,4 @@
-use mathlib.Core.Path.{_∙_, sym, ap}
 use borrow.Author.Tests.{ne-eqb}
-use Rattle.rules.specs.PervadeInSheets.{otherThanOne}
-use Rattle.shape.specs.Answers.{spotOf}
 use Rattle.shape.proofs.PervadeLaws.{other-number}
 use borrow.Author.Needs.{needs}
 use Rattle.shape.proofs.pervade.other_than_one.Statement.{statement}

@@ -1,5 +1,6 @@
 -- Pervading (document 01, "mod.rs": `pervade_dyn_shapes`), index by index: 1 against absent is ?; 1 or absent yields to the other;
--- ? yields; equal statics stay; else the larger, if the smaller's side is filled. The first shape's fill is f, the second's g.
+-- ? yields; equal statics stay; else the larger, if the smaller's side is filled. The first shape's fill is f, the second's g. Sheets have
+-- a rule of their own (`PervadeInSheets`).
 use Prim.Native.Nat.{ℕ, suc}
 use mathlib.Core.Bool.{Bool, cond}
 use mathlib.Core.List.{List, [], _∷_}

@@ -119,6 +119,7 @@ fn pervade_dims(a: Dims, b: Dims, filling: Filling) -> DimsPervaded
     }
 }
 
+// Unknown where a size may grow, else as in the separate call.
 fn pervade_at(a: Dims, b: Dims, i: usize, filling: Filling) -> Meeting
     ensures { λ r. ⌜ meetingOf r ≡ ruleFor filling (getElem? (dimsOf a) i) (getElem? (dimsOf b) i) ⌝ }
 {

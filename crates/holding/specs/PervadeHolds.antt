@@ -32,6 +32,7 @@ realDim-comm f g m n = go (eqb m 1) (eqb n 1) refl refl (order (eqb m n) (eqb n 
     order false false true false hr ht hu hv = refl
     order false false false true hr ht hu hv = refl
     order false false false false hr ht hu hv = let x = ltb-false m n hu in let y = ltb-false n m hv in absurd (eqb-false m n hr (omega arith))
+
     go : (p q : Bool) → eqb m 1 ≡ p → eqb n 1 ≡ q → {x y : Option ℕ} → x ≡ y → cond p (some n) (cond q (some m) x) ≡ cond q (some m) (cond p (some n) y)
     go true true hp hq e = ap some (eqb-true n 1 hq ∙ sym (eqb-true m 1 hp))
     go true false hp hq e = refl

@@ -47,6 +47,7 @@ index-refuses f g a b x y = (there (mayGrow f b x y || mayGrow g a y x), here (m
     there : (t : Bool) → cond t (some unknown) (pervadeAt f g x y) ≡ none → pervadeAt f g x y ≡ none
     there true e = let z : _≡_ {A = ℕ} 0 1 = cc in absurd (omega arith)
     there false e = e
+
     here : (t u : Bool) → mayGrow f b x y ≡ t → mayGrow g a y x ≡ u → pervadeAt f g x y ≡ none → cond (t || u) (some unknown) (pervadeAt f g x y) ≡ none
     here true u h k e = absurd (grows-gives f g b x y h e)
     here false true h k e = absurd (grows-gives g f a y x k (sym (pervadeAt-comm f g x y) ∙ e))
@@ -54,9 +55,10 @@ index-refuses f g a b x y = (there (mayGrow f b x y || mayGrow g a y x), here (m
 
 -- So both stop at the same index.
 pub inSheets-clash : (f g a b : Bool) (o p : List Dim) (i : ℕ) → (walk (inSheetsAt f g a b) o p ≡ clash i) ↔ (pervadeDims f g o p ≡ clash i)
-inSheets-clash f g a b o p i =
-    (walk-clash-alike (inSheetsAt f g a b) (pervadeAt f g) (index-refuses f g a b) o p i,
-    walk-clash-alike (pervadeAt f g) (inSheetsAt f g a b) (λ x y. let (h, k) = index-refuses f g a b x y in (k, h)) o p i)
+inSheets-clash f g a b o p i = (
+  walk-clash-alike (inSheetsAt f g a b) (pervadeAt f g) (index-refuses f g a b) o p i,
+  walk-clash-alike (pervadeAt f g) (inSheetsAt f g a b) (λ x y. let (h, k) = index-refuses f g a b x y in (k, h)) o p i,
+)
 
 -- ---- limits
 

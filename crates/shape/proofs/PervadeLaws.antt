@@ -208,7 +208,7 @@ open-not s = go (s .closed)
 -- The pervading that is asked for, by whether any size may grow: where no side is filled the two are one.
 pub pervaded-as : (f g : Bool) (s t : DynShape) (v : Pervading) {grows : Bool} → grows ≡ anyGrows v f g
     → closedBy (pervadeClosing (closingFor s) (closingFor t))
-      (walk (λ x y. cond grows (inSheetsAt f g (not (s .closed)) (not (t .closed)) x y) (pervadeAt f g x y)) (dimsOf (s .dims)) (dimsOf (t .dims)))
+    (walk (λ x y. cond grows (inSheetsAt f g (not (s .closed)) (not (t .closed)) x y) (pervadeAt f g x y)) (dimsOf (s .dims)) (dimsOf (t .dims)))
     ≡ pervadeAs v f g (shapeFor s) (shapeFor t)
 unfolding inSheetsAt pervadeInSheets pervade
 pervaded-as f g s t Separate e = rw e

@@ -131,6 +131,7 @@ static void shapes(void)
     WROTE(vg_pervade(0, T(ONE("01") NUM), T(SCALAR NUM), result, room), UNKNOWN_ONE);
     REFUSED(vg_pervade(2, T(ONE("03") NUM), T(ONE("04") NUM), result, room), VG_UNPERVADED, 0);
     WROTE(vg_pervade(1, T(ONE("03") NUM), T(ONE("04") NUM), result, room), ONE("04"));
+    WROTE(vg_pervade(1, T(ONE("0c") NUM), T(UNKNOWN_ONE NUM), result, room), ONE("0c"));
     REFUSED(vg_pervade(4, T(""), T(""), result, room), VG_OUT_OF_RANGE, 0);
     VALUE(vg_compatible_shapes(T(ONE("01") NUM), T(ONE("04") NUM)), 1);
     VALUE(vg_compatible_shapes(T(ONE("03") NUM), T(ONE("04") NUM)), 0);
@@ -275,6 +276,8 @@ static void sheets(void)
     const char *good = PUT ONE("03") NUM PUT UNKNOWN_ONE NUM PERVADE "00";
     bytes left = hex(ONE("03") NUM);
     expect("vg_check_sheet", is(check(good, room), VG_VALUE, 0, 0, 1, 15) && memcmp(result, left.data, 15) == 0 && as_lent(15) && cleared());
+    bytes unknown = hex(UNKNOWN_ONE NUM);
+    expect("12 filled meets ?", is(check(PUT UNKNOWN_ONE NUM PUT ONE("0c") NUM PERVADE "01", room), VG_VALUE, 0, 0, 1, 15) && memcmp(result, unknown.data, 15) == 0);
     expect("a result too short", refused(check(good, 14), VG_TOO_SHORT, 37) && cleared());
     expect("a mismatch", refused(check(PUT ONE("03") NUM PUT ONE("04") NUM PERVADE "00", room), VG_UNPERVADED, 34) && cleared());
     expect("a row first", refused(check("5257", room), VG_UNDERFLOW, 0) && cleared());

@@ -93,8 +93,9 @@ enum vg_refusal {
 /* ---- the sheet ------------------------------------------------------------------------------------------------------------- */
 
 /* Checks a sheet: works its steps in order on a stack of types, and writes the types left to the result, bottom first, one after the
- * other. A pervading is vg_pervade's, but where a static size other than 1 is filled on its own side and meets ?, or nothing in an open
- * shape, it gives ?. To part them: vg_read what is left of the result; it is one type, or refused VG_TRAILING at the length of the first.
+ * other. To part them: vg_read what is left of the result; it is one type, or refused VG_TRAILING at the length of the first.
+ * A step's pervading is vg_pervade's, but where a static size other than 1 is filled on its own side and meets ?, or nothing in an open
+ * shape, it gives ?: the real size there may grow.
  * Value: `first` types are left, `second` bytes in all were written; the result's bytes after them stay as lent.
  * Refused: 7 at 0, if the scratch is under VG_SCRATCH_BYTES. Then the first that is met, step by step, and in a step in this order:
  *   12 at the step, if it is the 65th, whatever its bytes are; 1 or 2 at the step, for its mark;
@@ -154,7 +155,8 @@ vg_answer vg_merge(const uint8_t *a, size_t a_len, const uint8_t *b, size_t b_le
 vg_answer vg_join_shapes(const uint8_t *a, size_t a_len, const uint8_t *b, size_t b_len, uint8_t *result, size_t result_len);
 vg_answer vg_row_shape(const uint8_t *ty, size_t ty_len, uint8_t *result, size_t result_len);
 
-/* The pervading of two shapes, as the Rust has it; in a sheet a filled one differs (vg_check_sheet). Bit 0 of the flag fills a, bit 1 fills b.
+/* The pervading of two shapes, as the Rust has it; in a sheet a filled one may differ (vg_check_sheet). Bit 0 of the flag fills a, bit 1
+ * fills b.
  * Value: bytes written, a shape's record. Refused: 3 at 0 for a flag above 3; reading a; reading b; 8 at 0 for shapes that cannot
  * pervade; result. */
 vg_answer vg_pervade(uint64_t flag, const uint8_t *a, size_t a_len, const uint8_t *b, size_t b_len, uint8_t *result, size_t result_len);

@@ -155,8 +155,8 @@ vg_answer vg_merge(const uint8_t *a, size_t a_len, const uint8_t *b, size_t b_le
 vg_answer vg_join_shapes(const uint8_t *a, size_t a_len, const uint8_t *b, size_t b_len, uint8_t *result, size_t result_len);
 vg_answer vg_row_shape(const uint8_t *ty, size_t ty_len, uint8_t *result, size_t result_len);
 
-/* The pervading of two shapes, as the Rust has it; in a sheet a filled one may differ (vg_check_sheet). Bit 0 of the flag fills a, bit 1
- * fills b.
+/* The pervading of two shapes, as Uiua's Rust has it (`pervade_dyn_shapes`); in a sheet a filled one may differ (vg_check_sheet). Bit 0 of
+ * the flag fills a, bit 1 fills b.
  * Value: bytes written, a shape's record. Refused: 3 at 0 for a flag above 3; reading a; reading b; 8 at 0 for shapes that cannot
  * pervade; result. */
 vg_answer vg_pervade(uint64_t flag, const uint8_t *a, size_t a_len, const uint8_t *b, size_t b_len, uint8_t *result, size_t result_len);

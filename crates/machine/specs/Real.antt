@@ -1,5 +1,5 @@
--- Real shapes and the real run (document 01, "The sheet, added"). The run is fed the steps, a real shape for each put and a side
--- for each join; nothing that the checker worked out enters it.
+-- Real shapes and the real run (document 01, "The sheet, added"; fills by document 02, 2026-01). The run is fed the steps, a real shape
+-- for each put and a side for each join; nothing that the checker worked out enters it.
 use Prim.Native.Nat.{ℕ, _+_, _-_}
 use mathlib.Core.Bool.{Bool, true, false, _&&_, cond}
 use mathlib.Core.List.{List, [], _∷_, reverse}

@@ -29,7 +29,7 @@ ghost use Rattle.rules.specs.PervadeInSheets as rules;
 ghost use Rattle.rules.specs.PervadeInSheets.{otherThanOne, mayGrow};
 ghost use Rattle.shape.specs.Answers.{pervadeAs, anyGrows, spotOf, meetingOf, ruleFor, dimsPervadedOf, shapePervadedOf};
 
-// Asked for the separate call's pervading it is the Rust's function of this name; both go the one walk.
+// Asked for the separate call's pervading it is the Rust's function of this name; both take the one walk.
 pub fn pervade_dyn_shapes(
     a: DynShape,
     b: DynShape,
@@ -138,7 +138,7 @@ fn either_grows(x: Spot, y: Spot, filling: Filling) -> bool
     may_grow(filling.a_fill, filling.b_open, x, y) || may_grow(filling.b_fill, filling.a_open, y, x)
 }
 
-// A size that is filled on its own side, and what it meets may be larger.
+// The first is a static size other than 1, filled on its own side, and what it meets may be larger.
 fn may_grow(fill: bool, opening: bool, x: Spot, y: Spot) -> bool
     ensures { λ r. ⌜ «r» ≡ mayGrow fill opening (spotOf x) (spotOf y) ⌝ }
 {

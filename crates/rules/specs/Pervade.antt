@@ -32,8 +32,12 @@ neitherOne f g (static m) (static n) = byOrder f g (cmpDim (static m) (static n)
 unfoldable pub together : Bool → Bool → Dim → Dim → Option Dim
 together f g d e = cond (isOne d) (some e) (cond (isOne e) (some d) (neitherOne f g d e))
 
--- One index, by what stands there on either side; at no index of the walk both are absent.
-abbrev pub pervadeAt : Bool → Bool → Option Dim → Option Dim → Option Dim
+-- A rule for one index: what is given by what stands there on either side, a size or none; none where the index refuses.
+abbrev pub IndexRule : Type 0
+IndexRule = Option Dim → Option Dim → Option Dim
+
+-- At no index of the walk both are absent.
+abbrev pub pervadeAt : Bool → Bool → IndexRule
 pervadeAt f g none none = none
 pervadeAt f g none (some e) = some (againstAbsent e)
 pervadeAt f g (some d) none = some (againstAbsent d)
@@ -53,7 +57,7 @@ thenRest (some d) (sizes ds) = sizes (d ∷ ds)
 thenRest (some d) (clash i) = clash (suc i)
 
 -- The walk over the indices of two lists, by any rule for one index.
-unfoldable pub walk : (Option Dim → Option Dim → Option Dim) → List Dim → List Dim → Pervaded
+unfoldable pub walk : IndexRule → List Dim → List Dim → Pervaded
 walk rule [] [] = sizes []
 walk rule [] (e ∷ p) = thenRest (rule none (some e)) (walk rule [] p)
 walk rule (d ∷ o) [] = thenRest (rule (some d) none) (walk rule o [])

@@ -6,7 +6,7 @@ use mathlib.Core.Option.{Option, none, some}
 use lib.Dec.{eqb}
 use Rattle.model.specs.Types.{Dim, static, unknown, Shape, shape}
 use Rattle.rules.specs.Shapes.{isOpen}
-use Rattle.rules.specs.Pervade.{pervadeAt, walk, pervadeClosing, closedBy}
+use Rattle.rules.specs.Pervade.{IndexRule, pervadeAt, walk, pervadeClosing, closedBy}
 
 -- ---- one index
 
@@ -27,7 +27,7 @@ abbrev pub mayGrow : Bool → Bool → Option Dim → Option Dim → Bool
 mayGrow f b d e = f && otherThanOne d && unsettled b e
 
 -- There "the result is ?"; at every other index it is that of the separate call, by what stands there on either side.
-unfoldable pub inSheetsAt : Bool → Bool → Bool → Bool → Option Dim → Option Dim → Option Dim
+unfoldable pub inSheetsAt : Bool → Bool → Bool → Bool → IndexRule
 inSheetsAt f g a b d e = cond (mayGrow f b d e || mayGrow g a e d) (some unknown) (pervadeAt f g d e)
 
 -- ---- shapes

@@ -14,7 +14,7 @@ use Rattle.model.specs.Types.{Dim, static, unknown, Shape, shape}
 use Rattle.model.specs.Within.{All, Each, DimWithin, DimsWithin, ShapeWithin}
 use Rattle.rules.specs.Sizes.{Order, less, same, more, cmpDim, isOne}
 use Rattle.rules.specs.SizesLaws.{flip, cmpDim-flip, cmpDim-same}
-use Rattle.rules.specs.Pervade.{againstAbsent, filled, byOrder, neitherOne, together, pervadeAt, Pervaded, sizes, clash, thenRest, walk, pervadeDims, pervadeClosing, closedBy, pervade}
+use Rattle.rules.specs.Pervade.{againstAbsent, filled, byOrder, neitherOne, together, IndexRule, pervadeAt, Pervaded, sizes, clash, thenRest, walk, pervadeDims, pervadeClosing, closedBy, pervade}
 
 -- ---- one index
 
@@ -68,7 +68,7 @@ thenRest-alike (some d) none h r r′ k i e = let z : _≡_ {A = Option Dim} (so
 thenRest-alike (some d) (some d′) h (sizes y) r′ k i e = let z : _≡_ {A = ℕ} 0 1 = cc in absurd (omega arith)
 thenRest-alike (some d) (some d′) h (clash j) r′ k i e = rw (k j refl) e
 
-module _ (rule : Option Dim → Option Dim → Option Dim) where
+module _ (rule : IndexRule) where
   pub walk-length : (o p x : List Dim) → walk rule o p ≡ sizes x → length x ≡ max (length o) (length p)
   unfolding walk
   walk-length [] [] x h = let e : [] ≡ x = cc in rw (← e) (omega arith)
@@ -97,7 +97,7 @@ module _ (rule : Option Dim → Option Dim → Option Dim) where
       let z = walk-clash u v o p j x in omega arith
 
   -- Another that refuses wherever it refuses, and nowhere else, stops at the same index.
-  pub walk-clash-alike : (other : Option Dim → Option Dim → Option Dim) → ((x y : Option Dim) → (rule x y ≡ none) ↔ (other x y ≡ none))
+  pub walk-clash-alike : (other : IndexRule) → ((x y : Option Dim) → (rule x y ≡ none) ↔ (other x y ≡ none))
       → (o p : List Dim) (i : ℕ) → walk rule o p ≡ clash i → walk other o p ≡ clash i
   unfolding walk
   walk-clash-alike other h [] [] i e = let z : _≡_ {A = ℕ} 0 1 = cc in absurd (omega arith)
@@ -155,7 +155,7 @@ then-all (some d) (sizes y) h k = (h, k)
 then-all (some d) (clash i) h k = tt
 
 -- A rule for one index that keeps to the limits.
-abbrev pub KeepsWithin : (Option Dim → Option Dim → Option Dim) → Type 0
+abbrev pub KeepsWithin : IndexRule → Type 0
 KeepsWithin rule = (x y : Option Dim) → Each DimWithin x → Each DimWithin y → Each DimWithin (rule x y)
 
 pub pervadeAt-within : (f g : Bool) → KeepsWithin (pervadeAt f g)
@@ -164,7 +164,7 @@ pervadeAt-within f g none (some e) h k = againstAbsent-within e k
 pervadeAt-within f g (some d) none h k = againstAbsent-within d h
 pervadeAt-within f g (some d) (some e) h k = together-within f g d e h k
 
-walk-all : (rule : Option Dim → Option Dim → Option Dim) → KeepsWithin rule → (o p : List Dim) → All DimWithin o → All DimWithin p → AllSizes (walk rule o p)
+walk-all : (rule : IndexRule) → KeepsWithin rule → (o p : List Dim) → All DimWithin o → All DimWithin p → AllSizes (walk rule o p)
 unfolding walk
 walk-all rule w [] [] h k = tt
 walk-all rule w [] (e ∷ p) h k = then-all (rule none (some e)) (walk rule [] p) (w none (some e) tt (k .0)) (walk-all rule w [] p h (k .1))
@@ -179,7 +179,7 @@ pervadeClosing-within (some []) (some d) h k = k
 pervadeClosing-within (some (x ∷ c)) (some []) h k = h
 pervadeClosing-within (some (x ∷ c)) (some (y ∷ d)) h k = (omega arith, tt)
 
-pub walk-within : (rule : Option Dim → Option Dim → Option Dim) → KeepsWithin rule → (o p : List Dim) (c d : Option (List Dim))
+pub walk-within : (rule : IndexRule) → KeepsWithin rule → (o p : List Dim) (c d : Option (List Dim))
     → ShapeWithin (shape o c) → ShapeWithin (shape p d) → Each ShapeWithin (closedBy (pervadeClosing c d) (walk rule o p))
 walk-within rule w o p c d h k = go (walk rule o p) (walk-length rule o p) (walk-all rule w o p (h .0 .1) (k .0 .1))
   where
@@ -226,7 +226,7 @@ pervadeAt-comm f g (some d) none = refl
 pervadeAt-comm f g (some d) (some e) = together-comm f g d e
 
 -- By two rules that are the same with the sides exchanged.
-pub walk-comm : (rule exchanged : Option Dim → Option Dim → Option Dim) → ((x y : Option Dim) → rule x y ≡ exchanged y x) → (o p : List Dim) → walk rule o p ≡ walk exchanged p o
+pub walk-comm : (rule exchanged : IndexRule) → ((x y : Option Dim) → rule x y ≡ exchanged y x) → (o p : List Dim) → walk rule o p ≡ walk exchanged p o
 unfolding walk
 walk-comm rule exchanged h [] [] = refl
 walk-comm rule exchanged h [] (e ∷ p) = rw (h none (some e), walk-comm rule exchanged h [] p)

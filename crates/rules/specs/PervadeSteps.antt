@@ -8,11 +8,11 @@ use mathlib.Core.Path.{_≡_, refl, sym, ap}
 use lib.ListN.{length, drop, getElem?, length-append, drop-of-length-le}
 use lib.Seq.{drop-nil}
 use Rattle.model.specs.Types.{Dim}
-use Rattle.rules.specs.Pervade.{Pervaded, sizes, clash, thenRest, walk}
+use Rattle.rules.specs.Pervade.{IndexRule, Pervaded, sizes, clash, thenRest, walk}
 
 -- ---- one index, then the indices after it
 
-module _ (rule : Option Dim → Option Dim → Option Dim) where
+module _ (rule : IndexRule) where
   pub walk-step : (i : ℕ) (o p : List Dim) → i < max (length o) (length p) → walk rule (drop i o) (drop i p) ≡ thenRest (rule (getElem? o i) (getElem? p i)) (walk rule (drop (suc i) o) (drop (suc i) p))
   unfolding walk
   walk-step i [] [] h = absurd (omega arith)

@@ -17,7 +17,7 @@ use Rattle.record.specs.Answers.{dimsOf, closingFor, shapeFor}
 use Rattle.record.specs.declared.Dims.{Dims}
 use Rattle.record.specs.declared.DynShape.{DynShape}
 use Rattle.rules.specs.Shapes.{isOpen}
-use Rattle.rules.specs.Pervade.{againstAbsent, byOrder, together, pervadeAt, Pervaded, sizes, clash, thenRest, walk, pervadeClosing, closedBy, pervade}
+use Rattle.rules.specs.Pervade.{againstAbsent, byOrder, together, IndexRule, pervadeAt, Pervaded, sizes, clash, thenRest, walk, pervadeClosing, closedBy, pervade}
 use Rattle.rules.specs.PervadeInSheets.{otherThanOne, unsettled, mayGrow, inSheetsAt, pervadeInSheets}
 use Rattle.rules.specs.PervadeSteps.{walk-step, walk-end, after, after-start, after-more, after-stop, after-end}
 use Rattle.rules.specs.Sizes.{Order, cmpDim}
@@ -117,7 +117,7 @@ module _ (t : Filling) (x y : Option Dim) where
 
 -- ---- the walk over the indices
 
-module _ (rule : Option Dim → Option Dim → Option Dim) (o p : List Dim) where
+module _ (rule : IndexRule) (o p : List Dim) where
   -- what the first i indices gave stands in front of what the others give
   abbrev pub Walked : List ℕ → ℕ → Type 0
   Walked done i = walk rule o p ≡ after (map dimOf (take i done)) (walk rule (drop i o) (drop i p))

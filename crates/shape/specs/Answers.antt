@@ -5,7 +5,7 @@ use mathlib.Core.Option.{Option, none, some}
 use Rattle.model.specs.Types.{Dim, Shape}
 use Rattle.format.specs.Records.{dimOf}
 use Rattle.rules.specs.Sizes as rules
-use Rattle.rules.specs.Pervade.{pervadeAt, Pervaded, sizes, clash, pervade}
+use Rattle.rules.specs.Pervade.{IndexRule, pervadeAt, Pervaded, sizes, clash, pervade}
 use Rattle.rules.specs.PervadeInSheets.{inSheetsAt, pervadeInSheets}
 use Rattle.record.specs.Answers.{dimsOf, shapeFor}
 use Rattle.shape.specs.declared.Order.{Order}
@@ -46,7 +46,7 @@ anyGrows Separate f g = false
 anyGrows InSheets f g = f || g
 
 -- The rule for one index: that of sheets where any size may grow, else that of the separate call.
-abbrev pub ruleFor : Filling → Option Dim → Option Dim → Option Dim
+abbrev pub ruleFor : Filling → IndexRule
 ruleFor t x y = cond (t .grows) (inSheetsAt (t .«a_fill») (t .«b_fill») (t .«a_open») (t .«b_open») x y) (pervadeAt (t .«a_fill») (t .«b_fill») x y)
 
 abbrev pub sizesBeside : Pervasion → List Dim → Pervaded

@@ -4,6 +4,7 @@ mod answers;
 mod arguments;
 mod fault;
 mod lines;
+mod no_argument;
 mod number_list;
 mod numbered;
 mod numbers;

@@ -2,6 +2,7 @@
 use crate::MAX_LINE;
 use crate::answers::Reply;
 use crate::fault;
+use crate::no_argument;
 use crate::number_list;
 use crate::numbered;
 use crate::one_type;
@@ -51,6 +52,9 @@ fn answered_otherwise(name: &[u8], line: &[u8], input: &mut [u8], result: &mut [
     }
     if let WordPlace::At(k) = records::number(name) {
         return records::answered(k, line, input, result);
+    }
+    if let WordPlace::At(_) = no_argument::number(name) {
+        return no_argument::answered(line, result);
     }
     if let WordPlace::At(k) = sheets::number(name) {
         return sheets::answered(k, line, input, result);

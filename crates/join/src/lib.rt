@@ -1,19 +1,22 @@
 // The join of two types: the join of their shapes with the union of their scalars.
+use kind_table::union_code;
+use known::kind_at;
 use known::scalar_at;
 use known::shape_at;
 use lent::Written;
+use limits::CONTENTS_DECIDE;
 use limits::MAX_DEPTH;
-use limits::records::ANY_SCALAR;
 use limits::records::BOX_ANY_SCALAR;
 use record::DynShape;
 use record::Lone;
 use record::read_two;
 use record::whichever;
 use scalar::United;
-use scalar::unite;
+use scalar::unite_boxes;
 use shape::join as join_shapes;
 use ty::write_parts;
 use writer::as_written;
+use writer::write_plain;
 ghost use mathlib.Core.Path.{_≡_};
 ghost use Rattle.model.specs.Types.{ty};
 ghost use Rattle.format.specs.Records.{writeTy};
@@ -43,17 +46,20 @@ pub fn join_known(a: &[u8], b: &[u8], result: &mut [u8]) -> Written
     write_union(shape, a, b, &mut *result)
 }
 
-// A shape with the union of two types' scalars, which is one of the two as it stands, or a box Any, or Any.
+// A shape with the union of two types' scalars: the kind that the table says; or, of two boxes, one of them as it stands or a box Any.
 pub fn write_union(shape: DynShape, a: &[u8], b: &[u8], result: &mut [u8]) -> Written
     requires { ⌜ both nothings (lone (now a)) (lone (now b)) ≡ accepted 0 ⌝ }
     ensures { λ r. ⌜ delivered r (now (result .exit)) ≡ deliver (ofScalars (λ k l. writeTy (ty (shapeFor shape) (union k l))) (now (a .entry)) (now (b .entry))) (now (result .entry)) ⌝ }
 {
     let i = scalar_at(a, 0);
     let j = scalar_at(b, 0);
-    match unite(a, i, b, j, MAX_DEPTH - 1) {
+    let code = union_code(kind_at(a, i), kind_at(b, j));
+    if code != CONTENTS_DECIDE {
+        return write_plain(shape, code, &mut *result);
+    }
+    match unite_boxes(a, i, b, j, MAX_DEPTH - 1) {
         United::First => write_parts(shape, b"", &a[i..], &mut *result),
         United::Second => write_parts(shape, b"", &b[j..], &mut *result),
         United::BoxAny => write_parts(shape, b"", &BOX_ANY_SCALAR, &mut *result),
-        United::Any => write_parts(shape, b"", &ANY_SCALAR, &mut *result),
     }
 }

@@ -67,6 +67,18 @@ pub const BOX: u64 = 8;
 
 pub const ANY: u64 = 9;
 
+// How many kinds there are, how many pairs of them, how many rules the table of kinds has, and how many numbers that makes.
+pub const KIND_COUNT: usize = 10;
+
+pub const KIND_PAIRS: usize = KIND_COUNT * KIND_COUNT;
+
+pub const KIND_RULES: usize = 3;
+
+pub const KIND_NUMBERS: usize = KIND_RULES * KIND_PAIRS;
+
+// The mark of that table in place of a union's code: the boxes' contents decide.
+pub const CONTENTS_DECIDE: u8 = 255;
+
 // The forms of a box.
 pub const BOX_ANY: u64 = 0;
 

@@ -5,9 +5,6 @@ use crate::BOX_ALL;
 use crate::BOX_ANY;
 use crate::marks;
 
-// The scalar Any.
-pub const ANY_SCALAR: [u8; 3] = [marks::SCALAR.first, marks::SCALAR.second, ANY as u8];
-
 // A box that holds anything.
 pub const BOX_ANY_SCALAR: [u8; 6] = [
     marks::SCALAR.first,

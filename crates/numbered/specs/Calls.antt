@@ -1,4 +1,4 @@
--- Demand 1, "gets its result or one of thirteen numbered refusals", of every public call: the 47 that the library exports, what each
+-- Demand 1, "gets its result or one of thirteen numbered refusals", of every public call: the 48 that the library exports, what each
 -- answers, as in its contract (`velgrodis/src`), and a table of the numbers that it can be refused with.
 use Prim.Native.Nat.{ℕ}
 use mathlib.Core.List.{List, [], _∷_}
@@ -9,6 +9,7 @@ use Rattle.format.specs.Records.{writeScalar, writeTy}
 use Rattle.format.specs.Outcome.{accepted, mapped, bound, both, lone, deliver, shapeRecord, scalarRecord}
 use Rattle.rules.specs.Order.{compare}
 use Rattle.rules.specs.Scalars.{supersetOf, compatibleScalars, compatibleWithBoxes, union, unrefine}
+use Rattle.rules.specs.KindTable.{kindTable}
 use Rattle.rules.specs.Types.{intoRow, intoFirstRow, intoLastRow, intoNthRow, unboxed, asBoxes, fieldPlace}
 use Rattle.validation.specs.Validate.{validate, checkScalarOnly, checkShapeOnly}
 use Rattle.machine.specs.Call.{sheetCall}
@@ -40,6 +41,8 @@ pub data Call : Type 0 where
   vg-union : List ℕ → List ℕ → List ℕ → Call
   vg-unrefine : List ℕ → List ℕ → Call
   vg-superset vg-compatible-scalars vg-compatible-with-boxes vg-compare : List ℕ → List ℕ → Call
+  -- the table of kinds
+  vg-kinds : List ℕ → Call
   -- types
   vg-read : List ℕ → Call
   vg-shape-record vg-scalar-record vg-row vg-first-row vg-last-row vg-unboxed vg-as-boxes : List ℕ → List ℕ → Call
@@ -91,6 +94,7 @@ replyTo (vg-superset a b) = tested (ofScalars supersetOf a b)
 replyTo (vg-compatible-scalars a b) = tested (ofScalars compatibleScalars a b)
 replyTo (vg-compatible-with-boxes a b) = tested (ofScalars compatibleWithBoxes a b)
 replyTo (vg-compare a b) = compared (ofTypes compare a b)
+replyTo (vg-kinds result) = beside (written (deliver (accepted kindTable) result))
 replyTo (vg-read t) = counted (mapped nothing (lone t))
 replyTo (vg-shape-record t result) = beside (written (deliver (mapped shapeRecord (lone t)) result))
 replyTo (vg-scalar-record t result) = beside (written (deliver (mapped scalarRecord (lone t)) result))
@@ -145,7 +149,7 @@ ofSize = ended ∷ unmarked ∷ outOfRange ∷ oversized ∷ tooMany ∷ trailin
 abbrev pub ofSizesWritten : List ℕ
 ofSizesWritten = ended ∷ unmarked ∷ outOfRange ∷ oversized ∷ tooMany ∷ trailing ∷ tooShort ∷ notASize ∷ []
 
--- A list of numbers alone, whatever they are: only its result.
+-- A list of numbers alone, whatever they are, and the table of kinds: only its result.
 abbrev pub ofResult : List ℕ
 ofResult = tooShort ∷ []
 
@@ -172,6 +176,7 @@ numbersOf (vg-superset a b) = ofLone
 numbersOf (vg-compatible-scalars a b) = ofLone
 numbersOf (vg-compatible-with-boxes a b) = ofLone
 numbersOf (vg-compare a b) = ofLone
+numbersOf (vg-kinds result) = ofResult
 numbersOf (vg-read t) = ofLone
 numbersOf (vg-shape-record t result) = ofWritten
 numbersOf (vg-scalar-record t result) = ofWritten

@@ -12,8 +12,9 @@ use Rattle.format.specs.Records.{code, kindOf, writeShape, writeScalar, readMar
 use Rattle.format.specs.Outcome.{lone, deliver}
 use Rattle.rules.specs.Sizes.{cmpDim, compatible}
 use Rattle.rules.specs.Shapes.{isAny, rowCount}
-use Rattle.rules.specs.Order.{codeOf}
-use Rattle.rules.specs.Scalars.{supersetCodes, supersetOf}
+use Rattle.rules.specs.Order.{codeOf, kindPlace}
+use Rattle.rules.specs.Scalars.{supersetCodes, supersetOf, compatibleCodes, compatibleScalars, union}
+use Rattle.rules.specs.KindTable.{squares, kindTable}
 use Rattle.rules.specs.Pervade.{together, walk, pervadeClosing, pervade}
 use Rattle.rules.specs.Types.{whollyAny, copiesFor, asBoxes}
 use Rattle.validation.specs.CheckShape.{agree, mismatch, shapeMismatch, checkShape}
@@ -25,7 +26,7 @@ use Rattle.number.specs.Examples.{half, one, eightOnes}
 use Rattle.ty.specs.Calls.{deliverBoxes}
 use Rattle.val.specs.Values.{valueSpec, numsScalar, valueAsDim, valueAsDims}
 use Rattle.velgrodis.specs.Answers.{no, deliverSizes}
-use Rattle.numbered.specs.Calls.{Call, vg-dim-cmp, vg-read, vg-shape-record, vg-as-boxes, vg-pervade, vg-check-shape, vg-validate, vg-val-spec, vg-as-dim, vg-as-dims, vg-nums-scalar, vg-check-sheet, replyTo}
+use Rattle.numbered.specs.Calls.{Call, vg-dim-cmp, vg-read, vg-shape-record, vg-as-boxes, vg-pervade, vg-check-shape, vg-validate, vg-val-spec, vg-as-dim, vg-as-dims, vg-nums-scalar, vg-kinds, vg-check-sheet, replyTo}
 
 -- a call, with the number and the place that it is refused with
 pub data Example : Type 0 where
@@ -75,13 +76,15 @@ examples =
     ∷ theRefusal (vg-as-dims 1 half (one ∷ []) [] []) tooShort 0
     ∷ theRefusal (vg-val-spec 0 half [] [] []) notASize 0
     ∷ theRefusal (vg-nums-scalar [] []) tooShort 0
+    -- the table of kinds in a result of nine bytes
+    ∷ theRefusal (vg-kinds (0 ∷ 0 ∷ 0 ∷ 0 ∷ 0 ∷ 0 ∷ 0 ∷ 0 ∷ 0 ∷ [])) tooShort 0
     -- a sheet without scratch
     ∷ theRefusal (vg-check-sheet [] [] []) tooShort 0
     ∷ []
 
 pub examples-shown : All Shown examples
-unfolding examples replyTo lone deliver readTy shapeFrom scalarFrom boxFrom readMark readDims readDim judged byte number bytesOf code kindOf writeShape writeScalar
+unfolding examples replyTo kindTable squares compatibleCodes compatibleScalars kindPlace union lone deliver readTy shapeFrom scalarFrom boxFrom readMark readDims readDim judged byte number bytesOf code kindOf writeShape writeScalar
     cmpDim compatible isAny rowCount codeOf supersetCodes supersetOf together walk pervadeClosing pervade whollyAny copiesFor asBoxes agree
     mismatch shapeMismatch checkShape checkScalar validate checkShapeOnly sheetCall sizesFrom deliverBoxes valueSpec numsScalar valueAsDim valueAsDims
     deliverSizes inside below
-examples-shown = (refl, (refl, (refl, (refl, (refl, (refl, (refl, (refl, (refl, (refl, (refl, (refl, (refl, (refl, (refl, (refl, (refl, (refl, (refl, (refl, (refl, (refl, (refl, tt)))))))))))))))))))))))
+examples-shown = (refl, (refl, (refl, (refl, (refl, (refl, (refl, (refl, (refl, (refl, (refl, (refl, (refl, (refl, (refl, (refl, (refl, (refl, (refl, (refl, (refl, (refl, (refl, (refl, tt))))))))))))))))))))))))

@@ -17,6 +17,7 @@ use Rattle.rules.specs.Sizes.{Order, less, same, more, cmpDim, cmpDefined, larg
 use Rattle.rules.specs.Shapes.{isScalar, isAny, rowCount, rank, rowShape, compatibleShapes, mergeFrom, joinShapes}
 use Rattle.rules.specs.Order.{compare}
 use Rattle.rules.specs.Scalars.{supersetOf, compatibleScalars, compatibleWithBoxes, union, unrefine}
+use Rattle.rules.specs.KindTable.{kindTable}
 use Rattle.rules.specs.Pervade.{pervade}
 use Rattle.rules.specs.Types.{anyTy, joinTypes, intoRow, intoFirstRow, intoLastRow, intoNthRow, unboxed, copiesFor, asBoxes, Stretch, stretch, fieldPlace}
 use Rattle.validation.specs.CheckShape.{Side, checkShape}
@@ -39,7 +40,7 @@ use Rattle.demand.specs.Numbers.{ofLone, ofSheetCall, RefusedWith}
 use Rattle.demand.specs.Numbered.{among-more, accepted-with, refused-with, lone-numbered, mapped-numbered, call-numbered}
 use Rattle.numbered.specs.Calls.{Call, replyTo, ofSizes, ofWritten, ofPervaded, ofShapeChecked, ofValidated, ofSize, ofSizesWritten, ofResult, numbersOf, RefusesOnly}
 use Rattle.numbered.specs.Calls.{vg-dim-cmp, vg-dim-cmp-defined, vg-dim-max, vg-dim-join, vg-dim-compatible, vg-dim-row-compatible, vg-merge, vg-join-shapes, vg-compatible-shapes, vg-row-shape, vg-shape-is-any}
-use Rattle.numbered.specs.Calls.{vg-shape-is-scalar, vg-row-count, vg-rank, vg-pervade, vg-union, vg-unrefine, vg-superset, vg-compatible-scalars, vg-compatible-with-boxes, vg-compare, vg-read, vg-shape-record}
+use Rattle.numbered.specs.Calls.{vg-shape-is-scalar, vg-row-count, vg-rank, vg-pervade, vg-union, vg-unrefine, vg-superset, vg-compatible-scalars, vg-compatible-with-boxes, vg-compare, vg-kinds, vg-read, vg-shape-record}
 use Rattle.numbered.specs.Calls.{vg-scalar-record, vg-row, vg-first-row, vg-last-row, vg-unboxed, vg-as-boxes, vg-nth-row, vg-field, vg-join, vg-validate, vg-check-shape, vg-check-scalar, vg-val-ty, vg-val-spec}
 use Rattle.numbered.specs.Calls.{vg-val-scalar, vg-as-dims, vg-val-row-count, vg-val-rank, vg-as-dim, vg-val-row, vg-val-first-row, vg-val-last-row, vg-nums-scalar, vg-check-sheet}
 use Rattle.numbered.specs.CallLaws.{more-numbered, either-numbered, bound-numbered, both-numbered, NotRefused, answered-only, written-only, boxes-only, sizes-only, row-only, sheet-only}
@@ -214,6 +215,7 @@ call-refuses-only (vg-superset a b) = tested-only ofLone (ofScalars supersetOf a
 call-refuses-only (vg-compatible-scalars a b) = tested-only ofLone (ofScalars compatibleScalars a b) (of-types lone-lone (λ t u. compatibleScalars (scalarOf t) (scalarOf u)) a b)
 call-refuses-only (vg-compatible-with-boxes a b) = tested-only ofLone (ofScalars compatibleWithBoxes a b) (of-types lone-lone (λ t u. compatibleWithBoxes (scalarOf t) (scalarOf u)) a b)
 call-refuses-only (vg-compare a b) = compared-only ofLone (ofTypes compare a b) (of-types lone-lone compare a b)
+call-refuses-only (vg-kinds result) = written-only ofResult refl (accepted kindTable) result accepted-with
 call-refuses-only (vg-read t) = counted-only ofLone (mapped nothing (lone t)) (of-one lone-lone nothing t)
 call-refuses-only (vg-shape-record t result) = written-only ofWritten refl (mapped shapeRecord (lone t)) result (of-one lone-written shapeRecord t)
 call-refuses-only (vg-scalar-record t result) = written-only ofWritten refl (mapped scalarRecord (lone t)) result (of-one lone-written scalarRecord t)
@@ -319,6 +321,7 @@ numbers-thirteen (vg-superset a b) = lone-thirteen
 numbers-thirteen (vg-compatible-scalars a b) = lone-thirteen
 numbers-thirteen (vg-compatible-with-boxes a b) = lone-thirteen
 numbers-thirteen (vg-compare a b) = lone-thirteen
+numbers-thirteen (vg-kinds result) = result-thirteen
 numbers-thirteen (vg-read t) = lone-thirteen
 numbers-thirteen (vg-shape-record t result) = written-thirteen
 numbers-thirteen (vg-scalar-record t result) = written-thirteen

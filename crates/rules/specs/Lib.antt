@@ -4,6 +4,7 @@ pub mod Pervade
 pub mod PervadeInSheets
 pub mod Order
 pub mod Scalars
+pub mod KindTable
 pub mod Types
 pub mod Views
 pub mod Examples
@@ -17,6 +18,7 @@ pub mod PervadeSteps
 pub mod OrderLaws
 pub mod OrderSteps
 pub mod ScalarsLaws
+pub mod KindTableLaws
 pub mod FieldsLaws
 pub mod RowsLaws
 pub mod TypesLaws

@@ -1,13 +1,16 @@
 -- Whether boxes are compatible, and their union: one law for each way out of a function.
-use Prim.Native.Nat.{ℕ, _-_}
+use Prim.Native.Nat.{ℕ, _-_, _<_}
 use mathlib.Core.Bool.{Bool, true, false, cond}
 use mathlib.Core.List.{List}
 use mathlib.Core.Path.{_≡_, refl, sym, _∙_, ap, subst}
-use Rattle.model.specs.Types.{Shape, any, Scalar, plain, boxAny, boxAll, boxDef, Ty, ty, boxOf, scalarOf}
+use Rattle.model.specs.Types.{Shape, Scalar, plain, boxAny, boxAll, boxDef, Ty, ty, boxOf, scalarOf}
 use Rattle.format.specs.Records.{boxCode}
 use Rattle.rules.specs.Order.{codeOf, compare}
 use Rattle.rules.specs.Shapes.{compatibleShapes}
-use Rattle.rules.specs.Scalars.{supersetCodes, compatibleCodes, supersetOf, compatibleScalars, compatibleWithBoxes, wider, laterTy, union}
+use Rattle.rules.specs.Scalars.{compatibleCodes, supersetOf, compatibleScalars, compatibleWithBoxes, wider, laterTy, union}
+use Rattle.rules.specs.ScalarsLaws.{supersetCodes-refl}
+use Rattle.rules.specs.KindTable.{kindCount}
+use Rattle.rules.specs.KindTableLaws.{coded-below}
 use Rattle.known.specs.Known.{ScalarAt, TypeAt, HasType}
 use Rattle.known.specs.KnownLaws.{scalar-behind}
 use Rattle.known.specs.declared.View.{View}
@@ -21,6 +24,7 @@ use Rattle.scalar.specs.Calls.{unitedOf, NoAll, InnerIs, compatibleConte
 use Rattle.scalar.specs.declared.Inner.{Inner}
 use Rattle.scalar.specs.declared.Inner.the-variants.{Content, Code}
 use Rattle.scalar.specs.declared.United.{United}
+use Rattle.scalar.specs.declared.United.the-variants.{First}
 
 -- ---- what an All box holds, or what kind another scalar is
 
@@ -50,6 +54,9 @@ module _ (s : List ℕ) (at d : ℕ) {v : Inner} (inner : InnerOf s at v) where
   pub content-there : {c : ℕ} {k : Scalar} → ScalarAt s at d k → v ≡ Content c → HasType s c d
   content-there {c} {k} h e = let x = known e k h in record { type = ty (x .shape) (x .scalar); there = x .there }
 
+  pub code-there : {c : ℕ} {k : Scalar} → ScalarAt s at d k → v ≡ Code c → c < kindCount
+  code-there {c} {k} h e = coded-below k (known e k h .0)
+
 -- ---- by kind, where not both are All
 
 codes-compatible : (k l : Scalar) {x y : ℕ} → x ≡ codeOf k → y ≡ codeOf l → compatibleCodes x y ≡ compatibleScalars k l
@@ -73,6 +80,11 @@ second-apart (boxAll s k) boxAny n = (refl, refl)
 second-apart (boxAll s k) (boxDef m f) n = (refl, refl)
 second-apart (boxAll s k) (boxAll t l) n = absurd n
 
+-- a box is over any box
+stays : (k l : Scalar) → codeOf k ≡ boxCode → codeOf l ≡ boxCode → k ≡ wider k l
+unfolding supersetOf
+stays k l e f = rw (e, f, supersetCodes-refl boxCode)
+
 -- ---- by content, where both are
 
 by-content : (k l : Scalar) (o p : Shape) (m n : Scalar) → k ≡ boxAll o m → l ≡ boxAll p n → compatibleContents (ty o m) (ty p n) ≡ compatibleWithBoxes k l
@@ -94,11 +106,8 @@ module _ (a : List ℕ) (i : ℕ) (b : List ℕ) (j d : ℕ) where
   abbrev pub Compatible : Bool → Type 0
   Compatible r = (k l : Scalar) → ScalarAt a i d k → ScalarAt b j d l → r ≡ compatibleWithBoxes k l
 
-  abbrev pub Unites : United → Type 0
-  Unites r = (k l : Scalar) → ScalarAt a i d k → ScalarAt b j d l → unitedOf r k l ≡ union k l
-
-  abbrev pub Widens : United → ℕ → ℕ → Type 0
-  Widens r x y = (k l : Scalar) → x ≡ codeOf k → y ≡ codeOf l → unitedOf r k l ≡ wider k l
+  abbrev pub BoxesUnite : United → Type 0
+  BoxesUnite r = (k l : Scalar) → ScalarAt a i d k → ScalarAt b j d l → codeOf k ≡ boxCode → codeOf l ≡ boxCode → unitedOf r k l ≡ union k l
 
   module _ {v : Inner} (first : InnerOf a i v) where
     module _ {x y : ℕ} (e : v ≡ Code x) (kind : (d : ℕ) (l : Scalar) → ScalarAt b j d l → y ≡ codeOf l) where
@@ -107,10 +116,9 @@ module _ (a : List ℕ) (i : ℕ) (b : List ℕ) (j d : ℕ) where
           let (coded, apart) = known a i d first e k h in
           is ∙ (codes-compatible k l coded (kind d l g) ∙ sym (first-apart k l apart .0))
 
-      pub kinds-unite : (r : United) → Widens r x y → Unites r
-      kinds-unite r is k l h g =
-          let (coded, apart) = known a i d first e k h in
-          is k l coded (kind d l g) ∙ sym (first-apart k l apart .1)
+    -- Of two boxes the first, where it is no All box.
+    pub first-unites : {x : ℕ} → v ≡ Code x → BoxesUnite First
+    first-unites e k l h g boxed boxed′ = stays k l boxed boxed′ ∙ sym (first-apart k l (known a i d first e k h .1) .1)
 
     box : {c : ℕ} → v ≡ Content c → (k : Scalar) → ScalarAt a i d k → boxCode ≡ codeOf k
     unfolding codeOf
@@ -123,10 +131,8 @@ module _ (a : List ℕ) (i : ℕ) (b : List ℕ) (j d : ℕ) where
             let (coded, apart) = known b j d second f l g in
             is ∙ (codes-compatible k l (box e k h) coded ∙ sym (second-apart k l apart .0))
 
-        pub box-unites : (r : United) → Widens r boxCode y → Unites r
-        box-unites r is k l h g =
-            let (coded, apart) = known b j d second f l g in
-            is k l (box e k h) coded ∙ sym (second-apart k l apart .1)
+        pub second-unites : BoxesUnite First
+        second-unites k l h g boxed boxed′ = stays k l boxed boxed′ ∙ sym (second-apart k l (known b j d second f l g .1) .1)
 
       module _ {m : ℕ} (f : w ≡ Content m) where
         pub all-compatible : {r : Bool} → ((t u : Ty) → TypeAt a c d t → TypeAt b m d u → r ≡ compatibleContents t u) → Compatible r
@@ -136,33 +142,12 @@ module _ (a : List ℕ) (i : ℕ) (b : List ℕ) (j d : ℕ) where
             content (ty (x .shape) (x .scalar)) (ty (y .shape) (y .scalar)) (x .there) (y .there)
             ∙ by-content k l (x .shape) (y .shape) (x .scalar) (y .scalar) (x .is) (y .is)
 
-        pub all-united : (r : United) → ((t u : Ty) → TypeAt a c d t → TypeAt b m d u → unitedOf r (boxOf t) (boxOf u) ≡ cond (compatibleContents t u) (boxOf (laterTy t u)) boxAny) → Unites r
-        all-united r content k l h g =
+        pub all-unite : (r : United) → ((t u : Ty) → TypeAt a c d t → TypeAt b m d u → unitedOf r (boxOf t) (boxOf u) ≡ cond (compatibleContents t u) (boxOf (laterTy t u)) boxAny) → BoxesUnite r
+        all-unite r content k l h g boxed boxed′ =
             let x = known a i d first e k h in
             let y = known b j d second f l g in
             united-content r k l (x .shape) (y .shape) (x .scalar) (y .scalar) (x .is) (y .is)
             (content (ty (x .shape) (x .scalar)) (ty (y .shape) (y .scalar)) (x .there) (y .there))
-
--- ---- two kinds
-
-module _ {x y : ℕ} (k l : Scalar) (kind : x ≡ codeOf k) (kind′ : y ≡ codeOf l) {t : Bool} (e : t ≡ supersetCodes x y) where
-  over : supersetOf k l ≡ t
-  unfolding supersetOf
-  over = rw (← kind, ← kind′) (sym e)
-
-  pub first-wider : t ≡ true → k ≡ wider k l
-  first-wider f = rw (over, f)
-
-  module _ (f : t ≡ false) {u : Bool} (g : u ≡ supersetCodes y x) where
-    under : supersetOf l k ≡ u
-    unfolding supersetOf
-    under = rw (← kind, ← kind′) (sym g)
-
-    pub second-wider : u ≡ true → l ≡ wider k l
-    second-wider n = rw (over, f, under, n)
-
-    pub neither-wider : u ≡ false → plain any ≡ wider k l
-    neither-wider n = rw (over, f, under, n)
 
 -- ---- two contents
 

@@ -1,4 +1,3 @@
-mod KindLaws
 pub mod CallLaws
-mod BoxLaws
+pub mod BoxLaws
 mod UnrefineLaws

@@ -4,7 +4,7 @@ use mathlib.Core.Bool.{Bool, _&&_}
 use mathlib.Core.List.{List}
 use mathlib.Core.Path.{_≡_}
 use lib.ListN.{length}
-use Rattle.model.specs.Types.{any, Shape, Scalar, plain, boxAny, boxAll, boxDef, Fields, Ty, ty, shapeOf, scalarOf, fieldCount}
+use Rattle.model.specs.Types.{Shape, Scalar, plain, boxAny, boxAll, boxDef, Fields, Ty, ty, shapeOf, scalarOf, fieldCount}
 use Rattle.format.specs.Records.{writeFields}
 use Rattle.lent.specs.Over.{over}
 use Rattle.rules.specs.Order.{codeOf}
@@ -14,14 +14,13 @@ use Rattle.known.specs.Known.{TypeAt, FieldsAt}
 use Rattle.scalar.specs.declared.Inner.{Inner}
 use Rattle.scalar.specs.declared.Inner.the-variants.{Content, Code}
 use Rattle.scalar.specs.declared.United.{United}
-use Rattle.scalar.specs.declared.United.the-variants.{First, Second, BoxAny, Any}
+use Rattle.scalar.specs.declared.United.the-variants.{First, Second, BoxAny}
 
--- a union of k and l
+-- a union of the boxes k and l
 abbrev pub unitedOf : United → Scalar → Scalar → Scalar
 unitedOf First k l = k
 unitedOf Second k l = l
 unitedOf BoxAny k l = boxAny
-unitedOf Any k l = plain any
 
 -- the scalar k, whose content begins at c
 pub record AllAt (s : List ℕ) (d : ℕ) (k : Scalar) (c : ℕ) : Type 0 where

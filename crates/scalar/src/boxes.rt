@@ -1,6 +1,6 @@
 // `compatible_with_boxes`: two All boxes are asked for their contents, all others by kind.
 use crate::Inner;
-use crate::kinds::compatible_codes;
+use kind_table::compatible_codes;
 use known::View;
 use known::kind_at;
 use known::look;

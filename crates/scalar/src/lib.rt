@@ -1,18 +1,16 @@
-// Scalars (scalar.rs): rules on kinds by their codes, and on records in lent bytes, whose box contents are walked with a falling
-// depth; and the public calls on whole types.
+// Scalars (scalar.rs): rules on records in lent bytes, by the table of kinds where it decides and else by box contents, which are walked
+// with a falling depth; and the public calls on whole types.
 mod boxes;
-mod kinds;
 mod refinement;
 mod tests;
 mod unions;
 
-pub use kinds::superset_codes;
 pub use refinement::unrefine;
 pub use tests::compatible_scalars;
 pub use tests::compatible_with_boxes;
 pub use tests::superset;
 pub use unions::union;
-pub use unions::unite;
+pub use unions::unite_boxes;
 
 // Where an All box's content begins, or the code of any other scalar.
 pub enum Inner {
@@ -20,10 +18,9 @@ pub enum Inner {
     Code(u64),
 }
 
-// Which scalar a union is.
+// Which box the union of two boxes is.
 pub enum United {
     First,
     Second,
     BoxAny,
-    Any,
 }

@@ -1,7 +1,7 @@
 // Tests of the scalars of two whole types.
 use crate::boxes::compatible_boxes;
-use crate::kinds::compatible_codes;
-use crate::kinds::superset_codes;
+use kind_table::compatible_codes;
+use kind_table::superset_codes;
 use known::kind_at;
 use known::scalar_at;
 use lent::Tested;

@@ -1,16 +1,16 @@
-// `union` of two scalars in their bytes. It is one of the two as it stands, or a box Any, or Any.
+// `union` of two scalars in their bytes: the kind that the table of kinds says; or, where it leaves that to two boxes' contents, one of
+// the two as it stands, or a box Any.
 use crate::Inner;
 use crate::United;
 use crate::boxes::compatible_contents;
 use crate::boxes::inner_at;
-use crate::kinds::superset_codes;
+use kind_table::union_code;
 use known::kind_at;
 use known::scalar_at;
 use lent::Written;
 use lent::hand_over;
-use limits::BOX;
+use limits::CONTENTS_DECIDE;
 use limits::MAX_DEPTH;
-use limits::records::ANY_SCALAR;
 use limits::records::BOX_ANY_SCALAR;
 use order::Ranking;
 use order::compare_types;
@@ -18,14 +18,15 @@ use record::Lone;
 use record::read_two;
 use record::whichever;
 use writer::as_written;
+use writer::write_kind;
 ghost use mathlib.Core.Path.{_≡_};
 ghost use mathlib.Core.Bool.{cond};
-ghost use Rattle.model.specs.Types.{any, Scalar, Ty, plain, boxAny, boxOf};
-ghost use Rattle.format.specs.Records.{writeScalar};
+ghost use Rattle.model.specs.Types.{Scalar, Ty, boxAny, boxOf};
+ghost use Rattle.format.specs.Records.{boxCode, writeScalar};
 ghost use Rattle.format.specs.Outcome.{accepted, deliver};
 ghost use Rattle.lent.specs.Written.{delivered};
 ghost use Rattle.rules.specs.Order.{codeOf};
-ghost use Rattle.rules.specs.Scalars.{wider, laterTy, union};
+ghost use Rattle.rules.specs.Scalars.{laterTy, union};
 ghost use Rattle.known.specs.Known.{ScalarAt, TypeAt, HasScalar, HasType};
 ghost use Rattle.known.specs.Whole.{ofScalars};
 ghost use Rattle.scalar.specs.Calls.{unitedOf, compatibleContents};
@@ -40,11 +41,14 @@ pub fn union(a: &[u8], b: &[u8], result: &mut [u8]) -> Written
     };
     let i = scalar_at(a, 0);
     let j = scalar_at(b, 0);
-    match unite(a, i, b, j, MAX_DEPTH - 1) {
+    let code = union_code(kind_at(a, i), kind_at(b, j));
+    if code != CONTENTS_DECIDE {
+        return write_kind(code, &mut *result);
+    }
+    match unite_boxes(a, i, b, j, MAX_DEPTH - 1) {
         United::First => hand_over(&a[i..], &mut *result),
         United::Second => hand_over(&b[j..], &mut *result),
         United::BoxAny => hand_box_any(&mut *result),
-        United::Any => hand_any(&mut *result),
     }
 }
 
@@ -54,23 +58,17 @@ fn hand_box_any(result: &mut [u8]) -> Written
     hand_over(&BOX_ANY_SCALAR, &mut *result)
 }
 
-fn hand_any(result: &mut [u8]) -> Written
-    ensures { λ r. ⌜ delivered r (now (result .exit)) ≡ deliver (accepted (writeScalar (plain any))) (now (result .entry)) ⌝ }
-{
-    hand_over(&ANY_SCALAR, &mut *result)
-}
-
-// Two scalars inside bytes.
-pub fn unite(a: &[u8], i: usize, b: &[u8], j: usize, depth: u64) -> United
+// Two boxes inside bytes: the first, unless both are All boxes.
+pub fn unite_boxes(a: &[u8], i: usize, b: &[u8], j: usize, depth: u64) -> United
     requires { ⌜ HasScalar (now a) i depth × HasScalar (now b) j depth ⌝ }
-    ensures { λ r. ⌜ ((k l : Scalar) → ScalarAt (now (a .entry)) i depth k → ScalarAt (now (b .entry)) j depth l → unitedOf r k l ≡ union k l) ⌝ }
+    ensures { λ r. ⌜ ((k l : Scalar) → ScalarAt (now (a .entry)) i depth k → ScalarAt (now (b .entry)) j depth l → codeOf k ≡ boxCode → codeOf l ≡ boxCode → unitedOf r k l ≡ union k l) ⌝ }
 {
     match inner_at(a, i) {
         Inner::Content(content) => match inner_at(b, j) {
             Inner::Content(other) => unite_contents(a, content, b, other, depth),
-            Inner::Code(code) => widen(BOX, code),
+            Inner::Code(_) => United::First,
         },
-        Inner::Code(code) => widen(code, kind_at(b, j)),
+        Inner::Code(_) => United::First,
     }
 }
 
@@ -88,17 +86,4 @@ fn unite_contents(a: &[u8], i: usize, b: &[u8], j: usize, depth: u64) -> United
     } else {
         United::BoxAny
     }
-}
-
-// Whichever kind is over the other, tried for the first before the second; else Any.
-fn widen(x: u64, y: u64) -> United
-    ensures { λ r. ⌜ ((k l : Scalar) → x ≡ codeOf k → y ≡ codeOf l → unitedOf r k l ≡ wider k l) ⌝ }
-{
-    if superset_codes(x, y) {
-        return United::First;
-    }
-    if superset_codes(y, x) {
-        return United::Second;
-    }
-    United::Any
 }

@@ -4,29 +4,24 @@ use native.Mathlib.Omega.{arith}
 use mathlib.Core.List.{List, [], _∷_}
 use mathlib.Core.Path.{_≡_, refl, sym, _∙_, ap}
 use lib.Ieee.{Float}
-use Rattle.model.specs.Types.{Kind, bool, nat, int, num, complex, ascii, char, stream, any, Ty, ty, scalarOf}
+use Rattle.model.specs.Types.{Kind, plain, Ty, ty, scalarOf}
 use Rattle.format.specs.Records.{code, writeScalar}
 use Rattle.format.specs.Outcome.{Outcome, accepted, refused, mapped, lone, scalarRecord}
+use Rattle.rules.specs.Order.{codeOf}
+use Rattle.rules.specs.KindTableLaws.{coded-below}
 use Rattle.number.specs.Kind.{kindOfNumbers}
 use Rattle.val.specs.declared.Value as declared
 use Rattle.val.specs.declared.Value.the-variants.{Num, List as Listed, Of}
-use Rattle.val.specs.Answers.{valueOf, kindRecord}
+use Rattle.writer.specs.Kinds.{kindRecord}
+use Rattle.val.specs.Answers.{valueOf}
 use Rattle.val.specs.Values.{numsScalar, valueScalar}
 use Rattle.val.proofs.WriteLaws.{write-plain}
 use Rattle.val.proofs.HandedLaws.{maps-number, maps-list, maps-type}
 
 -- every code is a byte
 pub code-byte : (k : Kind) → code k < 256
-unfolding code
-code-byte bool = omega arith
-code-byte nat = omega arith
-code-byte int = omega arith
-code-byte num = omega arith
-code-byte complex = omega arith
-code-byte ascii = omega arith
-code-byte char = omega arith
-code-byte stream = omega arith
-code-byte any = omega arith
+unfolding codeOf
+code-byte k = omega (arith, coded-below (plain k) {c = code k} refl)
 
 pub scalar-of-kind : (xs : List Float) {kind : ℕ} → kind ≡ code (kindOfNumbers xs) → kindRecord kind ≡ writeScalar (numsScalar xs)
 unfolding numsScalar

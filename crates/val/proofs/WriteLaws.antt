@@ -1,39 +1,20 @@
 -- What the writing functions lay down, and what they deliver.
-use Prim.Native.Nat.{ℕ, _+_, _≤_}
-use native.Mathlib.Omega.{arith}
+use Prim.Native.Nat.{ℕ}
 use mathlib.Core.List.{List, [], map}
 use mathlib.Core.Option.{none}
 use mathlib.Core.Path.{_≡_, refl, sym, _∙_, ap}
-use lib.ListN.{length, take, length-append}
+use lib.ListN.{take}
 use Rattle.model.specs.Types.{Dim, shape, Kind, num, plain, ty}
 use Rattle.format.specs.Reader.{Bytes}
-use Rattle.format.specs.Records.{code, dimOf, writeShape, writeScalar, writeTy}
+use Rattle.format.specs.Records.{code, dimOf, writeScalar, writeTy}
 use Rattle.format.specs.ReadWrite.{lone-write}
 use Rattle.format.specs.Outcome.{accepted, mapped, lone}
-use Rattle.lent.specs.Over.{over, over-over}
 use Rattle.record.specs.Answers.{nothing, dimsOf}
 use Rattle.record.specs.declared.Dims.{Dims}
 use Rattle.record.proofs.LoneLaws.{passed-accepted}
-use Rattle.val.specs.Answers.{kindRecord, closedRecord}
+use Rattle.writer.specs.Kinds.{kindRecord}
+use Rattle.val.specs.Answers.{closedRecord}
 use Rattle.val.specs.Values.{numTy}
-
-module _ (ds : List Dim) (kind : ℕ) where
-  pub length-closed : length (closedRecord ds kind) ≡ length (writeShape (shape ds none)) + 3
-  length-closed = length-append (writeShape (shape ds none)) (kindRecord kind)
-
-  pub lay-closed :
-      (out : List ℕ)
-      {n : ℕ}
-      {one two : List ℕ} →
-      n ≡ length (writeShape (shape ds none)) →
-      n + 3 ≤ length out →
-      one ≡ over out 0 (writeShape (shape ds none)) →
-      two ≡ over one n (kindRecord kind) →
-      two ≡ over out 0 (closedRecord ds kind)
-  lay-closed out {n} {one} {two} place fits laid then =
-      let w : List ℕ = writeShape (shape ds none) in
-      let k : n ≡ 0 + length w = omega arith in
-      then ∙ ap (λ x. over x n (kindRecord kind)) laid ∙ ap (λ j. over (over out 0 w) j (kindRecord kind)) k ∙ over-over out 0 w (omega arith) (kindRecord kind)
 
 -- a closed type of a plain kind, by its kind's code
 pub write-closed : (ds : List Dim) (k : Kind) → writeTy (ty (shape ds none) (plain k)) ≡ closedRecord ds (code k)

@@ -1,14 +1,15 @@
 -- What is handed in, and what the answers of this crate say, in the terms of the definitions: for each case of each, the paper's number
 -- and values.
 use Prim.Native.Nat.{ℕ}
-use mathlib.Core.List.{List, _∷_, [], _++_}
+use mathlib.Core.List.{List, _++_}
 use mathlib.Core.Option.{Option, none, some}
 use lib.Ieee.{Float}
 use Rattle.model.specs.Types.{Dim, shape, Ty}
-use Rattle.format.specs.Records.{scalarMark, markBytes, dimOf, writeShape}
+use Rattle.format.specs.Records.{dimOf, writeShape}
 use Rattle.format.specs.Outcome.{Outcome, accepted, refused, mapped, lone, delivery}
 use Rattle.record.specs.Answers.{dimsOf}
 use Rattle.rules.specs.Types.{intoRow, intoFirstRow, intoLastRow}
+use Rattle.writer.specs.Kinds.{kindRecord}
 use Rattle.val.specs.declared.Value as declared
 use Rattle.val.specs.declared.Value.the-variants.{Num, List as Listed, Of}
 use Rattle.val.specs.declared.MaybeDim.{MaybeDim}
@@ -63,11 +64,6 @@ rowDelivered (Number x) buffer = handed x buffer
 rowDelivered (Wrote n) buffer = written (delivery (accepted n) buffer)
 rowDelivered (RefusedRow k p) buffer = written (delivery (refused k p) buffer)
 
--- ---- records by the code of a kind
-
--- a plain scalar's record, and that of a type with these sizes and no closing ones
-abbrev pub kindRecord : ℕ → List ℕ
-kindRecord kind = markBytes scalarMark ++ (kind ∷ [])
-
+-- the record of a type with these sizes and no closing ones, by the code of its kind
 abbrev pub closedRecord : List Dim → ℕ → List ℕ
 closedRecord ds kind = writeShape (shape ds none) ++ kindRecord kind

@@ -1,25 +1,21 @@
-// How the answers of this crate are written: a closed type of a plain kind, a plain scalar alone, or a type's own bytes.
+// How the answers of this crate are written: a closed type of a plain kind, or a type's own bytes.
 use lent::Written;
 use lent::hand_over;
 use limits::MAX_SIZES;
-use limits::refusal::TOO_SHORT;
 use record::Dims;
 use record::DynShape;
 use record::Lone;
 use record::no_dims;
 use record::read_lone;
-use writer::PLAIN_BYTES;
 use writer::as_written;
-use writer::put_plain;
-use writer::put_shape;
-use writer::shape_length;
+use writer::write_plain;
 ghost use mathlib.Core.Path.{_≡_};
 ghost use mathlib.Core.List.{[], _∷_};
 ghost use Rattle.format.specs.Records.{dimOf, writeTy};
 ghost use Rattle.format.specs.Outcome.{accepted, deliver, mapped, lone};
 ghost use Rattle.lent.specs.Written.{delivered};
 ghost use Rattle.record.specs.Answers.{dimsOf};
-ghost use Rattle.val.specs.Answers.{kindRecord, closedRecord};
+ghost use Rattle.val.specs.Answers.{closedRecord};
 
 // A closed type of these sizes, whose scalar is plain and has the kind's code.
 pub fn write_closed(dims: Dims, kind: u8, result: &mut [u8]) -> Written
@@ -30,28 +26,7 @@ pub fn write_closed(dims: Dims, kind: u8, result: &mut [u8]) -> Written
         suffix: no_dims(),
         closed: true,
     };
-    let n = shape_length(shape);
-    if result.len() < n + PLAIN_BYTES {
-        return Written::Refused {
-            number: TOO_SHORT,
-            place: 0,
-        };
-    }
-    put_shape(&mut *result, 0, shape);
-    Written::Wrote(put_plain(&mut *result, n, kind))
-}
-
-// A plain scalar, of the kind's code.
-pub fn write_kind(kind: u8, result: &mut [u8]) -> Written
-    ensures { λ r. ⌜ delivered r (now (result .exit)) ≡ deliver (accepted (kindRecord kind)) (now (result .entry)) ⌝ }
-{
-    if result.len() < PLAIN_BYTES {
-        return Written::Refused {
-            number: TOO_SHORT,
-            place: 0,
-        };
-    }
-    Written::Wrote(put_plain(&mut *result, 0, kind))
+    write_plain(shape, kind, &mut *result)
 }
 
 // A type as it was handed in.

@@ -36,7 +36,7 @@ use Rattle.known.specs.declared.Span.{Span}
 use Rattle.known.specs.declared.View.{View}
 use Rattle.known.specs.declared.View.the-variants.{Plain, BoxAny, BoxAll, BoxDef}
 use Rattle.validate.specs.Lists.{ListAt}
-use Rattle.validate.specs.Plans.{Pair, scalarAfter, anyBytes, InsideIs, PairsAre, Viewed, HasView, NotAny, AllAgainst, DefAgainst, asNamed, asCopies, Copying}
+use Rattle.validate.specs.Plans.{SomeView, Pair, scalarAfter, anyBytes, InsideIs, PairsAre, Viewed, HasView, NotAny, AllAgainst, DefAgainst, asNamed, asCopies, Copying}
 use Rattle.validate.specs.declared.Items.{Items}
 use Rattle.validate.proofs.ListLaws.{has, list-copies}
 
@@ -67,6 +67,9 @@ view-of {s} {at} {place} begins seen t h = record { place = place; seen = seen w
 module _ {s : List ℕ} {k : Scalar} {v : View} (x : Viewed s k v) where
   pub as-plain : {c e : ℕ} → v ≡ Plain c e → SeenPlain (x .place) k c e
   as-plain e = rw e at (x .seen)
+
+  pub some-view : SomeView v
+  some-view = record { bytes = s; has = record { scalar = k; viewed = x } }
 
   pub as-box-any : {e : ℕ} → v ≡ BoxAny e → k ≡ boxAny
   as-box-any {e = n} e = let h : SeenAny (x .place) k n = rw e at (x .seen) in h .is

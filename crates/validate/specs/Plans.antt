@@ -90,14 +90,20 @@ Planned {s} {i} {t} {j} {o} {a} w p = Plans s t o a (scalarAfter w) (w .spec-sca
 
 -- ---- what is known when a plan is made
 
--- A view of a scalar, wherever it stands.
+-- A view of this scalar, wherever in the bytes it stands.
 pub record Viewed (s : List ℕ) (k : Scalar) (v : View) : Type 0 where
   pub place : ℕ
   pub seen : Seen s place (maxDepth - 1) k v
 
+-- A view of some scalar in these bytes.
 pub record HasView (s : List ℕ) (v : View) : Type 0 where
   pub scalar : Scalar
   pub viewed : Viewed s scalar v
+
+-- A view of some scalar in some bytes.
+pub record SomeView (v : View) : Type 0 where
+  pub bytes : List ℕ
+  pub has : HasView bytes v
 
 -- `as_mut_fields` under a name on a scalar of a shape, and copies of a type as many as that shape asks for
 abbrev pub asNamed : ℕ → ℕ → Shape → Scalar → List ℕ → ℕ → Outcome Scalar

@@ -1,6 +1,7 @@
 // What a spec's scalar asks of a type's, with nothing written yet. Box contents are left to the walk.
 use crate::Items;
 use crate::Plan;
+use kind_table::superset_codes;
 use known::View;
 use known::any_shape_at;
 use known::look;
@@ -16,7 +17,6 @@ use limits::UNKNOWN;
 use limits::refusal::TOO_MANY;
 use limits::refusal::WRONG_SCALAR;
 use record::DynShape;
-use scalar::superset_codes;
 use writer::size_count;
 ghost use mathlib.Core.Path.{_≡_};
 ghost use mathlib.Core.Bool.{true, false};
@@ -31,7 +31,7 @@ ghost use Rattle.rules.specs.Types.{whollyAny};
 ghost use Rattle.validation.specs.AsFields.{fieldsFor};
 ghost use Rattle.validation.specs.MeasureLaws.{limited};
 ghost use Rattle.known.specs.Known.{TypeAt, HasType};
-ghost use Rattle.validate.specs.Plans.{Viewed, HasView, Pair, Planned, PlannedKeep, PlannedTake, PlannedAll, PlannedDef, PlannedCopies, PlannedNamed};
+ghost use Rattle.validate.specs.Plans.{Viewed, HasView, SomeView, Pair, Planned, PlannedKeep, PlannedTake, PlannedAll, PlannedDef, PlannedCopies, PlannedNamed};
 ghost use Rattle.validate.specs.declared.Plan.the-variants.{Pairs};
 
 // The code of a scalar.
@@ -129,7 +129,7 @@ fn pair_up(wanted: Items, own: Items, fresh: bool, name: usize, borrowed: bool) 
 
 // An All spec, whose content stands at `content`.
 fn plan_all(spec: &[u8], i: usize, content: usize, v: View, others: u64, above: u64) -> Plan
-    requires { ⌜ HasType (now spec) i maxDepth × (others ≤ maxTypes) × (above ≤ maxDepth) ⌝ }
+    requires { ⌜ SomeView v × HasType (now spec) i maxDepth × (others ≤ maxTypes) × (above ≤ maxDepth) ⌝ }
     ensures { λ r. ⌜ PlannedAll (now (spec .entry)) i content v others above r ⌝ }
 {
     match v {
@@ -168,7 +168,7 @@ fn plan_unnamed(
     others: u64,
     above: u64,
 ) -> Plan
-    requires { ⌜ HasType (now spec) i maxDepth × (others ≤ maxTypes) × (above ≤ maxDepth) ⌝ }
+    requires { ⌜ SomeView v × HasType (now spec) i maxDepth × (others ≤ maxTypes) × (above ≤ maxDepth) ⌝ }
     ensures { λ r. ⌜ PlannedDef (now (spec .entry)) i name false fields limit v others above r ⌝ }
 {
     match v {

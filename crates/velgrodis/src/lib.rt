@@ -13,6 +13,7 @@ mod values;
 pub use scalars::vg_compare;
 pub use scalars::vg_compatible_scalars;
 pub use scalars::vg_compatible_with_boxes;
+pub use scalars::vg_kinds;
 pub use scalars::vg_superset;
 pub use scalars::vg_union;
 pub use scalars::vg_unrefine;

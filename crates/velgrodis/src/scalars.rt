@@ -1,13 +1,14 @@
-// Calls on the scalars of types, and the order of two types.
+// Calls on the scalars of types, the order of two types, and the table of kinds.
 use crate::Answer;
 use crate::answers::of_comparison;
 use crate::answers::of_tested;
 use crate::answers::of_written;
 ghost use mathlib.Core.Path.{_≡_};
 ghost use Rattle.format.specs.Records.{writeScalar};
-ghost use Rattle.format.specs.Outcome.{deliver};
+ghost use Rattle.format.specs.Outcome.{accepted, deliver};
 ghost use Rattle.rules.specs.Order.{compare};
 ghost use Rattle.rules.specs.Scalars.{union, unrefine, supersetOf, compatibleScalars, compatibleWithBoxes};
+ghost use Rattle.rules.specs.KindTable.{kindTable};
 ghost use Rattle.known.specs.Whole.{ofScalar, ofScalars, ofTypes};
 ghost use Rattle.velgrodis.specs.Answers.{handed, written, tested, compared};
 
@@ -53,4 +54,12 @@ pub extern "C" fn vg_compare(a: &[u8], b: &[u8]) -> Answer
     ensures { λ r. ⌜ r ≡ compared (ofTypes compare (now (a .entry)) (now (b .entry))) ⌝ }
 {
     of_comparison(order::compare(a, b))
+}
+
+// The table of kinds.
+#[no_mangle]
+pub extern "C" fn vg_kinds(result: &mut [u8]) -> Answer
+    ensures { λ r. ⌜ handed r (now (result .exit)) ≡ written (deliver (accepted kindTable) (now (result .entry))) ⌝ }
+{
+    of_written(kind_table::kinds(&mut *result))
 }

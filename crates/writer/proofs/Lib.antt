@@ -1,2 +1,3 @@
 mod Laws
 mod Records
+mod PlainLaws

@@ -25,11 +25,12 @@ ghost use lib.ListN.{length};
 ghost use Rattle.format.specs.Suffices.{shapeBytes};
 ghost use Rattle.model.specs.Limits.{maxSizes};
 ghost use Rattle.format.specs.Reader.{bytesOf};
-ghost use Rattle.format.specs.Records.{shapeMark, scalarMark, markBytes, boxStart, countOf, writeDims, writeShape};
+ghost use Rattle.format.specs.Records.{shapeMark, markBytes, boxStart, countOf, writeDims, writeShape};
 ghost use Rattle.format.specs.Outcome.{accepted, deliver, mapped, lone, shapeRecord, scalarRecord};
 ghost use Rattle.lent.specs.Over.{over};
 ghost use Rattle.lent.specs.Written.{delivered};
 ghost use Rattle.record.specs.Answers.{dimsOf, closingFor, shapeFor};
+ghost use Rattle.writer.specs.Kinds.{kindRecord};
 
 // Eight bytes, low byte first.
 fn put_number(out: &mut [u8], at: usize, n: u64)
@@ -127,12 +128,12 @@ pub fn put_shape(out: &mut [u8], at: usize, shape: DynShape) -> usize
 }
 
 // Bytes of a plain scalar's record.
-pub const PLAIN_BYTES: usize = 3;
+const PLAIN_BYTES: usize = 3;
 
 // A plain scalar's record, by the code of its kind, from `at` on. Answers the place after it.
-pub fn put_plain(out: &mut [u8], at: usize, kind: u8) -> usize
+fn put_plain(out: &mut [u8], at: usize, kind: u8) -> usize
     requires { ⌜ at + 3 ≤ length (now out) ⌝ }
-    ensures { λ r. ⌜ (r ≡ at + 3) × (now (out .exit) ≡ over (now (out .entry)) at (markBytes scalarMark ++ (kind ∷ []))) ⌝ }
+    ensures { λ r. ⌜ (r ≡ at + 3) × (now (out .exit) ≡ over (now (out .entry)) at (kindRecord kind)) ⌝ }
 {
     out[at] = marks::SCALAR.first;
     out[at + 1] = marks::SCALAR.second;
@@ -167,6 +168,34 @@ pub fn write_shape(shape: DynShape, result: &mut [u8]) -> Written
     }
     put_shape(&mut *result, 0, shape);
     Written::Wrote(n)
+}
+
+// A plain scalar's record, to the front of the result.
+pub fn write_kind(kind: u8, result: &mut [u8]) -> Written
+    ensures { λ r. ⌜ delivered r (now (result .exit)) ≡ deliver (accepted (kindRecord kind)) (now (result .entry)) ⌝ }
+{
+    if result.len() < PLAIN_BYTES {
+        return Written::Refused {
+            number: TOO_SHORT,
+            place: 0,
+        };
+    }
+    Written::Wrote(put_plain(&mut *result, 0, kind))
+}
+
+// A type whose scalar is plain, to the front of the result.
+pub fn write_plain(shape: DynShape, kind: u8, result: &mut [u8]) -> Written
+    ensures { λ r. ⌜ delivered r (now (result .exit)) ≡ deliver (accepted (writeShape (shapeFor shape) ++ kindRecord kind)) (now (result .entry)) ⌝ }
+{
+    let n = shape_length(shape);
+    if result.len() < n + PLAIN_BYTES {
+        return Written::Refused {
+            number: TOO_SHORT,
+            place: 0,
+        };
+    }
+    put_shape(&mut *result, 0, shape);
+    Written::Wrote(put_plain(&mut *result, n, kind))
 }
 
 // The record of a type's shape.

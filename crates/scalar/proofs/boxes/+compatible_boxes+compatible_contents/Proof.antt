@@ -1,7 +1,8 @@
 use native.Mathlib.Omega.{arith}
 use borrow.Author.Needs.{needs}
 use Rattle.known.specs.KnownLaws.{deep, has-scalar}
-use Rattle.scalar.proofs.BoxLaws.{content-there, kinds-compatible, box-compatible, all-compatible, contents-no, contents-shapes}
+use Rattle.scalar.proofs.CallLaws.{kind-below}
+use Rattle.scalar.proofs.BoxLaws.{content-there, code-there, kinds-compatible, box-compatible, all-compatible, contents-no, contents-shapes}
 use Prim.Native.Nat.{ℕ, _<_, _+_, _*_}
 use borrow.Fn.Kinds.{In}
 use borrow.Fn.PlainCycle.{Measures, is, falls, and}
@@ -15,7 +16,7 @@ use Rattle.known.proofs.kind_at.Reads as kind-at-reads
 use Rattle.known.proofs.scalar_at.Reads as scalar-at-reads
 use Rattle.known.proofs.shape_at.Reads as shape-at-reads
 use Rattle.scalar.proofs.boxes.inner_at.Reads as inner-at-reads
-use Rattle.scalar.proofs.kinds.compatible_codes.Reads as compatible-codes-reads
+use Rattle.kind_table.proofs.compatible_codes.Reads as compatible-codes-reads
 use Rattle.shape.proofs.compatible_with.Reads as compatible-with-reads
 use Rattle.scalar.proofs.boxes.+compatible_boxes+compatible_contents.{statement}
 use Rattle.scalar.proofs.boxes.+compatible_boxes+compatible_contents.Tie.{close}
@@ -156,7 +157,11 @@ compatible-boxes-compatible-codes-requires :
       kind-at-reads.Asked,
       kind-at-reads.Learnt,
     ) (compatible-boxes-at t) compatible-boxes.Post
-compatible-boxes-compatible-codes-requires t c κs = search needs
+compatible-boxes-compatible-codes-requires t c κs =
+    let entry = c .before .before .before .before .before .before .before .before .before .before in
+    let at-inner-at2 = c .before .before .before in
+    let args = entry .args in
+    (omega arith, code-there (args .b .now) (args .j) (args .depth) (at-inner-at2 .inner-at2 .ensures) (entry .pre .1 .1 .there) (c .before .code .given .1))
 
 compatible-boxes-enum-known-code-2 : (t : ℕ) → compatible-boxes-lts.Need-enum-known-code-2 (
   inner-at-reads.Asked,
@@ -196,7 +201,13 @@ compatible-boxes-compatible-codes-requires-2 :
       kind-at-reads.Asked,
       kind-at-reads.Learnt,
     ) (compatible-boxes-at t) compatible-boxes.Post
-compatible-boxes-compatible-codes-requires-2 t c κs = search needs
+compatible-boxes-compatible-codes-requires-2 t c κs =
+    let entry = c .before .before .before .before .before .before .before in
+    let at-inner-at = c .before .before .before .before in
+    let at-code2 = c .before .before in
+    let args = entry .args in
+    let first = code-there (args .a .now) (args .i) (args .depth) (at-inner-at .inner-at .ensures) (entry .pre .1 .0 .there) (at-code2 .code2 .given .1) in
+    (first, kind-below (args .b .now) (args .j) (c .kind-at .ensures) (args .depth, entry .pre .1 .1))
 
 compatible-boxes-returns : (t : ℕ) → compatible-boxes-lts.Need-returns (
   inner-at-reads.Asked,

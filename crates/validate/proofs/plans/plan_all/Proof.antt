@@ -1,12 +1,14 @@
 use mathlib.Core.Path.{sym, subst}
+use native.Mathlib.Omega.{arith}
 use borrow.Author.Needs.{needs}
 use Rattle.validate.specs.Plans.{scalarAfter, Planned}
-use Rattle.validate.proofs.PlanLaws.{tested, specTy, all-plain, all-any, all-inside, all-pairs}
+use Rattle.rules.specs.KindTableLaws.{coded-below}
+use Rattle.validate.proofs.PlanLaws.{code-plain, tested, specTy, all-plain, all-any, all-inside, all-pairs}
 use Rattle.validate.proofs.plans.plan_all.Statement.{statement}
 use Rattle.validate.proofs.plans.plan_all.Tie as tie
 use Rattle.validate.proofs.plans.plan_all.Reads as reads
 use Rattle.validate.proofs.plans.plan_all.Lts as lts
-use Rattle.scalar.proofs.superset_codes.Reads as superset-codes-reads
+use Rattle.kind_table.proofs.superset_codes.Reads as superset-codes-reads
 use Rattle.validate.proofs.plans.keep_if.Reads as keep-if-reads
 use Rattle.validate.proofs.plans.pair_up.Reads as pair-up-reads
 use Rattle.validate.proofs.plans.take_if.Reads as take-if-reads
@@ -15,7 +17,10 @@ enum-known-v : tie.Need-enum-known-v
 enum-known-v c = search needs
 
 superset-codes-requires : tie.Need-superset-codes-requires
-superset-codes-requires c κs = search needs
+superset-codes-requires c κs =
+    let entry = c .before .before .before .before in
+    let own = entry .pre .0 .has .viewed in
+    (omega arith, coded-below _ (code-plain own (c .before .v .given .1)))
 
 keep-if-requires : tie.Need-keep-if-requires
 keep-if-requires c κs = search needs

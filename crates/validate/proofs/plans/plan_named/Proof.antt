@@ -1,14 +1,16 @@
 use mathlib.Core.Path.{sym, ap, subst, _∙_}
+use native.Mathlib.Omega.{arith}
 use borrow.Author.Needs.{needs}
 use Rattle.validation.specs.AsFields.{fieldsFor}
 use Rattle.validate.specs.Plans.{scalarAfter, Planned}
-use Rattle.validate.proofs.PlanLaws.{tested, any-coded, not-coded, view-content, content-span, named-plain, named-own, named-given, copies-plain, copies-any, copies-all}
+use Rattle.rules.specs.KindTableLaws.{coded-below}
+use Rattle.validate.proofs.PlanLaws.{code-plain, tested, any-coded, not-coded, view-content, content-span, named-plain, named-own, named-given, copies-plain, copies-any, copies-all}
 use Rattle.validate.proofs.plans.plan_named.Statement.{statement}
 use Rattle.validate.proofs.plans.plan_named.Tie as tie
 use Rattle.validate.proofs.plans.plan_named.Reads as reads
 use Rattle.validate.proofs.plans.plan_named.Lts as lts
 use Rattle.known.proofs.span_at.Reads as span-at-reads
-use Rattle.scalar.proofs.superset_codes.Reads as superset-codes-reads
+use Rattle.kind_table.proofs.superset_codes.Reads as superset-codes-reads
 use Rattle.validate.proofs.plans.fields_for.Reads as fields-for-reads
 use Rattle.validate.proofs.plans.keep_if.Reads as keep-if-reads
 use Rattle.validate.proofs.plans.pair_up.Reads as pair-up-reads
@@ -32,7 +34,11 @@ returns c =
     λ s i j w p k. c .plan-copies .ensures s (args .ty .now) i j w (copies-plain w k (at-fields-for .fields-for .ensures ∙ ap (λ q. fieldsFor q (args .limit)) p) (at-v .v .given .1) (any-coded (c .before .if1 .taken)))
 
 superset-codes-requires : tie.Need-superset-codes-requires
-superset-codes-requires c κs = search needs
+superset-codes-requires c κs =
+    let entry = c .before .before .before .before .before .before in
+    let at-v = c .before .before in
+    let own = entry .pre .0 .viewed in
+    (omega arith, coded-below _ (code-plain own (at-v .v .given .1)))
 
 keep-if-requires : tie.Need-keep-if-requires
 keep-if-requires c κs = search needs

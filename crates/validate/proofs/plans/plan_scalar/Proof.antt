@@ -1,10 +1,12 @@
 use Prim.Native.Nat.{_-_}
 use mathlib.Core.Path.{_∙_}
+use native.Mathlib.Omega.{arith}
 use borrow.Author.Needs.{needs}
 use Rattle.known.specs.KnownLaws.{has-scalar}
 use Rattle.model.specs.Limits.{maxDepth}
 use Rattle.validate.specs.Plans.{scalarAfter}
-use Rattle.validate.proofs.PlanLaws.{tested, within, view-of, as-plain, as-box-any, plan-any, plan-plain, plan-box-any, specTy, typeTy, pair-bounds, wholly, all-against, def-against}
+use Rattle.rules.specs.KindTableLaws.{coded-below}
+use Rattle.validate.proofs.PlanLaws.{some-view, code-plain, tested, within, view-of, as-plain, as-box-any, plan-any, plan-plain, plan-box-any, specTy, typeTy, pair-bounds, wholly, all-against, def-against}
 use Rattle.validate.proofs.ListLaws.{has}
 use Rattle.validate.proofs.plans.plan_scalar.Statement.{statement}
 use Rattle.validate.proofs.plans.plan_scalar.Tie as tie
@@ -14,7 +16,7 @@ use Rattle.known.proofs.look.Reads as look-reads
 use Rattle.known.proofs.any_shape_at.Reads as any-shape-at-reads
 use Rattle.known.proofs.scalar_at.Reads as scalar-at-reads
 use Rattle.known.proofs.shape_at.Reads as shape-at-reads
-use Rattle.scalar.proofs.superset_codes.Reads as superset-codes-reads
+use Rattle.kind_table.proofs.superset_codes.Reads as superset-codes-reads
 use Rattle.validate.proofs.plans.code_of.Reads as code-of-reads
 use Rattle.validate.proofs.plans.keep_if.Reads as keep-if-reads
 use Rattle.validate.proofs.plans.plan_all.Reads as plan-all-reads
@@ -79,7 +81,17 @@ code-of-requires : tie.Need-code-of-requires
 code-of-requires c κs = search needs
 
 superset-codes-requires : tie.Need-superset-codes-requires
-superset-codes-requires c κs = search needs
+superset-codes-requires c κs =
+    let entry = c .before .before .before .before .before .before .before .before .before .before .before .before .before in
+    let at-scalar-at = c .before .before .before .before .before .before .before .before .before .before in
+    let at-look = c .before .before .before .before .before .before .before .before .before in
+    let at-scalar-at2 = c .before .before .before .before .before .before .before .before in
+    let at-look2 = c .before .before .before .before .before .before .before in
+    let at-a = c .before .before in
+    let w = entry .pre in
+    let wanted = view-of (at-scalar-at .scalar-at .ensures) (at-look .look .ensures) (specTy w) (w .spec-there) in
+    let own = view-of (at-scalar-at2 .scalar-at2 .ensures) (at-look2 .look2 .ensures) (typeTy w) (w .type-there) in
+    (coded-below _ (code-plain wanted (at-a .a .given .1)), coded-below _ (c .code-of .ensures (entry .args .ty .now) (w .type-scalar) own))
 
 keep-if-requires : tie.Need-keep-if-requires
 keep-if-requires c κs = search needs
@@ -91,7 +103,13 @@ code-of-requires-2 : tie.Need-code-of-requires-2
 code-of-requires-2 c κs = search needs
 
 superset-codes-requires-2 : tie.Need-superset-codes-requires-2
-superset-codes-requires-2 c κs = search needs
+superset-codes-requires-2 c κs =
+    let entry = c .before .before .before .before .before .before .before .before .before .before .before .before in
+    let at-scalar-at2 = c .before .before .before .before .before .before .before in
+    let at-look2 = c .before .before .before .before .before .before in
+    let w = entry .pre in
+    let own = view-of (at-scalar-at2 .scalar-at2 .ensures) (at-look2 .look2 .ensures) (typeTy w) (w .type-there) in
+    (omega arith, coded-below _ (c .code-of2 .ensures (entry .args .ty .now) (w .type-scalar) own))
 
 keep-if-requires-2 : tie.Need-keep-if-requires-2
 keep-if-requires-2 c κs = search needs
@@ -102,8 +120,12 @@ enum-known-a-2 c = search needs
 plan-all-requires : tie.Need-plan-all-requires
 plan-all-requires c κs =
     let entry = c .before .before .before .before .before .before .before .before .before .before .before .before in
-    let b = pair-bounds (entry .pre) in
-    (has (entry .pre .spec-there), b .0, b .1)
+    let at-scalar-at2 = c .before .before .before .before .before .before .before in
+    let at-look2 = c .before .before .before .before .before .before in
+    let w = entry .pre in
+    let b = pair-bounds w in
+    let own = view-of (at-scalar-at2 .scalar-at2 .ensures) (at-look2 .look2 .ensures) (typeTy w) (w .type-there) in
+    (some-view own, has (w .spec-there), b .0, b .1)
 
 enum-known-a-3 : tie.Need-enum-known-a-3
 enum-known-a-3 c = search needs
@@ -144,8 +166,12 @@ returns-2 c =
 plan-unnamed-requires : tie.Need-plan-unnamed-requires
 plan-unnamed-requires c κs =
     let entry = c .before .before .before .before .before .before .before .before .before .before .before .before .before in
-    let b = pair-bounds (entry .pre) in
-    (has (entry .pre .spec-there), b .0, b .1)
+    let at-scalar-at2 = c .before .before .before .before .before .before .before .before in
+    let at-look2 = c .before .before .before .before .before .before .before in
+    let w = entry .pre in
+    let b = pair-bounds w in
+    let own = view-of (at-scalar-at2 .scalar-at2 .ensures) (at-look2 .look2 .ensures) (typeTy w) (w .type-there) in
+    (some-view own, has (w .spec-there), b .0, b .1)
 
 returns-3 : tie.Need-returns-3
 returns-3 c =

@@ -1,5 +1,5 @@
 #!/usr/bin/env python3
-"""Prints requests at the corners of the rules: of sizes, shapes, scalars, types, values, validation and sheets.
+"""Prints requests at the corners of the rules: of sizes, shapes, scalars, types, values, validation, sheets and the table of kinds.
 
 The paper's cases (a) to (m) come first, then each rule's corners, then those of bytes and of lines.
 Bytes are built from the paper's notation: `num("2 ?..3")` is [2 ?..3] Num.
@@ -464,6 +464,15 @@ def sheet_lines():
         yield f"sheet_call {SCRATCH} {number} {good}"
 
 
+# ---- the table of kinds
+
+def table():
+    """It takes nothing, so there is one good line."""
+    yield "kinds"
+    yield from ("kinds ", "kinds  ", "kinds x", "kinds -", "kinds 0", "kinds x ", "kinds  x", "kinds kinds", " kinds")
+    yield from ("kind", "kindsx", "KINDS", "kinds\t", "kinds\r", "kinds\0", "kinds\xff")
+
+
 # ---- bytes that are no types, and lines
 
 def refused():
@@ -509,7 +518,7 @@ def lines():
 
 PARTS = (
     cases, dims, shapes, scalars, orders, rows, boxes, looked_up, joins, values, kinds, shape_checks, scalar_checks,
-    grown, judged, worked, met, poured, buffers, sheet_lines, refused, lines,
+    grown, judged, worked, met, poured, buffers, sheet_lines, table, refused, lines,
 )  # fmt: skip
 
 

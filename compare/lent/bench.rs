@@ -19,6 +19,8 @@ mod filled;
 mod generate;
 #[path = "../oracle/invent.rs"]
 mod invent;
+#[path = "../oracle/kinds.rs"]
+mod kinds;
 mod library;
 #[path = "../oracle/limits.rs"]
 mod limits;

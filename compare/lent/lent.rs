@@ -16,6 +16,8 @@ mod filled;
 mod generate;
 #[path = "../oracle/invent.rs"]
 mod invent;
+#[path = "../oracle/kinds.rs"]
+mod kinds;
 mod library;
 #[path = "../oracle/limits.rs"]
 mod limits;
@@ -153,6 +155,9 @@ impl Both {
             Call::Sizes(f) => {
                 let size = |word: &str| if word == "?" { u64::MAX } else { decimal(word) };
                 self.judge(&line, &wanted(), true, unsafe { f(size(words[0]), size(words[1])) });
+            }
+            Call::To(f) => {
+                self.to(r, &line, wanted(), |to| unsafe { f(to.as_mut_ptr(), to.len()) });
             }
             Call::OneTo(f) => {
                 let a = unhex(words[words.len() - 1]);

@@ -26,6 +26,8 @@ macro_rules! value {
 pub enum Call {
     One(unsafe extern "C" fn(*const u8, usize) -> Answer),
     Two(unsafe extern "C" fn(*const u8, usize, *const u8, usize) -> Answer),
+    /// Nothing is handed in.
+    To(unsafe extern "C" fn(*mut u8, usize) -> Answer),
     OneTo(unsafe extern "C" fn(*const u8, usize, *mut u8, usize) -> Answer),
     TwoTo(unsafe extern "C" fn(*const u8, usize, *const u8, usize, *mut u8, usize) -> Answer),
     Numbered(unsafe extern "C" fn(*const u8, usize, u64) -> Answer),
@@ -107,5 +109,6 @@ declared! {
     ("validate", vg_validate, Led(2), expected::bytes, (u64, In, usize, In, usize, Out, usize)),
     ("check_shape", vg_check_shape, Led(2), expected::bytes, (u64, In, usize, In, usize, Out, usize)),
     ("check_scalar", vg_check_scalar, TwoTo, expected::bytes, (In, usize, In, usize, Out, usize)),
+    ("kinds", vg_kinds, To, expected::bytes, (Out, usize)),
     ("sheet_call", vg_check_sheet, Sheet, expected::types_left, (In, usize, Out, usize, Out, usize)),
 }

@@ -19,6 +19,7 @@ pub fn edges(out: &mut Lines) -> Result<()> {
     sizes(out)?;
     sheets(out)?;
     buffers(out)?;
+    alone(out)?;
     for length in [LINE - 1, LINE, LINE + 1] {
         out.line("read", format!(" {}", "0".repeat(length - "read ".len())))?;
     }
@@ -179,6 +180,16 @@ fn buffers(out: &mut Lines) -> Result<()> {
                 out.line(request, format!(" {room}{}", word(&ty)))?;
                 out.line(request, format!(" {room}{}00", word(&ty)))?;
             }
+        }
+    }
+    Ok(())
+}
+
+/// What takes no argument, and with something after it.
+fn alone(out: &mut Lines) -> Result<()> {
+    for (word, _) in REQUESTS.iter().filter(|(_, call)| matches!(call, Call::Alone(_))) {
+        for rest in ["", " ", "  ", " -", " 0", " 0 0", "\t", "\r", "\0"] {
+            out.line(word, rest)?;
         }
     }
     Ok(())

@@ -68,6 +68,7 @@ fn weight(word: &str) -> usize {
         "validate" => 12,
         "check_scalar" | "check_shape" | "sheet" | "pervade" | "read" => 6,
         "join" | "union" | "merge" | "compare" | "sheet_call" => 4,
+        "kinds" => 1,
         _ => 2,
     }
 }
@@ -91,6 +92,7 @@ pub fn arguments(r: &mut Random, word: &str, call: &Call) -> String {
             _ => format!(" list{}", numbers(r)),
         },
         Call::Sizes(_) => format!(" {} {}", size_word(r), size_word(r)),
+        Call::Alone(_) => String::new(),
         Call::Sheet => format!(" {}", hex_word(&sheet_bytes(r))),
         Call::SheetCall => sheet_call(r),
     }

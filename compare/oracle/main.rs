@@ -3,6 +3,7 @@
 //!     oracle                                      answers the requests on its standard input
 //!     oracle generate SEED COUNT [MODE [WORD..]]  writes requests
 //!     oracle beside                               holds a sheet's pervading beside the Rust's
+//!     oracle kinds                                prints the table of kinds, one number to a line
 
 mod beside;
 mod bytes;
@@ -10,6 +11,7 @@ mod edges;
 mod filled;
 mod generate;
 mod invent;
+mod kinds;
 mod limits;
 mod requests;
 mod rules;
@@ -31,7 +33,10 @@ fn main() -> std::io::Result<()> {
             generate::generate(number(seed), number(count), mode, words)
         }
         [word] if word == "beside" => std::process::exit(!beside::all() as i32),
-        _ => fail("oracle, oracle generate SEED COUNT [MODE [WORD..]], or oracle beside"),
+        [word] if word == "kinds" => print_table(),
+        _ => fail(
+            "oracle, oracle generate SEED COUNT [MODE [WORD..]], oracle beside, or oracle kinds",
+        ),
     }
 }
 
@@ -53,5 +58,11 @@ fn answer_all() -> std::io::Result<()> {
         writeln!(output, "{}", requests::answer(&line[..end]))?;
         line.clear();
     }
+    output.flush()
+}
+
+fn print_table() -> std::io::Result<()> {
+    let mut output = BufWriter::new(stdout().lock());
+    kinds::TABLE.iter().try_for_each(|number| writeln!(output, "{number}"))?;
     output.flush()
 }

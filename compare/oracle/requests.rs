@@ -7,7 +7,7 @@ use crate::bytes::{No, def_bytes, no, read_lone, scalar_bytes, shape_bytes, type
 use crate::limits::{LARGEST, LENT, LINE};
 use crate::standins::SubSide;
 use crate::uiua::{Dim, DynShape, Scalar, Type, TypeVal};
-use crate::{rules, sheet};
+use crate::{kinds, rules, sheet};
 
 const NAN_BITS: u64 = 0x7ff8_0000_0000_0000;
 
@@ -24,6 +24,8 @@ pub enum Call {
     Numbers(fn(&[f64]) -> Answer),
     Value(fn(TypeVal) -> Answer),
     Sizes(fn(Dim, Dim) -> Answer),
+    /// No argument at all.
+    Alone(fn() -> Answer),
     Sheet,
     SheetCall,
 }
@@ -73,6 +75,7 @@ pub const REQUESTS: &[(&str, Call)] = &[
     ("dim_join", Call::Sizes(|a, b| Ok(size(a | b)))),
     ("dim_compatible", Call::Sizes(|a, b| truth(a.compatible(b)))),
     ("dim_row_compatible", Call::Sizes(|a, b| truth(a.row_compatible(b)))),
+    ("kinds", Call::Alone(|| Ok(hex(&kinds::TABLE)))),
     ("sheet", Call::Sheet),
     ("sheet_call", Call::SheetCall),
     ("write_shape", Call::Written(|a| shape_bytes(&a.shape))),
@@ -246,6 +249,10 @@ fn called(call: &Call, words: &[&[u8]]) -> Taken<String> {
             let [a, b] = exactly(words)?;
             let (a, b) = (decimal_size(a)?, decimal_size(b)?);
             call(limited(a, 0)?, limited(b, 1)?)?
+        }
+        Call::Alone(call) => {
+            let [] = exactly(words)?;
+            call()?
         }
         Call::Sheet => {
             let [bytes] = exactly(words)?;

@@ -35,6 +35,7 @@ extern "C" {
 #define VG_MAX_DEPTH 8                              /* depth of a type; the outermost is at depth 1 */
 #define VG_MAX_STACK 8                              /* types on a sheet's stack */
 #define VG_MAX_STEPS 64                             /* steps of a sheet */
+#define VG_KIND_COUNT 10                            /* kinds of a scalar; their codes are 0 to 9 */
 #define VG_PROGRAM_SHEET_BYTES 49152                /* bytes of a sheet that the program `sheet` reads; a call has no such limit */
 
 /* Bytes that always suffice: for a type, a shape's record or a scalar's; for the list of vg_as_boxes, a name's length and a count
@@ -43,6 +44,10 @@ extern "C" {
 #define VG_BOXES_BYTES (2 + VG_MAX_FIELDS * VG_TYPE_BYTES)
 #define VG_SHEET_RESULT_BYTES (VG_MAX_STACK * VG_TYPE_BYTES)
 #define VG_SCRATCH_BYTES (VG_MAX_STACK * VG_TYPE_BYTES)
+
+/* Bytes of the table of kinds, 300, one for each number; and its mark where the boxes' contents decide, which is no kind's code. */
+#define VG_KIND_TABLE_BYTES (3 * VG_KIND_COUNT * VG_KIND_COUNT)
+#define VG_CONTENTS_DECIDE 255
 
 /* ---- answers --------------------------------------------------------------------------------------------------------------- */
 
@@ -176,7 +181,7 @@ vg_answer vg_shape_is_scalar(const uint8_t *ty, size_t ty_len);
 vg_answer vg_row_count(const uint8_t *ty, size_t ty_len);
 vg_answer vg_rank(const uint8_t *ty, size_t ty_len);
 
-/* ---- scalars of types, and the order of types ------------------------------------------------------------------------------ */
+/* ---- scalars of types, the order of types, and the table of kinds ---------------------------------------------------------- */
 
 /* The union of two scalars; the scalar unrefined, in boxes too: Bool, Nat and Int become Num, Ascii becomes Char.
  * Value: bytes written, a scalar's record. Refused: reading a (ty); reading b; result. */
@@ -192,6 +197,51 @@ vg_answer vg_compatible_with_boxes(const uint8_t *a, size_t a_len, const uint8_t
 /* The order of two types, scalars first and then shapes.
  * Value: 0 if a is less than b, 1 if they are the same, 2 if it is more. Refused: reading a; reading b. */
 vg_answer vg_compare(const uint8_t *a, size_t a_len, const uint8_t *b, size_t b_len);
+
+/* The table of kinds: what vg_superset, vg_compatible_scalars and vg_union say of two scalars by their kinds, for every pair of the ten.
+ * Three squares one after the other, 0 superset, 1 compatible, 2 union; in each a row for each first kind, in it a number for each
+ * second kind, by their codes. So the number for two kinds is byte square * 100 + first * 10 + second.
+ * In the first two squares 1 is yes and 0 is no. In the third it is the code of the union's kind, or VG_CONTENTS_DECIDE where the boxes'
+ * contents decide. That is once, at Box with Box, byte 288: the union is a box then, and vg_union says which.
+ *
+ *   superset      Bool  Nat  Int  Num  Complex  Ascii  Char  Stream  Box  Any
+ *   0 Bool           1    0    0    0        0      0     0       0    0    0
+ *   1 Nat            1    1    0    0        0      0     0       0    0    0
+ *   2 Int            1    1    1    0        0      0     0       0    0    0
+ *   3 Num            1    1    1    1        0      0     0       0    0    0
+ *   4 Complex        1    1    1    1        1      0     0       0    0    0
+ *   5 Ascii          0    0    0    0        0      1     0       0    0    0
+ *   6 Char           0    0    0    0        0      1     1       0    0    0
+ *   7 Stream         0    0    0    0        0      0     0       1    0    0
+ *   8 Box            0    0    0    0        0      0     0       0    1    0
+ *   9 Any            1    1    1    1        1      1     1       1    1    1
+ *
+ *   compatible    Bool  Nat  Int  Num  Complex  Ascii  Char  Stream  Box  Any
+ *   0 Bool           1    1    1    1        1      0     0       0    0    1
+ *   1 Nat            1    1    1    1        1      0     0       0    0    1
+ *   2 Int            1    1    1    1        1      0     0       0    0    1
+ *   3 Num            1    1    1    1        1      0     0       0    0    1
+ *   4 Complex        1    1    1    1        1      0     0       0    0    1
+ *   5 Ascii          0    0    0    0        0      1     1       0    0    1
+ *   6 Char           0    0    0    0        0      1     1       0    0    1
+ *   7 Stream         0    0    0    0        0      0     0       1    1    1
+ *   8 Box            0    0    0    0        0      0     0       1    1    1
+ *   9 Any            1    1    1    1        1      1     1       1    1    1
+ *
+ *   union         Bool  Nat  Int  Num  Complex  Ascii  Char  Stream  Box  Any
+ *   0 Bool           0    1    2    3        4      9     9       9    9    9
+ *   1 Nat            1    1    2    3        4      9     9       9    9    9
+ *   2 Int            2    2    2    3        4      9     9       9    9    9
+ *   3 Num            3    3    3    3        4      9     9       9    9    9
+ *   4 Complex        4    4    4    4        4      9     9       9    9    9
+ *   5 Ascii          9    9    9    9        9      5     6       9    9    9
+ *   6 Char           9    9    9    9        9      6     6       9    9    9
+ *   7 Stream         9    9    9    9        9      9     9       7    9    9
+ *   8 Box            9    9    9    9        9      9     9       9  255    9
+ *   9 Any            9    9    9    9        9      9     9       9    9    9
+ *
+ * Value: bytes written, always VG_KIND_TABLE_BYTES. Refused: result. */
+vg_answer vg_kinds(uint8_t *result, size_t result_len);
 
 /* ---- two sizes ------------------------------------------------------------------------------------------------------------- */
 

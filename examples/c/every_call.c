@@ -29,10 +29,15 @@ static bytes hex(const char *text)
 #define UNKNOWN_ONE "534801ffffffffffffffffff"
 #define TWO(m, n) "534802ff" m "00000000000000" n "00000000000000"
 #define BOOL "534300"
+#define NAT "534301"
 #define INT "534302"
 #define NUM "534303"
+#define COMPLEX "534304"
+#define ASCII "534305"
 #define CHAR "534306"
+#define STREAM "534307"
 #define ANY "534309"
+#define BOX_ANY "534308425800"
 #define ALL "534308425801"
 #define DEF "534308425802016e02" /* named n, two fields */
 
@@ -45,7 +50,7 @@ static bytes hex(const char *text)
 /* ---- what is answered ------------------------------------------------------------------------------------------------------ */
 
 static unsigned calls, wrong;
-static uint8_t result[64];
+static uint8_t result[VG_KIND_TABLE_BYTES + 20];
 static const uint8_t lent = 0xee;
 static const size_t room = sizeof result;
 
@@ -145,6 +150,8 @@ static void shapes(void)
 static void scalars(void)
 {
     WROTE(vg_union(T(SCALAR INT), T(SCALAR NUM), result, room), NUM);
+    WROTE(vg_union(T(SCALAR ALL SCALAR INT), T(SCALAR ALL SCALAR NUM), result, room), ALL SCALAR NUM);
+    WROTE(vg_union(T(SCALAR ALL SCALAR INT), T(SCALAR ALL SCALAR CHAR), result, room), BOX_ANY);
     WROTE(vg_unrefine(T(SCALAR ALL SCALAR INT), result, room), ALL SCALAR NUM);
     VALUE(vg_superset(T(SCALAR NUM), T(SCALAR INT)), 1);
     VALUE(vg_superset(T(SCALAR INT), T(SCALAR NUM)), 0);
@@ -153,6 +160,85 @@ static void scalars(void)
     VALUE(vg_compare(T(SCALAR INT), T(SCALAR NUM)), 0);
     VALUE(vg_compare(T(PAIR), T(PAIR)), 1);
     VALUE(vg_compare(T(SCALAR NUM), T(SCALAR INT)), 2);
+}
+
+/* A type of each kind, by the kind's code; of Box two, with other contents. */
+typedef struct kind {
+    const char *name;
+    size_t code;
+    const char *ty;
+} kind;
+
+static const kind of_kind[] = {
+    {"Bool", 0, SCALAR BOOL},
+    {"Nat", 1, SCALAR NAT},
+    {"Int", 2, SCALAR INT},
+    {"Num", 3, SCALAR NUM},
+    {"Complex", 4, SCALAR COMPLEX},
+    {"Ascii", 5, SCALAR ASCII},
+    {"Char", 6, SCALAR CHAR},
+    {"Stream", 7, SCALAR STREAM},
+    {"box Any", 8, SCALAR BOX_ANY},
+    {"box All", 8, SCALAR ALL SCALAR NUM},
+    {"Any", 9, SCALAR ANY},
+};
+static const size_t kinds_made = sizeof of_kind / sizeof of_kind[0];
+
+/* The table of kinds as the library wrote it, and its number for two kinds. */
+static uint8_t table[VG_KIND_TABLE_BYTES];
+enum square { SUPERSET, COMPATIBLE, UNION };
+
+static uint8_t number_for(enum square square, const kind *a, const kind *b)
+{
+    return table[square * VG_KIND_COUNT * VG_KIND_COUNT + a->code * VG_KIND_COUNT + b->code];
+}
+
+static int is_box(const kind *k) { return k->code == 8; }
+
+/* Whether the record of a scalar was written that has the table's kind. For two boxes the table has the mark, and it is some box. */
+static int wrote_kind(vg_answer answer, uint8_t number, int boxes)
+{
+    char record[7];
+    if (boxes) {
+        return number == VG_CONTENTS_DECIDE && answer.kind == VG_VALUE && memcmp(result, hex(BOX_ANY).data, 5) == 0 && as_lent(answer.first);
+    }
+    snprintf(record, sizeof record, "5343%02x", number);
+    return wrote(answer, record);
+}
+
+static void expect_of(const char *call, const kind *a, const kind *b, int good)
+{
+    char what[64];
+    snprintf(what, sizeof what, "%s and the table, %s with %s", call, a->name, b->name);
+    expect(what, good);
+}
+
+/* What the single calls say of two kinds, beside the table. */
+static void two_kinds(const kind *a, const kind *b)
+{
+    fresh();
+    expect_of("vg_superset", a, b, value(vg_superset(T(a->ty), T(b->ty)), number_for(SUPERSET, a, b)));
+    expect_of("vg_compatible_scalars", a, b, value(vg_compatible_scalars(T(a->ty), T(b->ty)), number_for(COMPATIBLE, a, b)));
+    expect_of("vg_union", a, b, wrote_kind(vg_union(T(a->ty), T(b->ty), result, room), number_for(UNION, a, b), is_box(a) && is_box(b)));
+}
+
+static int wrote_table(vg_answer answer) { return value(answer, VG_KIND_TABLE_BYTES) && as_lent(VG_KIND_TABLE_BYTES); }
+
+static void kinds(void)
+{
+    REFUSED(vg_kinds(result, 0), VG_TOO_SHORT, 0);
+    REFUSED(vg_kinds(result, VG_KIND_TABLE_BYTES - 1), VG_TOO_SHORT, 0);
+    fresh();
+    expect("vg_kinds", wrote_table(vg_kinds(result, VG_KIND_TABLE_BYTES)));
+    memcpy(table, result, sizeof table);
+    fresh();
+    expect("vg_kinds, more room", wrote_table(vg_kinds(result, room)) && memcmp(result, table, sizeof table) == 0);
+    expect("the union of two boxes", table[288] == VG_CONTENTS_DECIDE);
+    for (size_t i = 0; i < kinds_made; i++) {
+        for (size_t j = 0; j < kinds_made; j++) {
+            two_kinds(&of_kind[i], &of_kind[j]);
+        }
+    }
 }
 
 static void sizes(void)
@@ -292,6 +378,7 @@ int main(void)
     types();
     shapes();
     scalars();
+    kinds();
     sizes();
     values();
     rows();

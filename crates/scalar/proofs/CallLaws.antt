@@ -1,7 +1,7 @@
 -- Whole types: what each call answers of those that were read.
 use Prim.Native.Nat.{ℕ, _-_, _≤_, _<_}
 use mathlib.Core.Bool.{Bool}
-use mathlib.Core.List.{List}
+use mathlib.Core.List.{List, _++_}
 use mathlib.Core.Path.{_≡_, refl, sym, _∙_, ap}
 use lib.ListN.{length, take, drop}
 use Rattle.model.specs.Limits.{maxDepth}
@@ -32,7 +32,7 @@ kind-below s at kind (d, there) = coded-below (there .scalar) (kind d (there .sc
 -- ---- the union of two scalars, by the table's number
 
 -- what the table says of all scalars of two codes
-abbrev pub FoundFor : ℕ → ℕ → ℕ → Type 0
+abbrev FoundFor : ℕ → ℕ → ℕ → Type 0
 FoundFor x y n = (k l : Scalar) → x ≡ codeOf k → y ≡ codeOf l → n ≡ unionNumber k l
 
 module _ (a : List ℕ) (i : ℕ) (b : List ℕ) (j : ℕ) {x y n : ℕ} (one : (d : ℕ) (k : Scalar) → ScalarAt a i d k → x ≡ codeOf k) (two : (d : ℕ) (l : Scalar) → ScalarAt b j d l → y ≡ codeOf l) (found : FoundFor x y n) where
@@ -40,7 +40,7 @@ module _ (a : List ℕ) (i : ℕ) (b : List ℕ) (j : ℕ) {x y n : ℕ} (one : 
   number-is {d} k l h g = found k l (one d k h) (two d l g)
 
   -- a kind's record
-  pub kind-found : (n ≡ contentsDecide → ⊥) → {d : ℕ} (k l : Scalar) → ScalarAt a i d k → ScalarAt b j d l → kindRecord n ≡ writeScalar (union k l)
+  kind-found : (n ≡ contentsDecide → ⊥) → {d : ℕ} (k l : Scalar) → ScalarAt a i d k → ScalarAt b j d l → kindRecord n ≡ writeScalar (union k l)
   unfolding writeScalar
   kind-found apart k l h g =
       let same = number-is k l h g in
@@ -48,7 +48,7 @@ module _ (a : List ℕ) (i : ℕ) (b : List ℕ) (j : ℕ) {x y n : ℕ} (one : 
       ap kindRecord (same ∙ kind .coded) ∙ ap writeScalar (sym (kind .is))
 
   -- a box's record
-  pub box-found : n ≡ contentsDecide → {d : ℕ} (r : United) → BoxesUnite a i b j d r → (k l : Scalar) → ScalarAt a i d k → ScalarAt b j d l → {w : United} → r ≡ w → writeScalar (unitedOf w k l) ≡ writeScalar (union k l)
+  box-found : n ≡ contentsDecide → {d : ℕ} (r : United) → BoxesUnite a i b j d r → (k l : Scalar) → ScalarAt a i d k → ScalarAt b j d l → {w : United} → r ≡ w → writeScalar (unitedOf w k l) ≡ writeScalar (union k l)
   box-found mark r call k l h g e =
       let boxed = boxes-united k l (sym (number-is k l h g) ∙ mark) in
       ap writeScalar (ap (λ v. unitedOf v k l) (sym e) ∙ call k l h g (boxed .0) (boxed .1))
@@ -93,27 +93,28 @@ module _ (a b : List ℕ) (good : both nothings (lone a) (lone b) ≡ accepted 0
     pub boxes-is : {t : Bool} → ((k l : Scalar) → ScalarAt a i (maxDepth - 1) k → ScalarAt b j (maxDepth - 1) l → t ≡ compatibleWithBoxes k l) → accepted t ≡ ofScalars compatibleWithBoxes a b
     boxes-is e = scalars-there a b good small small′ first second compatibleWithBoxes λ k l h h′ is. sym (is ∙ ap accepted (sym (e k l h h′)))
 
-    -- the union's record
-    abbrev UnionBytes : Outcome (List ℕ)
-    UnionBytes = ofScalars (λ k l. writeScalar (union k l)) a b
+    -- the union's record, behind whatever stands in front of it
+    module _ (head : List ℕ) where
+      abbrev UnionBehind : Outcome (List ℕ)
+      UnionBehind = ofScalars (λ k l. head ++ writeScalar (union k l)) a b
 
-    united-is : (w : List ℕ) → ((k l : Scalar) → ScalarAt a i (maxDepth - 1) k → ScalarAt b j (maxDepth - 1) l → drop i a ≡ writeScalar k → drop j b ≡ writeScalar l → w ≡ writeScalar (union k l)) → UnionBytes ≡ accepted w
-    united-is w e =
-        records-there a b good small small′ first second (λ k l. writeScalar (union k l)) λ k l h g u v is.
-        is ∙ sym (ap accepted (e k l h g u v))
+      united-is : (w : List ℕ) → ((k l : Scalar) → ScalarAt a i (maxDepth - 1) k → ScalarAt b j (maxDepth - 1) l → drop i a ≡ writeScalar k → drop j b ≡ writeScalar l → w ≡ writeScalar (union k l)) → UnionBehind ≡ accepted (head ++ w)
+      united-is w e =
+          records-there a b good small small′ first second (λ k l. head ++ writeScalar (union k l)) λ k l h g u v is.
+          is ∙ sym (ap (λ x. accepted (head ++ x)) (e k l h g u v))
 
-    module _ {x y n : ℕ} (one : (d : ℕ) (k : Scalar) → ScalarAt a i d k → x ≡ codeOf k) (two : (d : ℕ) (l : Scalar) → ScalarAt b j d l → y ≡ codeOf l) (found : FoundFor x y n) where
-      -- a kind, which the table says
-      pub union-kind : (n ≡ contentsDecide → ⊥) → UnionBytes ≡ accepted (kindRecord n)
-      union-kind apart = united-is (kindRecord n) λ k l h g u v. kind-found a i b j one two found apart k l h g
+      module _ {x y n : ℕ} (one : (d : ℕ) (k : Scalar) → ScalarAt a i d k → x ≡ codeOf k) (two : (d : ℕ) (l : Scalar) → ScalarAt b j d l → y ≡ codeOf l) (found : FoundFor x y n) where
+        -- a kind, which the table says
+        pub union-kind : (n ≡ contentsDecide → ⊥) → UnionBehind ≡ accepted (head ++ kindRecord n)
+        union-kind apart = united-is (kindRecord n) λ k l h g u v. kind-found a i b j one two found apart k l h g
 
-      -- or one of three, where it leaves that to the boxes
-      module _ (mark : n ≡ contentsDecide) (r : United) (call : BoxesUnite a i b j (maxDepth - 1) r) where
-        pub union-first : r ≡ First → UnionBytes ≡ accepted (take (length a - i) (drop i a))
-        union-first e = united-is (take (length a - i) (drop i a)) λ k l h g u v. rest-is a i ∙ (u ∙ box-found a i b j one two found mark r call k l h g e)
+        -- or one of three, where it leaves that to the boxes
+        module _ (mark : n ≡ contentsDecide) (r : United) (call : BoxesUnite a i b j (maxDepth - 1) r) where
+          pub union-first : r ≡ First → UnionBehind ≡ accepted (head ++ take (length a - i) (drop i a))
+          union-first e = united-is (take (length a - i) (drop i a)) λ k l h g u v. rest-is a i ∙ (u ∙ box-found a i b j one two found mark r call k l h g e)
 
-        pub union-second : r ≡ Second → UnionBytes ≡ accepted (take (length b - j) (drop j b))
-        union-second e = united-is (take (length b - j) (drop j b)) λ k l h g u v. rest-is b j ∙ (v ∙ box-found a i b j one two found mark r call k l h g e)
+          pub union-second : r ≡ Second → UnionBehind ≡ accepted (head ++ take (length b - j) (drop j b))
+          union-second e = united-is (take (length b - j) (drop j b)) λ k l h g u v. rest-is b j ∙ (v ∙ box-found a i b j one two found mark r call k l h g e)
 
-        pub union-box-any : r ≡ BoxAny → UnionBytes ≡ accepted (writeScalar boxAny)
-        union-box-any e = united-is (writeScalar boxAny) λ k l h g u v. box-found a i b j one two found mark r call k l h g e
+          pub union-box-any : r ≡ BoxAny → UnionBehind ≡ accepted (head ++ writeScalar boxAny)
+          union-box-any e = united-is (writeScalar boxAny) λ k l h g u v. box-found a i b j one two found mark r call k l h g e

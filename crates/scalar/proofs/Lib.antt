@@ -1,3 +1,3 @@
 pub mod CallLaws
-pub mod BoxLaws
+mod BoxLaws
 mod UnrefineLaws

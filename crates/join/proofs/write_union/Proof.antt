@@ -1,11 +1,10 @@
 use native.Mathlib.Omega.{arith}
 use Rattle.format.specs.Reader.{Bytes}
-use Rattle.format.specs.Records.{code, writeScalar}
+use Rattle.format.specs.Records.{code, writeShape, writeScalar, writeTy}
 use Rattle.record.specs.Answers.{shapeFor}
 use Rattle.known.specs.WholeLaws.{has-scalars}
 use Rattle.lent.specs.Delivers.{deliver-as}
-use Rattle.scalar.proofs.CallLaws.{first-type, second-type, first-scalar, second-scalar, first-within, second-within, kinds-below}
-use Rattle.join.proofs.Laws.{union-kind, union-first, union-second, union-box-any}
+use Rattle.scalar.proofs.CallLaws.{first-type, second-type, first-scalar, second-scalar, first-within, second-within, kinds-below, union-kind, union-first, union-second, union-box-any}
 use borrow.Author.Needs.{needs}
 use Rattle.join.proofs.write_union.Statement.{statement}
 use Rattle.join.proofs.write_union.Tie as tie
@@ -70,6 +69,7 @@ same-length : tie.Need-same-length
 same-length c = search needs
 
 returns : tie.Need-returns
+unfolding writeTy
 returns c =
     let entry = c .before .before .before .before .before .before .before .before .before .before .before .before .before in
     let at-shared-slice-known = c .before .before .before .before .before .before .before .before .before .before .before .before in
@@ -85,7 +85,7 @@ returns c =
     let small : Bytes (args .a .now) = λ i. omega (arith, at-shared-slice-known .shared-slice-known .given i) in
     let small′ : Bytes (args .b .now) = λ i. omega (arith, at-shared-slice-known2 .shared-slice-known2 .given i) in
     deliver-as (args .result .now) (at-write-plain .write-plain .ensures)
-    (union-kind (args .a .now) (args .b .now) (entry .pre) small small′ (shapeFor (args .shape)) (at-scalar-at .scalar-at .ensures) (at-scalar-at2 .scalar-at2 .ensures)
+    (union-kind (args .a .now) (args .b .now) (entry .pre) small small′ (at-scalar-at .scalar-at .ensures) (at-scalar-at2 .scalar-at2 .ensures) (writeShape (shapeFor (args .shape)))
     (at-kind-at .kind-at .ensures) (at-kind-at2 .kind-at2 .ensures) (at-union-code .union-code .ensures) (at-if1 .if1 .taken))
 
 sub-unite-boxes : tie.Need-sub-unite-boxes
@@ -115,10 +115,13 @@ sub-write-parts c =
     let at-shared-slice-known = c .before .before .before .before .before .before .before .before .before .before .before .before in
     let at-shared-slice-known2 = c .before .before .before .before .before .before .before .before .before .before .before in
     let at-scalar-at = c .before .before .before .before .before .before .before .before .before in
+    let at-scalar-at2 = c .before .before .before .before .before .before .before .before in
     let args = entry .args in
     let small : Bytes (args .a .now) = λ i. omega (arith, at-shared-slice-known .shared-slice-known .given i) in
     let small′ : Bytes (args .b .now) = λ i. omega (arith, at-shared-slice-known2 .shared-slice-known2 .given i) in
-    first-within (args .a .now) (args .b .now) (entry .pre) small small′ (at-scalar-at .scalar-at .ensures)
+    let first = first-within (args .a .now) (args .b .now) (entry .pre) small small′ (at-scalar-at .scalar-at .ensures) in
+    let second = second-within (args .a .now) (args .b .now) (entry .pre) small small′ (at-scalar-at2 .scalar-at2 .ensures) in
+    search needs
 
 part-write-parts-start : tie.Need-part-write-parts-start
 part-write-parts-start c =
@@ -126,10 +129,13 @@ part-write-parts-start c =
     let at-shared-slice-known = c .before .before .before .before .before .before .before .before .before .before .before .before in
     let at-shared-slice-known2 = c .before .before .before .before .before .before .before .before .before .before .before in
     let at-scalar-at = c .before .before .before .before .before .before .before .before .before in
+    let at-scalar-at2 = c .before .before .before .before .before .before .before .before in
     let args = entry .args in
     let small : Bytes (args .a .now) = λ i. omega (arith, at-shared-slice-known .shared-slice-known .given i) in
     let small′ : Bytes (args .b .now) = λ i. omega (arith, at-shared-slice-known2 .shared-slice-known2 .given i) in
-    first-within (args .a .now) (args .b .now) (entry .pre) small small′ (at-scalar-at .scalar-at .ensures)
+    let first = first-within (args .a .now) (args .b .now) (entry .pre) small small′ (at-scalar-at .scalar-at .ensures) in
+    let second = second-within (args .a .now) (args .b .now) (entry .pre) small small′ (at-scalar-at2 .scalar-at2 .ensures) in
+    search needs
 
 part-write-parts-end : tie.Need-part-write-parts-end
 part-write-parts-end c = search needs
@@ -187,6 +193,7 @@ same-length-2 : tie.Need-same-length-2
 same-length-2 c = search needs
 
 returns-2 : tie.Need-returns-2
+unfolding writeTy
 returns-2 c =
     let entry = c .before .before .before .before .before .before .before .before .before .before .before .before .before .before .before .before .before .before in
     let at-shared-slice-known = c .before .before .before .before .before .before .before .before .before .before .before .before .before .before .before .before .before in
@@ -204,13 +211,14 @@ returns-2 c =
     let small : Bytes (args .a .now) = λ i. omega (arith, at-shared-slice-known .shared-slice-known .given i) in
     let small′ : Bytes (args .b .now) = λ i. omega (arith, at-shared-slice-known2 .shared-slice-known2 .given i) in
     deliver-as (args .result .now) (at-write-parts .write-parts .ensures)
-    (union-first (args .a .now) (args .b .now) (entry .pre) small small′ (shapeFor (args .shape)) (at-scalar-at .scalar-at .ensures) (at-scalar-at2 .scalar-at2 .ensures)
+    (union-first (args .a .now) (args .b .now) (entry .pre) small small′ (at-scalar-at .scalar-at .ensures) (at-scalar-at2 .scalar-at2 .ensures) (writeShape (shapeFor (args .shape)))
     (at-kind-at .kind-at .ensures) (at-kind-at2 .kind-at2 .ensures) (at-union-code .union-code .ensures) (at-if1 .if1 .left) (at-unite-boxes .unite-boxes .result) (at-unite-boxes .unite-boxes .ensures) (at-enum-told .enum-told .given .1))
 
 same-length-3 : tie.Need-same-length-3
 same-length-3 c = search needs
 
 returns-3 : tie.Need-returns-3
+unfolding writeTy
 returns-3 c =
     let entry = c .before .before .before .before .before .before .before .before .before .before .before .before .before .before .before .before .before .before in
     let at-shared-slice-known = c .before .before .before .before .before .before .before .before .before .before .before .before .before .before .before .before .before in
@@ -228,14 +236,14 @@ returns-3 c =
     let small : Bytes (args .a .now) = λ i. omega (arith, at-shared-slice-known .shared-slice-known .given i) in
     let small′ : Bytes (args .b .now) = λ i. omega (arith, at-shared-slice-known2 .shared-slice-known2 .given i) in
     deliver-as (args .result .now) (at-write-parts2 .write-parts2 .ensures)
-    (union-second (args .a .now) (args .b .now) (entry .pre) small small′ (shapeFor (args .shape)) (at-scalar-at .scalar-at .ensures) (at-scalar-at2 .scalar-at2 .ensures)
+    (union-second (args .a .now) (args .b .now) (entry .pre) small small′ (at-scalar-at .scalar-at .ensures) (at-scalar-at2 .scalar-at2 .ensures) (writeShape (shapeFor (args .shape)))
     (at-kind-at .kind-at .ensures) (at-kind-at2 .kind-at2 .ensures) (at-union-code .union-code .ensures) (at-if1 .if1 .left) (at-unite-boxes .unite-boxes .result) (at-unite-boxes .unite-boxes .ensures) (at-enum-told2 .enum-told2 .given .1))
 
 same-length-4 : tie.Need-same-length-4
 same-length-4 c = search needs
 
 returns-4 : tie.Need-returns-4
-unfolding writeScalar code
+unfolding writeTy writeScalar code
 returns-4 c =
     let entry = c .before .before .before .before .before .before .before .before .before .before .before .before .before .before .before .before .before .before in
     let at-shared-slice-known = c .before .before .before .before .before .before .before .before .before .before .before .before .before .before .before .before .before in
@@ -253,7 +261,7 @@ returns-4 c =
     let small : Bytes (args .a .now) = λ i. omega (arith, at-shared-slice-known .shared-slice-known .given i) in
     let small′ : Bytes (args .b .now) = λ i. omega (arith, at-shared-slice-known2 .shared-slice-known2 .given i) in
     deliver-as (args .result .now) (at-write-parts3 .write-parts3 .ensures)
-    (union-box-any (args .a .now) (args .b .now) (entry .pre) small small′ (shapeFor (args .shape)) (at-scalar-at .scalar-at .ensures) (at-scalar-at2 .scalar-at2 .ensures)
+    (union-box-any (args .a .now) (args .b .now) (entry .pre) small small′ (at-scalar-at .scalar-at .ensures) (at-scalar-at2 .scalar-at2 .ensures) (writeShape (shapeFor (args .shape)))
     (at-kind-at .kind-at .ensures) (at-kind-at2 .kind-at2 .ensures) (at-union-code .union-code .ensures) (at-if1 .if1 .left) (at-unite-boxes .unite-boxes .result) (at-unite-boxes .unite-boxes .ensures) (at-enum-told3 .enum-told3 .given .1))
 
 pub write-union-spec : {M : Type 1} → statement M

@@ -1,3 +1,4 @@
+use mathlib.Core.List.{[]}
 use mathlib.Core.Path.{sym, ap, _∙_}
 use native.Mathlib.Omega.{arith}
 use Rattle.model.specs.Types.{scalarOf}
@@ -148,7 +149,7 @@ returns-2 c =
     let read = both-read (lone (args .a .now)) (lone (args .b .now)) (at-read-two .read-two .result) (at-read-two .read-two .ensures) (at-whichever .whichever .result) (at-whichever .whichever .ensures) in
     let good = sym read ∙ ap loneOf (at-enum-told .enum-told .given .1) in
     deliver-as (args .result .now) (at-write-kind .write-kind .ensures)
-    (union-kind (args .a .now) (args .b .now) good small small′ (at-scalar-at .scalar-at .ensures) (at-scalar-at2 .scalar-at2 .ensures)
+    (union-kind (args .a .now) (args .b .now) good small small′ (at-scalar-at .scalar-at .ensures) (at-scalar-at2 .scalar-at2 .ensures) []
     (at-kind-at .kind-at .ensures) (at-kind-at2 .kind-at2 .ensures) (at-union-code .union-code .ensures) (at-if1 .if1 .taken))
 
 sub-unite-boxes : tie.Need-sub-unite-boxes
@@ -289,7 +290,7 @@ returns-3 c =
     let read = both-read (lone (args .a .now)) (lone (args .b .now)) (at-read-two .read-two .result) (at-read-two .read-two .ensures) (at-whichever .whichever .result) (at-whichever .whichever .ensures) in
     let good = sym read ∙ ap loneOf (at-enum-told .enum-told .given .1) in
     deliver-as (args .result .now) (at-hand-over .hand-over .ensures)
-    (union-first (args .a .now) (args .b .now) good small small′ (at-scalar-at .scalar-at .ensures) (at-scalar-at2 .scalar-at2 .ensures)
+    (union-first (args .a .now) (args .b .now) good small small′ (at-scalar-at .scalar-at .ensures) (at-scalar-at2 .scalar-at2 .ensures) []
     (at-kind-at .kind-at .ensures) (at-kind-at2 .kind-at2 .ensures) (at-union-code .union-code .ensures) (at-if1 .if1 .left) (at-unite-boxes .unite-boxes .result) (at-unite-boxes .unite-boxes .ensures) (at-enum-told3 .enum-told3 .given .1))
 
 same-length-3 : tie.Need-same-length-3
@@ -318,7 +319,7 @@ returns-4 c =
     let read = both-read (lone (args .a .now)) (lone (args .b .now)) (at-read-two .read-two .result) (at-read-two .read-two .ensures) (at-whichever .whichever .result) (at-whichever .whichever .ensures) in
     let good = sym read ∙ ap loneOf (at-enum-told .enum-told .given .1) in
     deliver-as (args .result .now) (at-hand-over2 .hand-over2 .ensures)
-    (union-second (args .a .now) (args .b .now) good small small′ (at-scalar-at .scalar-at .ensures) (at-scalar-at2 .scalar-at2 .ensures)
+    (union-second (args .a .now) (args .b .now) good small small′ (at-scalar-at .scalar-at .ensures) (at-scalar-at2 .scalar-at2 .ensures) []
     (at-kind-at .kind-at .ensures) (at-kind-at2 .kind-at2 .ensures) (at-union-code .union-code .ensures) (at-if1 .if1 .left) (at-unite-boxes .unite-boxes .result) (at-unite-boxes .unite-boxes .ensures) (at-enum-told4 .enum-told4 .given .1))
 
 same-length-4 : tie.Need-same-length-4
@@ -347,7 +348,7 @@ returns-5 c =
     let read = both-read (lone (args .a .now)) (lone (args .b .now)) (at-read-two .read-two .result) (at-read-two .read-two .ensures) (at-whichever .whichever .result) (at-whichever .whichever .ensures) in
     let good = sym read ∙ ap loneOf (at-enum-told .enum-told .given .1) in
     deliver-as (args .result .now) (at-hand-box-any .hand-box-any .ensures)
-    (union-box-any (args .a .now) (args .b .now) good small small′ (at-scalar-at .scalar-at .ensures) (at-scalar-at2 .scalar-at2 .ensures)
+    (union-box-any (args .a .now) (args .b .now) good small small′ (at-scalar-at .scalar-at .ensures) (at-scalar-at2 .scalar-at2 .ensures) []
     (at-kind-at .kind-at .ensures) (at-kind-at2 .kind-at2 .ensures) (at-union-code .union-code .ensures) (at-if1 .if1 .left) (at-unite-boxes .unite-boxes .result) (at-unite-boxes .unite-boxes .ensures) (at-enum-told5 .enum-told5 .given .1))
 
 pub union-spec : {M : Type 1} → statement M

@@ -10,12 +10,16 @@ use text::put_hex;
 use velgrodis::Answer as Crossed;
 use velgrodis::NOTHING;
 use velgrodis::VALUE;
+use velgrodis::Validation;
 
 // What a line comes to. Bytes, and those of a stretch, a type, a text or a whole line, are the first of the result; a size is all ones for
-// unknown; a fault is one of `fault`.
+// unknown; `reading` says which input a validation was reading; a fault is one of `fault`.
 pub enum Reply {
     Bytes(usize),
-    Stretch { start: usize, length: usize },
+    Stretch {
+        start: usize,
+        length: usize,
+    },
     Number(u64),
     Size(u64),
     Bits(u64),
@@ -24,7 +28,15 @@ pub enum Reply {
     Line(usize),
     Less,
     Nothing,
-    Refused { number: u64, place: u64 },
+    Refused {
+        number: u64,
+        place: u64,
+    },
+    RefusedReading {
+        number: u64,
+        place: u64,
+        reading: u64,
+    },
     Bad(usize),
 }
 
@@ -34,6 +46,19 @@ pub(crate) fn delivered(a: Crossed) -> Reply {
         return Reply::Bytes(a.first as usize);
     }
     without_value(a)
+}
+
+// What a validation wrote to its result, or its refusal with the input that was being read.
+pub(crate) fn validated(v: Validation) -> Reply {
+    let a = v.answer;
+    if a.kind == VALUE {
+        return Reply::Bytes(a.first as usize);
+    }
+    Reply::RefusedReading {
+        number: a.number,
+        place: a.place,
+        reading: v.reading,
+    }
 }
 
 // A number: a count, or 1 and 0 for yes and no.
@@ -92,7 +117,12 @@ pub(crate) fn say(answer: Reply, result: &[u8], out: &mut [u8], at: usize) -> us
         Reply::Line(n) => say_line(part(result, 0, n), out, at),
         Reply::Less => put(b"ok -1\n", out, at),
         Reply::Nothing => put(b"ok none\n", out, at),
-        Reply::Refused { number, place } => say_refused(number, place, out, at),
+        Reply::Refused { number, place } => say_refused(number, place, b"\n", out, at),
+        Reply::RefusedReading {
+            number,
+            place,
+            reading,
+        } => say_reading(number, place, reading, out, at),
         Reply::Bad(fault) => say_bad(fault, out, at),
     }
 }
@@ -156,9 +186,20 @@ fn say_line(text: &[u8], out: &mut [u8], at: usize) -> usize {
     put(b"\n", out, end)
 }
 
-fn say_refused(number: u64, place: u64, out: &mut [u8], at: usize) -> usize {
+fn say_refused(number: u64, place: u64, behind: &[u8], out: &mut [u8], at: usize) -> usize {
     let second = put_number(b"no ", number, b" ", &mut *out, at);
-    put_number(b"", place, b"\n", out, second)
+    put_number(b"", place, behind, out, second)
+}
+
+// The words stand in the order of the numbers that the library has for them.
+fn say_reading(number: u64, place: u64, reading: u64, out: &mut [u8], at: usize) -> usize {
+    let third = say_refused(number, place, b" ", &mut *out, at);
+    let end = put(
+        nth(b"neither spec type", reading as usize),
+        &mut *out,
+        third,
+    );
+    put(b"\n", out, end)
 }
 
 fn say_bad(fault: usize, out: &mut [u8], at: usize) -> usize {

@@ -59,7 +59,7 @@ fn explain() {
         b"calls takes no argument. It reads requests from standard input, one to a line, and prints an answer to each.\n",
     );
     complain(
-        b"An answer is `ok` and what was asked for; `no`, the refusal's number and its place; or `bad` and why.\n",
+        b"An answer is `ok` and what was asked for; `no`, the refusal's number and its place, for a validation also the input that was being read; or `bad` and why.\n",
     );
     complain(b"docs/FORMAT.md describes the requests, the bytes and the refusals.\n");
 }

@@ -1,6 +1,6 @@
 // NAME SIDE HEX HEX: requests that hold a type to a spec, for a side or none.
 use crate::answers::Reply;
-use crate::answers::delivered;
+use crate::answers::validated;
 use crate::arguments::Both;
 use crate::arguments::two_hex;
 use crate::fault;
@@ -41,8 +41,8 @@ pub(crate) fn answered(k: usize, line: &[u8], input: &mut [u8], result: &mut [u8
 // A side's number is its word's place among the three.
 fn call(k: usize, side: u64, spec: &[u8], a: &[u8], result: &mut [u8]) -> Reply {
     match k {
-        0 => delivered(vg_validate(side, spec, a, result)),
-        1 => delivered(vg_check_shape(side, spec, a, result)),
+        0 => validated(vg_validate(side, spec, a, result)),
+        1 => validated(vg_check_shape(side, spec, a, result)),
         _ => Reply::Bad(fault::REQUEST),
     }
 }

@@ -3,6 +3,7 @@ use crate::answers::Reply;
 use crate::answers::compared;
 use crate::answers::counted;
 use crate::answers::delivered;
+use crate::answers::validated;
 use crate::arguments::Both;
 use crate::arguments::two_hex;
 use crate::fault;
@@ -57,7 +58,7 @@ fn call(k: usize, a: &[u8], b: &[u8], result: &mut [u8]) -> Reply {
         6 => compared(vg_compare(a, b)),
         7 => delivered(vg_union(a, b, result)),
         8 => delivered(vg_join(a, b, result)),
-        9 => delivered(vg_check_scalar(a, b, result)),
+        9 => validated(vg_check_scalar(a, b, result)),
         _ => Reply::Bad(fault::REQUEST),
     }
 }

@@ -6,7 +6,7 @@ use mathlib.Core.Option.{Option, none, some}
 use mathlib.Core.Path.{_≡_, refl}
 use lib.Ieee.{Float, lt}
 use lib.ListN.{length}
-use Rattle.model.specs.Refusals.{unpervaded, wrongScalar, wrongShape, notASize}
+use Rattle.model.specs.Refusals.{unpervaded, wrongScalar, wrongCount, notASize}
 use Rattle.model.specs.Types.{Dim, static, unknown, Shape, shape, Kind, bool, int, num, any, Scalar, plain, boxAny, boxAll, Ty, inside, below}
 use Rattle.model.specs.Within.{All}
 use Rattle.format.specs.Records.{code}
@@ -18,7 +18,7 @@ use Rattle.rules.specs.Scalars.{supersetCodes, supersetOf, union}
 use Rattle.rules.specs.Types.{whollyAny}
 use Rattle.rules.specs.Pervade.{againstAbsent, together, walk, pervadeClosing, pervade}
 use Rattle.rules.specs.Examples.{closed, ending, statics, starting, of}
-use Rattle.validation.specs.CheckShape.{Side, unsided, right, agree, equalDim, equalDims, mismatch, shapeMismatch, sidedShape, checkShape}
+use Rattle.validation.specs.CheckShape.{Side, unsided, right, agree, equalDim, sizesAgree, countTest, namesAll, mismatch, shapeMismatch, sidedShape, checkShape}
 use Rattle.validation.specs.AsFields.{keepsLimits}
 use Rattle.validation.specs.CheckScalar.{checkScalar}
 use Rattle.validation.specs.Validate.{validate}
@@ -124,9 +124,9 @@ cases =
     theValidation unsided (of num (closed (unknown ∷ []))) (of int (statics (3 ∷ []))) (accepted (of int (statics (3 ∷ []))))
     ∷ theValidation unsided (of num anyShape) (of any (statics (3 ∷ []))) (refused wrongScalar 0)
     ∷ [])
-    -- (m) [2 3] on [2..] is 10. Right-side [3] on [2 3] leaves [2 3..3].
+    -- (m) [2 3] on [2..] is 10; since document 02 (2026-03) it is 14. Right-side [3] on [2 3] leaves [2 3..3].
     ∷ (
-    theShapeCheck unsided (statics (2 ∷ 3 ∷ [])) (starting (2 ∷ [])) (refused wrongShape 0)
+    theShapeCheck unsided (statics (2 ∷ 3 ∷ [])) (starting (2 ∷ [])) (refused wrongCount 0)
     ∷ theShapeCheck right (statics (3 ∷ [])) (statics (2 ∷ 3 ∷ [])) (accepted (shape (static 2 ∷ static 3 ∷ []) (some (static 3 ∷ []))))
     ∷ [])
     ∷ []
@@ -139,7 +139,7 @@ cases-thirteen = refl
 pub cases-hold : All AllSay cases
 unfolding cases inside below cmpDim larger compatible rowShape isAny rank mergeDims mergeClosing mergeFrom joinDim joinDims joinLonger joinEnds
     joinClosing joinShapes code codeOf supersetCodes supersetOf union whollyAny againstAbsent together walk pervadeClosing pervade numsScalar
-    lt sizesFrom valueSpec valueAsDim valueAsDims agree equalDim equalDims mismatch shapeMismatch sidedShape checkShape keepsLimits checkScalar
+    lt sizesFrom valueSpec valueAsDim valueAsDims agree equalDim sizesAgree countTest namesAll mismatch shapeMismatch sidedShape checkShape keepsLimits checkScalar
     validate
 cases-hold = (
   ((refl, refl), ((refl, refl), ((refl, refl), tt))),

@@ -1,4 +1,4 @@
--- Demand 1, "gets its result or one of thirteen numbered refusals": whatever the bytes and the buffers, what a lone type and a sheet
+-- Demand 1, "gets its result or one of" fourteen "numbered refusals": whatever the bytes and the buffers, what a lone type and a sheet
 -- are refused with; and what the reading that makes a sheet well-formed is. What each public call is refused with stands in the crate
 -- `numbered`.
 use Prim.Native.Nat.{ℕ, zero, suc, _-_, _≤_}
@@ -196,7 +196,7 @@ lone-number {A} size (got a next) h = go (ltb next size)
     go false = accepted-with
 lone-number size (stopped j q) h = refused-with (among-more ofRecords ofLone (refl, (refl, (refl, (refl, (refl, tt))))) j (h j q refl))
 
--- "A type handed in, of any bytes, gets its result or one of thirteen numbered refusals": 1 to 6.
+-- "A type handed in, of any bytes, gets its result or one of" fourteen "numbered refusals": 1 to 6.
 pub lone-numbered : (s : List ℕ) → RefusedWith ofLone (lone s)
 unfolding lone
 lone-numbered s = lone-number (length s) (readType s 0) (stops-type s .number-is 0)
@@ -262,7 +262,7 @@ well-formed-or-refused s result scratch r c = go (skim s) refl
     go (accepted xs) e = inl (xs, record { read = e; result-holds = r; scratch-holds = c })
     go (refused k p) e = inr (k, p, e, skim-numbered s .number-is k p e)
 
--- ---- the rules: 5, 8, 9 and 10
+-- ---- the rules: 5, 8, 9, 10 and 14
 
 -- Where an answer refuses, it does so with one of these.
 abbrev RefusesWith : {A : Type 0} → List ℕ → Ruling A → Type 0
@@ -301,7 +301,7 @@ pervading-refuses f g (ty s k) (ty t l) = go (pervadeInSheets f g s t)
 
 validating-refuses : (o : Outcome Ty) → Listed o → RefusesWith ofSheet (aside o)
 validating-refuses (accepted t) h = tt
-validating-refuses (refused n p) h = among-more ofValidation ofSheet (refl, (refl, (refl, tt))) n (h .0)
+validating-refuses (refused n p) h = among-more ofValidation ofSheet (refl, (refl, (refl, (refl, tt)))) n (h .0)
 
 rule-refuses : (x : Step) → RuleRefuses ofSheet (ruleOf x)
 rule-refuses (put t) = tt
@@ -321,7 +321,7 @@ work-refuses x st = go (step x (st .stack)) (step-refuses x (st .stack))
     go (gives b) h = tt
     go (refuses k) h = h
 
--- ---- a sheet, worked: 1 to 5 and 8 to 12
+-- ---- a sheet, worked: 1 to 5, 8 to 12 and 14
 
 reading-sheet : All (Among ofSheet) ofReading
 reading-sheet = (refl, (refl, (refl, (refl, (refl, (refl, (refl, tt)))))))
@@ -353,11 +353,11 @@ run-numbered s =
     let run = sheetMore s maxSteps (fresh []) 0 in
     mapped-numbered (λ st. reverse (st .stack)) (outcomeOf run) (outcome-number ofSheet run (stops-sheet s maxSteps (fresh []) .number-is 0))
 
--- ---- the sheet call: 1 to 5 and 7 to 12
+-- ---- the sheet call: 1 to 5, 7 to 12 and 14
 
 handed-numbered : (size : ℕ) (o : Outcome (List Ty)) (result scratch : List ℕ) → RefusedWith ofSheet o → RefusedWith ofSheetCall (answerIn (handOver size o result scratch))
 unfolding handOver
-handed-numbered size (refused k p) result scratch h = refused-with (among-more ofSheet ofSheetCall (refl, (refl, (refl, (refl, (refl, (refl, (refl, (refl, (refl, (refl, tt)))))))))) k (h .number-is k p refl))
+handed-numbered size (refused k p) result scratch h = refused-with (among-more ofSheet ofSheetCall (refl, (refl, (refl, (refl, (refl, (refl, (refl, (refl, (refl, (refl, (refl, tt))))))))))) k (h .number-is k p refl))
 handed-numbered size (accepted ts) result scratch h = go (leb (length (writeTypes ts)) (length result))
   where
     go : (t : Bool)
@@ -365,7 +365,7 @@ handed-numbered size (accepted ts) result scratch h = go (leb (length (writeType
     go true = accepted-with
     go false = refused-with refl
 
--- "A sheet handed in, of any bytes, gets its result or one of thirteen numbered refusals": with any two buffers, 1 to 5 and 7 to 12.
+-- "A sheet handed in, of any bytes, gets its result or one of" fourteen "numbered refusals": with any two buffers, 1 to 5, 7 to 12 and 14.
 pub call-numbered : (s result scratch : List ℕ) → RefusedWith ofSheetCall (answerIn (sheetCall s result scratch))
 unfolding sheetCall
 call-numbered s result scratch = go (ltb (length scratch) scratchBytes)

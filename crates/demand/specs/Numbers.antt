@@ -1,9 +1,9 @@
--- Demand 1, "gets its result or one of thirteen numbered refusals": which of document 01's "Thirteen ways of saying no" a record,
--- a lone type, a sheet and the sheet call can have, as lists of their names.
+-- Demand 1, "gets its result or one of" fourteen "numbered refusals" (its count grows with document 02): which of them a record, a lone
+-- type, a sheet and the sheet call can have, as lists of their names.
 use Prim.Native.Nat.{ℕ}
 use mathlib.Core.List.{List, [], _∷_}
 use mathlib.Core.Path.{_≡_}
-use Rattle.model.specs.Refusals.{ended, unmarked, outOfRange, oversized, tooMany, trailing, tooShort, unpervaded, wrongScalar, wrongShape, underflow, overflow, Among}
+use Rattle.model.specs.Refusals.{ended, unmarked, outOfRange, oversized, tooMany, trailing, tooShort, unpervaded, wrongScalar, wrongShape, underflow, overflow, wrongCount, Among}
 use Rattle.format.specs.Outcome.{Outcome, refused}
 use Rattle.machine.specs.Call.{Tally, Called, called}
 
@@ -21,11 +21,11 @@ ofReading = ended ∷ unmarked ∷ outOfRange ∷ oversized ∷ tooMany ∷ unde
 
 -- those of a sheet, worked: all but 6, which is a lone type's, 7, which is the buffers', and 13, which is a number's
 abbrev pub ofSheet : List ℕ
-ofSheet = ended ∷ unmarked ∷ outOfRange ∷ oversized ∷ tooMany ∷ unpervaded ∷ wrongScalar ∷ wrongShape ∷ underflow ∷ overflow ∷ []
+ofSheet = ended ∷ unmarked ∷ outOfRange ∷ oversized ∷ tooMany ∷ unpervaded ∷ wrongScalar ∷ wrongShape ∷ underflow ∷ overflow ∷ wrongCount ∷ []
 
 -- those of the sheet call
 abbrev pub ofSheetCall : List ℕ
-ofSheetCall = ended ∷ unmarked ∷ outOfRange ∷ oversized ∷ tooMany ∷ tooShort ∷ unpervaded ∷ wrongScalar ∷ wrongShape ∷ underflow ∷ overflow ∷ []
+ofSheetCall = ended ∷ unmarked ∷ outOfRange ∷ oversized ∷ tooMany ∷ tooShort ∷ unpervaded ∷ wrongScalar ∷ wrongShape ∷ underflow ∷ overflow ∷ wrongCount ∷ []
 
 -- An outcome that is refused is refused with one of these. A record, so that the outcome can be read off a goal.
 pub record RefusedWith {A : Type 0} (ns : List ℕ) (o : Outcome A) : Type 0 where

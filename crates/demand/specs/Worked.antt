@@ -18,7 +18,7 @@ use Rattle.rules.specs.Scalars.{supersetCodes, supersetOf, union}
 use Rattle.rules.specs.Pervade.{together, walk, pervadeClosing}
 use Rattle.rules.specs.PervadeInSheets.{inSheetsAt, pervadeInSheets}
 use Rattle.rules.specs.Types.{joinTypes, whollyAny, rowScalar, rowBy}
-use Rattle.validation.specs.CheckShape.{agree, mismatch, shapeMismatch, sidedShape, checkShape}
+use Rattle.validation.specs.CheckShape.{agree, sizesAgree, countTest, namesAll, mismatch, shapeMismatch, sidedShape, checkShape}
 use Rattle.validation.specs.CheckScalar.{checkScalar}
 use Rattle.validation.specs.Validate.{validate}
 use Rattle.machine.specs.SheetLimits.{scratchBytes}
@@ -75,7 +75,7 @@ worked-sheet = record {
 worked-run : sheetRun workedBytes ≡ accepted workedLeft
 unfolding inside below byte judged number code kindOf readMark readDim readDims shapeFrom scalarFrom readTy cmpDim larger compatible joinDim isAny
     rowShape mergeDims mergeClosing mergeFrom joinDims joinClosing joinShapes codeOf supersetCodes supersetOf union together walk
-    pervadeClosing inSheetsAt pervadeInSheets joinTypes whollyAny rowScalar rowBy agree mismatch shapeMismatch sidedShape checkShape checkScalar validate pervadeTypes
+    pervadeClosing inSheetsAt pervadeInSheets joinTypes whollyAny rowScalar rowBy agree sizesAgree countTest namesAll mismatch shapeMismatch sidedShape checkShape checkScalar validate pervadeTypes
     step opcodeFrom argumentFrom stepFrom workFrom sheetMore sheetFrom sheetRun
 worked-run = refl
 
@@ -100,7 +100,7 @@ worked-buffers = worked-leaves (zeroes 15) (zeroes scratchBytes) (long-enough 15
 -- The row is of [2 ?] Num, no Def; the join is of [4] and [3], closed and of one size each.
 pub worked-conditions : FirstConditions workedSteps
 unfolding inside below code cmpDim larger compatible joinDim isAny rowShape mergeDims mergeClosing mergeFrom joinDims joinClosing joinShapes codeOf
-    supersetCodes supersetOf union together walk pervadeClosing inSheetsAt pervadeInSheets joinTypes whollyAny rowScalar rowBy agree mismatch shapeMismatch
+    supersetCodes supersetOf union together walk pervadeClosing inSheetsAt pervadeInSheets joinTypes whollyAny rowScalar rowBy agree sizesAgree countTest namesAll mismatch shapeMismatch
     sidedShape checkShape checkScalar validate pervadeTypes step
 worked-conditions = record {
   names-no-closing = (refl, (tt, (refl, (tt, (refl, (tt, (refl, tt)))))));

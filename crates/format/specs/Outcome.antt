@@ -30,11 +30,11 @@ both f (refused k p) y = refused k p
 
 -- Which of two inputs was refused, and how; the other is not read if the first is refused.
 pub data Refusal : Type 0 where
-  neither : Refusal
+  unrefused : Refusal
   first second : ℕ → ℕ → Refusal
 
 abbrev pub refusalOf : {A B : Type 0} → Outcome A → Outcome B → Refusal
-refusalOf (accepted a) (accepted b) = neither
+refusalOf (accepted a) (accepted b) = unrefused
 refusalOf (accepted a) (refused k p) = second k p
 refusalOf (refused k p) y = first k p
 

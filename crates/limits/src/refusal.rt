@@ -25,3 +25,5 @@ pub const UNDERFLOW: u8 = 11;
 pub const OVERFLOW: u8 = 12;
 
 pub const NOT_A_SIZE: u8 = 13;
+
+pub const WRONG_COUNT: u8 = 14;

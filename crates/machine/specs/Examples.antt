@@ -8,7 +8,7 @@ use mathlib.Core.Option.{Option, none, some}
 use mathlib.Core.Path.{_≡_, refl}
 use lib.ListN.{length, replicate}
 use borrow.Author.Tests.{le-ltb}
-use Rattle.model.specs.Refusals.{ended, unmarked, outOfRange, tooShort, unpervaded, wrongScalar, wrongShape, underflow, overflow}
+use Rattle.model.specs.Refusals.{ended, unmarked, outOfRange, tooShort, unpervaded, wrongScalar, wrongShape, wrongCount, underflow, overflow}
 use Rattle.model.specs.Types.{static, unknown, Shape, shape, Kind, num, char, plain, boxAny, boxAll, Ty, ty, inside, below}
 use Rattle.model.specs.Within.{All}
 use Rattle.format.specs.Reader.{byte, judged, number, bytesOf}
@@ -21,9 +21,9 @@ use Rattle.rules.specs.Scalars.{supersetCodes, supersetOf, union}
 use Rattle.rules.specs.Pervade.{againstAbsent, together, walk, pervadeClosing}
 use Rattle.rules.specs.PervadeInSheets.{inSheetsAt, pervadeInSheets}
 use Rattle.rules.specs.Types.{joinTypes, whollyAny, rowScalar, rowBy}
-use Rattle.validation.specs.CheckShape.{agree, equalDim, equalDims, mismatch, shapeMismatch, sidedShape, checkShape}
+use Rattle.validation.specs.CheckShape.{agree, equalDim, sizesAgree, countTest, namesAll, mismatch, shapeMismatch, sidedShape, checkShape}
 use Rattle.validation.specs.AsFields.{keepsLimits}
-use Rattle.validation.specs.CheckScalar.{checkScalar}
+use Rattle.validation.specs.CheckScalar.{onAll, checkScalar}
 use Rattle.validation.specs.Validate.{validate}
 use Rattle.machine.specs.SheetLimits.{maxSteps, maxStack, scratchBytes, resultBytes, programBytes}
 use Rattle.machine.specs.Steps.{Step, put, row, pervading, join, validating, markOf, opcodes, takes, lays, flagByte, maxFlag, writeSteps}
@@ -135,13 +135,23 @@ examples =
     ∷ theSteps (writeSteps (put (nums (3 ∷ [])) ∷ put (nums (4 ∷ [])) ∷ pervading false false ∷ row ∷ [])) (put (nums (3 ∷ [])) ∷ put (nums (4 ∷ [])) ∷ pervading false false ∷ row ∷ [])
     ∷ []
 
-pub examples-shown : All Shown examples
-unfolding examples inside below byte judged number bytesOf code kindOf writeShape writeScalar writeTy readMark readDim readDims shapeFrom readName
+unfoldable pub mismatchExamples : List Example
+mismatchExamples =
+    -- 14 is at the step's mark too, of the type itself and of what a box holds.
+    theRefusal (writeSteps (put (ty (shape (static 2 ∷ []) (some [])) (plain num)) ∷ validating (nums (2 ∷ 3 ∷ [])) ∷ [])) wrongCount 17
+    ∷ theRefusal (writeSteps (put (ty (shape [] none) (boxAll (shape (static 2 ∷ static 3 ∷ []) none) (plain num))) ∷ validating (ty (shape [] none) (boxAll (shape (static 2 ∷ []) none) (plain num))) ∷ [])) wrongCount 35
+    ∷ []
+
+pub examples-shown : All Shown examples × All Shown mismatchExamples
+unfolding examples mismatchExamples inside below byte judged number bytesOf code kindOf writeShape writeScalar writeTy readMark readDim readDims shapeFrom readName
     readFields defFrom boxFrom scalarFrom readTy cmpDim larger compatible joinDim isAny rank rowShape mergeDims mergeClosing mergeFrom joinDims
     joinLonger joinEnds joinClosing joinShapes codeOf supersetCodes supersetOf union againstAbsent together walk pervadeClosing inSheetsAt
-    pervadeInSheets joinTypes whollyAny rowScalar rowBy agree equalDim equalDims mismatch shapeMismatch sidedShape checkShape keepsLimits checkScalar validate
+    pervadeInSheets joinTypes whollyAny rowScalar rowBy agree equalDim sizesAgree countTest namesAll mismatch shapeMismatch sidedShape checkShape keepsLimits onAll checkScalar validate
     writeSteps pervadeTypes step opcodeFrom argumentFrom stepFrom workFrom sheetMore skimMore sheetFrom skimFrom sheetRun skim writeTypes
-examples-shown = (refl, (refl, (refl, (refl, (refl, (refl, (refl, (refl, (refl, (refl, (refl, (refl, (refl, (refl, (refl, (refl, (refl, (refl, (refl, (refl, (refl, (refl, (refl, (refl, (refl, (refl, (refl, tt)))))))))))))))))))))))))))
+examples-shown = (
+  (refl, (refl, (refl, (refl, (refl, (refl, (refl, (refl, (refl, (refl, (refl, (refl, (refl, (refl, (refl, (refl, (refl, (refl, (refl, (refl, (refl, (refl, (refl, (refl, (refl, (refl, (refl, tt))))))))))))))))))))))))))),
+  (refl, (refl, tt)),
+)
 
 -- ---- the whole call
 

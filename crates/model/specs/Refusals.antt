@@ -1,5 +1,5 @@
--- The thirteen ways of saying no (document 01, the section of that name): each refusal's number, with a name for it.
--- Definitions cite the names; the numbers stand here alone.
+-- The ways of saying no (document 01, "Thirteen ways of saying no", and the number that document 02 adds): each refusal's number, with a
+-- name for it. Definitions cite the names; the numbers stand here alone.
 use Prim.Native.Nat.{ℕ}
 use mathlib.Core.Bool.{Bool, true, false, _||_}
 use mathlib.Core.List.{List, [], _∷_}
@@ -34,7 +34,7 @@ trailing = 6
 abbrev pub tooShort : ℕ
 tooShort = 7
 
--- pervading, scalar and shape mismatch
+-- pervading, scalar and shape mismatch; of the last, a size that differs (document 02, 2026-03)
 abbrev pub unpervaded : ℕ
 unpervaded = 8
 
@@ -55,11 +55,15 @@ overflow = 12
 abbrev pub notASize : ℕ
 notASize = 13
 
+-- a shape mismatch whose count cannot fit (document 02, 2026-03)
+abbrev pub wrongCount : ℕ
+wrongCount = 14
+
 -- ---- lists of them
 
--- all thirteen
-abbrev pub thirteen : List ℕ
-thirteen = ended ∷ unmarked ∷ outOfRange ∷ oversized ∷ tooMany ∷ trailing ∷ tooShort ∷ unpervaded ∷ wrongScalar ∷ wrongShape ∷ underflow ∷ overflow ∷ notASize ∷ []
+-- all of them, fourteen
+abbrev pub refusals : List ℕ
+refusals = ended ∷ unmarked ∷ outOfRange ∷ oversized ∷ tooMany ∷ trailing ∷ tooShort ∷ unpervaded ∷ wrongScalar ∷ wrongShape ∷ underflow ∷ overflow ∷ notASize ∷ wrongCount ∷ []
 
 -- a number is one of a list
 abbrev pub isAmong : List ℕ → ℕ → Bool

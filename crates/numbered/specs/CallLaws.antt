@@ -14,14 +14,15 @@ use Rattle.model.specs.Within.{All}
 use Rattle.format.specs.Records.{dimNumber, writeTy}
 use Rattle.format.specs.Outcome.{Outcome, accepted, refused, bound, both, Delivery, delivery, deliver}
 use Rattle.rules.specs.Types.{Boxes, writeBoxes}
+use Rattle.validation.specs.Separate.{Input, separate}
 use Rattle.machine.specs.Call.{tally, Called, called}
 use Rattle.demand.specs.Numbers.{RefusedWith, answerIn}
 use Rattle.demand.specs.Numbered.{among-more, accepted-with, refused-with}
 use Rattle.ty.specs.Calls.{offered, deliverBoxes}
 use Rattle.val.specs.Values.{Row, rowNumber, rowTyped, written as rowWritten, deliverRow}
 use Rattle.velgrodis.specs.declared.Answer.{Answer}
-use Rattle.velgrodis.specs.Answers.{answered, written, listed, deliverSizes, rowed, checked}
-use Rattle.numbered.specs.Calls.{beside, besideRow, besideBoth, RefusesOnly}
+use Rattle.velgrodis.specs.Answers.{answered, written, listed, deliverSizes, rowed, validationOf, checked}
+use Rattle.numbered.specs.Calls.{beside, besideRow, besideValidation, besideBoth, RefusesOnly}
 
 -- ---- outcomes
 
@@ -62,6 +63,13 @@ written-only ns short (accepted w) result h = go (leb (length w) (length result)
     go : (t : Bool) → RefusesOnly ns (beside (written (cond t (delivery (accepted (length w)) (w ++ drop (length w) result)) (delivery (refused tooShort 0) result))))
     go true = λ e. absurd (omega arith)
     go false = λ e. short
+
+-- of a validation, whatever was being read
+separate-beside : (ns : List ℕ) (d : Delivery) (i : Input) → RefusesOnly ns (beside (written d)) → RefusesOnly ns (besideValidation (validationOf (separate d i)) .answer)
+separate-beside ns (delivery o buffer) i h = h
+
+pub separate-only : (ns : List ℕ) → Among ns tooShort → (o : Outcome (List ℕ)) (result : List ℕ) (i : Input) → RefusedWith ns o → RefusesOnly ns (besideValidation (validationOf (separate (deliver o result) i)) .answer)
+separate-only ns short o result i h = separate-beside ns (deliver o result) i (written-only ns short o result h)
 
 -- of a list of boxes or of sizes, which may be none
 offered-only : (ns : List ℕ) → Among ns tooShort → (w result : List ℕ) → RefusesOnly ns (beside (listed (offered (deliver (accepted w) result))))

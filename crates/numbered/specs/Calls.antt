@@ -1,17 +1,18 @@
--- Demand 1, "gets its result or one of thirteen numbered refusals", of every public call: the 48 that the library exports, what each
+-- Demand 1, "gets its result or one of" fourteen "numbered refusals", of every public call: the 48 that the library exports, what each
 -- answers, as in its contract (`velgrodis/src`), and a table of the numbers that it can be refused with.
 use Prim.Native.Nat.{ℕ}
 use mathlib.Core.List.{List, [], _∷_}
 use mathlib.Core.Path.{_≡_}
 use lib.Ieee.{Float}
-use Rattle.model.specs.Refusals.{ended, unmarked, outOfRange, oversized, tooMany, trailing, tooShort, unpervaded, wrongScalar, wrongShape, notASize, Among}
+use Rattle.model.specs.Refusals.{ended, unmarked, outOfRange, oversized, tooMany, trailing, tooShort, unpervaded, wrongScalar, wrongShape, notASize, wrongCount, Among}
 use Rattle.format.specs.Records.{writeScalar, writeTy}
-use Rattle.format.specs.Outcome.{accepted, mapped, bound, both, lone, deliver, shapeRecord, scalarRecord}
+use Rattle.format.specs.Outcome.{accepted, mapped, bound, lone, deliver, shapeRecord, scalarRecord}
 use Rattle.rules.specs.Order.{compare}
 use Rattle.rules.specs.Scalars.{supersetOf, compatibleScalars, compatibleWithBoxes, union, unrefine}
 use Rattle.rules.specs.KindTable.{kindTable}
 use Rattle.rules.specs.Types.{intoRow, intoFirstRow, intoLastRow, intoNthRow, unboxed, asBoxes, fieldPlace}
 use Rattle.validation.specs.Validate.{validate, checkScalarOnly, checkShapeOnly}
+use Rattle.validation.specs.Separate.{separately}
 use Rattle.machine.specs.Call.{sheetCall}
 use Rattle.demand.specs.Numbers.{ofLone, ofSheetCall}
 use Rattle.record.specs.Answers.{nothing}
@@ -21,7 +22,8 @@ use Rattle.ty.specs.Calls.{deliverBoxes}
 use Rattle.join.specs.Calls.{joinCall as joinTypesCall}
 use Rattle.val.specs.Values.{valueTy, valueSpec, valueScalar, numsScalar, valueRowCount, valueRank, valueAsDim, valueAsDims, valueRow, valueFirstRow, valueLastRow, deliverRow}
 use Rattle.velgrodis.specs.declared.Answer.{Answer}
-use Rattle.velgrodis.specs.Answers.{counted, tested, sized, sizedOrNone, compared, found, Handed, handed, written, listed, deliverSizes, RowHanded, rowHanded, rowed, Returned, returned, checked}
+use Rattle.velgrodis.specs.declared.Validation.{Validation}
+use Rattle.velgrodis.specs.Answers.{counted, tested, sized, sizedOrNone, compared, found, Handed, handed, written, listed, deliverSizes, RowHanded, rowHanded, rowed, ValidationHanded, validationHanded, validationOf, Returned, returned, checked}
 use Rattle.velgrodis.specs.Codes.{pervadeFlagged, sided, handedIn}
 
 -- ---- the calls
@@ -69,6 +71,10 @@ beside (handed r buffer) = r
 abbrev pub besideRow : RowHanded → Answer
 besideRow (rowHanded r x buffer) = r
 
+-- a validation, which has one number more (Readings)
+abbrev pub besideValidation : ValidationHanded → Validation
+besideValidation (validationHanded v buffer) = v
+
 abbrev pub besideBoth : Returned → Answer
 besideBoth (returned r result scratch) = r
 
@@ -106,9 +112,9 @@ replyTo (vg-unboxed t result) = beside (written (deliver (mapped (λ u. writeTy 
 replyTo (vg-as-boxes t result) = beside (listed (deliverBoxes (bound asBoxes (lone t)) result))
 replyTo (vg-field t n) = found (mapped (fieldPlace n) (lone t))
 replyTo (vg-join a b result) = beside (written (deliver (joinTypesCall a b) result))
-replyTo (vg-validate side spec t result) = beside (written (deliver (sided validate side spec t) result))
-replyTo (vg-check-shape side spec t result) = beside (written (deliver (sided checkShapeOnly side spec t) result))
-replyTo (vg-check-scalar spec t result) = beside (written (deliver (both (λ s u. mapped writeTy (checkScalarOnly s u)) (lone spec) (lone t)) result))
+replyTo (vg-validate side spec t result) = besideValidation (validationOf (sided validate side spec t result)) .answer
+replyTo (vg-check-shape side spec t result) = besideValidation (validationOf (sided checkShapeOnly side spec t result)) .answer
+replyTo (vg-check-scalar spec t result) = besideValidation (validationOf (separately checkScalarOnly spec t result)) .answer
 replyTo (vg-val-ty kind x list t result) = beside (written (deliver (mapped writeTy (bound valueTy (handedIn kind x list t))) result))
 replyTo (vg-val-spec kind x list t result) = beside (written (deliver (mapped writeTy (bound valueSpec (handedIn kind x list t))) result))
 replyTo (vg-val-scalar kind x list t result) = beside (written (deliver (mapped writeScalar (mapped valueScalar (handedIn kind x list t))) result))
@@ -137,10 +143,10 @@ abbrev pub ofPervaded : List ℕ
 ofPervaded = ended ∷ unmarked ∷ outOfRange ∷ oversized ∷ tooMany ∷ trailing ∷ tooShort ∷ unpervaded ∷ []
 
 abbrev pub ofShapeChecked : List ℕ
-ofShapeChecked = ended ∷ unmarked ∷ outOfRange ∷ oversized ∷ tooMany ∷ trailing ∷ tooShort ∷ wrongShape ∷ []
+ofShapeChecked = ended ∷ unmarked ∷ outOfRange ∷ oversized ∷ tooMany ∷ trailing ∷ tooShort ∷ wrongShape ∷ wrongCount ∷ []
 
 abbrev pub ofValidated : List ℕ
-ofValidated = ended ∷ unmarked ∷ outOfRange ∷ oversized ∷ tooMany ∷ trailing ∷ tooShort ∷ wrongScalar ∷ wrongShape ∷ []
+ofValidated = ended ∷ unmarked ∷ outOfRange ∷ oversized ∷ tooMany ∷ trailing ∷ tooShort ∷ wrongScalar ∷ wrongShape ∷ wrongCount ∷ []
 
 -- A number as a size, and numbers as sizes, for which there is a result.
 abbrev pub ofSize : List ℕ

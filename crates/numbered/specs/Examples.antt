@@ -4,36 +4,43 @@ use Prim.Native.Nat.{ℕ, zero, suc, _^_}
 use mathlib.Core.List.{List, [], _∷_, _++_}
 use mathlib.Core.Path.{_≡_, refl}
 use lib.Ieee.{nan}
-use Rattle.model.specs.Refusals.{ended, unmarked, outOfRange, oversized, tooMany, trailing, tooShort, unpervaded, wrongScalar, wrongShape, notASize}
+use Rattle.model.specs.Refusals.{ended, unmarked, outOfRange, oversized, tooMany, trailing, tooShort, unpervaded, wrongScalar, wrongShape, notASize, wrongCount}
 use Rattle.model.specs.Types.{inside, below}
 use Rattle.model.specs.Within.{All}
 use Rattle.format.specs.Reader.{byte, judged, number, bytesOf}
-use Rattle.format.specs.Records.{code, kindOf, writeShape, writeScalar, readMark, readDim, readDims, shapeFrom, boxFrom, scalarFrom, readTy}
+use Rattle.format.specs.Records.{code, kindOf, writeShape, writeScalar, writeTy, readMark, readDim, readDims, shapeFrom, boxFrom, scalarFrom, readTy}
 use Rattle.format.specs.Outcome.{lone, deliver}
 use Rattle.rules.specs.Sizes.{cmpDim, compatible}
-use Rattle.rules.specs.Shapes.{isAny, rowCount}
+use Rattle.rules.specs.Shapes.{isAny, rowCount, mergeDims, mergeClosing, mergeFrom}
 use Rattle.rules.specs.Order.{codeOf, kindPlace}
 use Rattle.rules.specs.Scalars.{supersetCodes, supersetOf, compatibleCodes, compatibleScalars, union}
 use Rattle.rules.specs.KindTable.{squares, kindTable}
 use Rattle.rules.specs.Pervade.{together, walk, pervadeClosing, pervade}
 use Rattle.rules.specs.Types.{whollyAny, copiesFor, asBoxes}
-use Rattle.validation.specs.CheckShape.{agree, mismatch, shapeMismatch, checkShape}
+use Rattle.validation.specs.CheckShape.{agree, sizesAgree, countTest, namesAll, mismatch, shapeMismatch, sidedShape, checkShape}
 use Rattle.validation.specs.CheckScalar.{checkScalar}
 use Rattle.validation.specs.Validate.{validate, checkShapeOnly}
+use Rattle.validation.specs.Separate.{Input, spec, checkedType, neither}
 use Rattle.machine.specs.Call.{sheetCall}
 use Rattle.number.specs.Sizes.{sizesFrom}
 use Rattle.number.specs.Examples.{half, one, eightOnes}
 use Rattle.ty.specs.Calls.{deliverBoxes}
 use Rattle.val.specs.Values.{valueSpec, numsScalar, valueAsDim, valueAsDims}
-use Rattle.velgrodis.specs.Answers.{no, deliverSizes}
-use Rattle.numbered.specs.Calls.{Call, vg-dim-cmp, vg-read, vg-shape-record, vg-as-boxes, vg-pervade, vg-check-shape, vg-validate, vg-val-spec, vg-as-dim, vg-as-dims, vg-nums-scalar, vg-kinds, vg-check-sheet, replyTo}
+use Rattle.velgrodis.specs.Answers.{no, value, whileReading, validationOf, deliverSizes}
+use Rattle.velgrodis.specs.Codes.{sided}
+use Rattle.numbered.specs.Calls.{Call, vg-dim-cmp, vg-read, vg-shape-record, vg-as-boxes, vg-pervade, vg-check-shape, vg-validate, vg-val-spec, vg-as-dim, vg-as-dims, vg-nums-scalar, vg-kinds, vg-check-sheet, besideValidation, replyTo}
 
 -- a call, with the number and the place that it is refused with
 pub data Example : Type 0 where
   theRefusal : Call → ℕ → ℕ → Example
+  -- a validation for a side, with the input that was being read besides, and one that is accepted
+  theReading : ℕ → List ℕ → List ℕ → ℕ → ℕ → Input → Example
+  theAccepted : ℕ → List ℕ → List ℕ → List ℕ → ℕ → Example
 
 abbrev pub Shown : Example → Type 0
 Shown (theRefusal c k p) = replyTo c ≡ no k p
+Shown (theReading side s t k p i) = besideValidation (validationOf (sided validate side s t [])) ≡ whileReading i (no k p)
+Shown (theAccepted side s t result n) = besideValidation (validationOf (sided validate side s t result)) ≡ whileReading neither (value n 0)
 
 -- a kind under [], and under [n]
 abbrev atom : ℕ → List ℕ
@@ -82,9 +89,27 @@ examples =
     ∷ theRefusal (vg-check-sheet [] [] []) tooShort 0
     ∷ []
 
-pub examples-shown : All Shown examples
-unfolding examples replyTo kindTable squares compatibleCodes compatibleScalars kindPlace union lone deliver readTy shapeFrom scalarFrom boxFrom readMark readDims readDim judged byte number bytesOf code kindOf writeShape writeScalar
+unfoldable pub readingExamples : List Example
+readingExamples =
+    -- which input was being read: the spec; the type; both are damaged, and the spec is read first; a side that is none, before either;
+    -- both were read: a mismatch, and a result too short
+    theReading 0 (0x53 ∷ 0x48 ∷ 1 ∷ []) (atom 3) ended 0 spec
+    ∷ theReading 1 (atom 3) (atom 10) outOfRange 4 checkedType
+    ∷ theReading 2 (atom 3 ++ (0 ∷ [])) (0x58 ∷ 0x58 ∷ []) trailing 7 spec
+    ∷ theReading 3 (0x58 ∷ 0x58 ∷ []) (atom 3) outOfRange 0 neither
+    ∷ theReading 0 (atom 3) (atom 6) wrongScalar 0 neither
+    ∷ theReading 0 (vector 2 3) (vector 3 3) wrongShape 0 neither
+    ∷ theReading 0 (vector 2 3) (atom 3) wrongCount 0 neither
+    ∷ theReading 0 (atom 3) (atom 3) tooShort 0 neither
+    ∷ theAccepted 0 (atom 3) (atom 3) (0 ∷ 0 ∷ 0 ∷ 0 ∷ 0 ∷ 0 ∷ 0 ∷ []) 7
+    ∷ []
+
+pub examples-shown : All Shown examples × All Shown readingExamples
+unfolding examples readingExamples replyTo kindTable squares compatibleCodes compatibleScalars kindPlace union lone deliver readTy shapeFrom scalarFrom boxFrom readMark readDims readDim judged byte number bytesOf code kindOf writeShape writeScalar
     cmpDim compatible isAny rowCount codeOf supersetCodes supersetOf together walk pervadeClosing pervade whollyAny copiesFor asBoxes agree
-    mismatch shapeMismatch checkShape checkScalar validate checkShapeOnly sheetCall sizesFrom deliverBoxes valueSpec numsScalar valueAsDim valueAsDims
+    sizesAgree countTest namesAll mismatch shapeMismatch sidedShape mergeDims mergeClosing mergeFrom writeTy checkShape checkScalar validate checkShapeOnly sheetCall sizesFrom deliverBoxes valueSpec numsScalar valueAsDim valueAsDims
     deliverSizes inside below
-examples-shown = (refl, (refl, (refl, (refl, (refl, (refl, (refl, (refl, (refl, (refl, (refl, (refl, (refl, (refl, (refl, (refl, (refl, (refl, (refl, (refl, (refl, (refl, (refl, (refl, tt))))))))))))))))))))))))
+examples-shown = (
+  (refl, (refl, (refl, (refl, (refl, (refl, (refl, (refl, (refl, (refl, (refl, (refl, (refl, (refl, (refl, (refl, (refl, (refl, (refl, (refl, (refl, (refl, (refl, (refl, tt)))))))))))))))))))))))),
+  (refl, (refl, (refl, (refl, (refl, (refl, (refl, (refl, (refl, tt))))))))),
+)

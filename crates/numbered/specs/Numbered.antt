@@ -1,18 +1,19 @@
 -- Demand 1, of every public call: whatever is handed in and lent, an answer that is a refusal has one of the numbers that the table
--- says of the call, and these are of the thirteen.
+-- says of the call, and these are of the fourteen.
 use Prim.Native.Nat.{ℕ, zero, suc}
 use native.Mathlib.Omega.{arith}
 use mathlib.Core.Bool.{Bool}
 use mathlib.Core.List.{List}
+use mathlib.Core.Logic.{⊎-elim}
 use mathlib.Core.Option.{Option, none, some}
 use mathlib.Core.Path.{_≡_, refl}
 use lib.Dec.{leb}
 use Rattle.model.specs.Limits.{maxFields}
-use Rattle.model.specs.Refusals.{thirteen, Among}
+use Rattle.model.specs.Refusals.{tooShort, wrongShape, wrongCount, refusals, Among}
 use Rattle.model.specs.Types.{Dim, static, unknown, Shape, plain, boxAny, boxAll, boxDef, Ty, ty, shapeOf, scalarOf}
 use Rattle.model.specs.Within.{All}
 use Rattle.format.specs.Records.{writeShape, writeScalar, writeTy}
-use Rattle.format.specs.Outcome.{Outcome, accepted, refused, mapped, bound, both, lone, shapeRecord, scalarRecord}
+use Rattle.format.specs.Outcome.{Outcome, accepted, refused, mapped, bound, both, refusalOf, lone, shapeRecord, scalarRecord}
 use Rattle.rules.specs.Sizes.{Order, less, same, more, cmpDim, cmpDefined, larger, joinDim, compatible, rowCompatible}
 use Rattle.rules.specs.Shapes.{isScalar, isAny, rowCount, rank, rowShape, compatibleShapes, mergeFrom, joinShapes}
 use Rattle.rules.specs.Order.{compare}
@@ -20,9 +21,10 @@ use Rattle.rules.specs.Scalars.{supersetOf, compatibleScalars, compatibleWithBo
 use Rattle.rules.specs.KindTable.{kindTable}
 use Rattle.rules.specs.Pervade.{pervade}
 use Rattle.rules.specs.Types.{anyTy, joinTypes, intoRow, intoFirstRow, intoLastRow, intoNthRow, unboxed, copiesFor, asBoxes, Stretch, stretch, fieldPlace}
-use Rattle.validation.specs.CheckShape.{Side, checkShape}
+use Rattle.validation.specs.CheckShape.{Side, unsided, left, right, checkShape}
 use Rattle.validation.specs.CheckShapeLaws.{checkShape-refused}
 use Rattle.validation.specs.Validate.{validate, checkScalarOnly, checkShapeOnly}
+use Rattle.validation.specs.Separate.{beingRead, separately}
 use Rattle.validation.specs.Claims.{ofValidation, Listed}
 use Rattle.validation.specs.RefusalsLaws.{validate-listed, checkScalarOnly-listed}
 use Rattle.machine.specs.Call.{sheetCall}
@@ -34,16 +36,16 @@ use Rattle.shape_calls.specs.Calls.{onShapes, mergeCall, joinShapesCall, rowCal
 use Rattle.join.specs.Calls.{joinCall as joinTypesCall}
 use Rattle.val.specs.Values.{valueTy, valueSpec, valueScalar, numsScalar, valueRowCount, valueRank, valueAsDim, valueAsDims, valueRow, valueFirstRow, valueLastRow}
 use Rattle.velgrodis.specs.declared.Answer.{Answer}
-use Rattle.velgrodis.specs.Answers.{orNothing, numbered, counted, told, tested, dimmed, sized, sizedOrNone, ordered, compared, stretched, found}
-use Rattle.velgrodis.specs.Codes.{pervadeFlagged, sideFor, sided, handedIn}
+use Rattle.velgrodis.specs.Answers.{orNothing, numbered, counted, told, tested, dimmed, sized, sizedOrNone, ordered, compared, stretched, found, validationOf}
+use Rattle.velgrodis.specs.Codes.{pervadeFlagged, sided, handedIn}
 use Rattle.demand.specs.Numbers.{ofLone, ofSheetCall, RefusedWith}
 use Rattle.demand.specs.Numbered.{among-more, accepted-with, refused-with, lone-numbered, mapped-numbered, call-numbered}
-use Rattle.numbered.specs.Calls.{Call, replyTo, ofSizes, ofWritten, ofPervaded, ofShapeChecked, ofValidated, ofSize, ofSizesWritten, ofResult, numbersOf, RefusesOnly}
+use Rattle.numbered.specs.Calls.{Call, besideValidation, replyTo, ofSizes, ofWritten, ofPervaded, ofShapeChecked, ofValidated, ofSize, ofSizesWritten, ofResult, numbersOf, RefusesOnly}
 use Rattle.numbered.specs.Calls.{vg-dim-cmp, vg-dim-cmp-defined, vg-dim-max, vg-dim-join, vg-dim-compatible, vg-dim-row-compatible, vg-merge, vg-join-shapes, vg-compatible-shapes, vg-row-shape, vg-shape-is-any}
 use Rattle.numbered.specs.Calls.{vg-shape-is-scalar, vg-row-count, vg-rank, vg-pervade, vg-union, vg-unrefine, vg-superset, vg-compatible-scalars, vg-compatible-with-boxes, vg-compare, vg-kinds, vg-read, vg-shape-record}
 use Rattle.numbered.specs.Calls.{vg-scalar-record, vg-row, vg-first-row, vg-last-row, vg-unboxed, vg-as-boxes, vg-nth-row, vg-field, vg-join, vg-validate, vg-check-shape, vg-check-scalar, vg-val-ty, vg-val-spec}
 use Rattle.numbered.specs.Calls.{vg-val-scalar, vg-as-dims, vg-val-row-count, vg-val-rank, vg-as-dim, vg-val-row, vg-val-first-row, vg-val-last-row, vg-nums-scalar, vg-check-sheet}
-use Rattle.numbered.specs.CallLaws.{more-numbered, either-numbered, bound-numbered, both-numbered, NotRefused, answered-only, written-only, boxes-only, sizes-only, row-only, sheet-only}
+use Rattle.numbered.specs.CallLaws.{more-numbered, either-numbered, bound-numbered, both-numbered, NotRefused, answered-only, written-only, separate-only, boxes-only, sizes-only, row-only, sheet-only}
 use Rattle.numbered.specs.ValueLaws.{ty-with, row-count-with, spec-with, as-dim-with, as-dims-with, handed-with}
 
 -- ---- answers alone are no refusals
@@ -133,17 +135,18 @@ module _ {ns : List ℕ} (all : All (Among ns) ofLone) where
   of-types : {C : Type 0} (f : Ty → Ty → C) (a b : List ℕ) → RefusedWith ns (ofTypes f a b)
   of-types f a b = from-two (λ t u. accepted (f t u)) (λ t u. accepted-with) a b
 
-  -- a side that is none is 3
-  side-with : (n : ℕ) → RefusedWith ns (sideFor n)
-  side-with zero = accepted-with
-  side-with (suc zero) = accepted-with
-  side-with (suc (suc zero)) = accepted-with
-  side-with (suc (suc (suc n))) = refused-with (all .1 .1 .0)
+  -- a validation of what was read, and for a side; one that is none is 3
+  separate-with : Among ns tooShort → (f : Ty → Ty → Outcome Ty) → ((s t : Ty) → RefusedWith ns (f s t)) → (spec t result : List ℕ) → RefusesOnly ns (besideValidation (validationOf (separately f spec t result)) .answer)
+  separate-with short f h spec t result =
+      let call : Outcome (List ℕ) = both (λ s u. mapped writeTy (f s u)) (lone spec) (lone t) in
+      separate-only ns short call result (beingRead (refusalOf (lone spec) (lone t))) (from-two (λ s u. mapped writeTy (f s u)) (λ s u. mapped-numbered writeTy (f s u) (h s u)) spec t)
 
-  sided-with : (f : Side → Ty → Ty → Outcome Ty) → ((side : Side) (s t : Ty) → RefusedWith ns (f side s t)) → (n : ℕ) (spec t : List ℕ) → RefusedWith ns (sided f n spec t)
-  sided-with f h n spec t =
-      bound-numbered (λ side. both (λ s u. mapped writeTy (f side s u)) (lone spec) (lone t)) (sideFor n) (side-with n) λ side.
-      from-two (λ s u. mapped writeTy (f side s u)) (λ s u. mapped-numbered writeTy (f side s u) (h side s u)) spec t
+  sided-with : Among ns tooShort → (f : Side → Ty → Ty → Outcome Ty) → ((side : Side) (s t : Ty) → RefusedWith ns (f side s t)) → (n : ℕ) (spec t result : List ℕ)
+      → RefusesOnly ns (besideValidation (validationOf (sided f n spec t result)) .answer)
+  sided-with short f h zero spec t result = separate-with short (f unsided) (h unsided) spec t result
+  sided-with short f h (suc zero) spec t result = separate-with short (f left) (h left) spec t result
+  sided-with short f h (suc (suc zero)) spec t result = separate-with short (f right) (h right) spec t result
+  sided-with short f h (suc (suc (suc n))) spec t result = λ e. all .1 .1 .0
 
 -- ---- the rules
 
@@ -169,27 +172,33 @@ boxes-with (ty s boxAny) = copies-with (rowCount s) anyTy
 boxes-with (ty s (boxAll t k)) = copies-with (rowCount s) (ty t k)
 boxes-with (ty s (boxDef n f)) = accepted-with
 
-listed-with : {A : Type 0} (o : Outcome A) → Listed o → RefusedWith ofValidated o
-listed-with (accepted a) h = accepted-with
-listed-with (refused n p) h = refused-with (among-more ofValidation ofValidated (refl, (refl, (refl, tt))) n (h .0))
+pub listed-with : {ns : List ℕ} → All (Among ns) ofValidation → {A : Type 0} (o : Outcome A) → Listed o → RefusedWith ns o
+listed-with m (accepted a) h = accepted-with
+listed-with {ns} m (refused n p) h = refused-with (among-more ofValidation ns m n (h .0))
+
+validation-known : All (Among ofValidated) ofValidation
+validation-known = (refl, (refl, (refl, (refl, tt))))
 
 validate-with : (side : Side) (s t : Ty) → RefusedWith ofValidated (validate side s t)
-validate-with side s t = listed-with (validate side s t) (validate-listed side s t)
+validate-with side s t = listed-with validation-known (validate side s t) (validate-listed side s t)
 
-scalar-with : (s t : Ty) → RefusedWith ofValidated (mapped writeTy (checkScalarOnly s t))
-scalar-with s t = mapped-numbered writeTy (checkScalarOnly s t) (listed-with (checkScalarOnly s t) (checkScalarOnly-listed s t))
+scalar-with : (s t : Ty) → RefusedWith ofValidated (checkScalarOnly s t)
+scalar-with s t = listed-with validation-known (checkScalarOnly s t) (checkScalarOnly-listed s t)
 
-shape-with : (side : Side) (s t : Ty) → RefusedWith ofShapeChecked (checkShapeOnly side s t)
+pub shape-with : {ns : List ℕ} → Among ns wrongShape → Among ns wrongCount → (side : Side) (s t : Ty) → RefusedWith ns (checkShapeOnly side s t)
 unfolding checkShapeOnly
-shape-with side (ty s k) (ty t l) = mapped-numbered (λ u. ty u l) (checkShape side s t) (go (checkShape side s t) refl)
+shape-with {ns} size count side (ty s k) (ty t l) = mapped-numbered (λ u. ty u l) (checkShape side s t) (go (checkShape side s t) refl)
   where
-    go : (r : Outcome Shape) → checkShape side s t ≡ r → RefusedWith ofShapeChecked r
+    go : (r : Outcome Shape) → checkShape side s t ≡ r → RefusedWith ns r
     go (accepted u) e = accepted-with
-    go (refused n p) e = refused-with (rw (checkShape-refused side s t e .0) refl)
+    go (refused n p) e = refused-with (⊎-elim (λ q. rw q size) (λ q. rw q count) (checkShape-refused side s t e .0))
+
+shape-checked-with : (side : Side) (s t : Ty) → RefusedWith ofShapeChecked (checkShapeOnly side s t)
+shape-checked-with = shape-with refl refl
 
 -- ---- every call
 
--- "Gets its result or one of thirteen numbered refusals": each call, one of its own.
+-- "Gets its result or one of" fourteen "numbered refusals": each call, one of its own.
 pub call-refuses-only : (c : Call) → RefusesOnly (numbersOf c) (replyTo c)
 unfolding replyTo
 call-refuses-only (vg-dim-cmp a b) = compared-only ofSizes (cmpCall a b) (sizes-with cmpDim a b)
@@ -227,13 +236,9 @@ call-refuses-only (vg-unboxed t result) = written-only ofWritten refl (mapped (�
 call-refuses-only (vg-as-boxes t result) = boxes-only ofWritten refl (bound asBoxes (lone t)) result (from-one lone-written asBoxes boxes-with t)
 call-refuses-only (vg-field t n) = found-only ofLone (mapped (fieldPlace n) (lone t)) (of-one lone-lone (fieldPlace n) t)
 call-refuses-only (vg-join a b result) = written-only ofWritten refl (joinTypesCall a b) result (of-types lone-written (λ t u. writeTy (joinTypes t u)) a b)
-call-refuses-only (vg-validate side spec t result) = written-only ofValidated refl (sided validate side spec t) result (sided-with lone-validated validate validate-with side spec t)
-call-refuses-only (vg-check-shape side spec t result) =
-    written-only ofShapeChecked refl (sided checkShapeOnly side spec t) result
-    (sided-with lone-shape-checked checkShapeOnly shape-with side spec t)
-call-refuses-only (vg-check-scalar spec t result) =
-    written-only ofValidated refl (both (λ s u. mapped writeTy (checkScalarOnly s u)) (lone spec) (lone t)) result
-    (from-two lone-validated (λ s u. mapped writeTy (checkScalarOnly s u)) scalar-with spec t)
+call-refuses-only (vg-validate side spec t result) = sided-with lone-validated refl validate validate-with side spec t result
+call-refuses-only (vg-check-shape side spec t result) = sided-with lone-shape-checked refl checkShapeOnly shape-checked-with side spec t result
+call-refuses-only (vg-check-scalar spec t result) = separate-with lone-validated refl checkScalarOnly scalar-with spec t result
 call-refuses-only (vg-val-ty kind x list t result) =
     written-only ofWritten refl (mapped writeTy (bound valueTy (handedIn kind x list t))) result
     (mapped-numbered writeTy (bound valueTy (handedIn kind x list t)) (bound-numbered valueTy (handedIn kind x list t) (handed-with lone-written kind x list t) (ty-with refl)))
@@ -267,88 +272,88 @@ call-refuses-only (vg-as-dims kind x list t sizes) =
     (bound-numbered valueAsDims (handedIn kind x list t) (handed-with lone-sizes-written kind x list t) (as-dims-with (refl, (refl, (refl, tt)))))
 call-refuses-only (vg-check-sheet sheet result scratch) = sheet-only ofSheetCall (sheetCall sheet result scratch) (call-numbered sheet result scratch)
 
--- ---- the lists are of the thirteen
+-- ---- the lists are of the fourteen
 
-sizes-thirteen : All (Among thirteen) ofSizes
-sizes-thirteen = (refl, tt)
+sizes-known : All (Among refusals) ofSizes
+sizes-known = (refl, tt)
 
-lone-thirteen : All (Among thirteen) ofLone
-lone-thirteen = (refl, (refl, (refl, (refl, (refl, (refl, tt))))))
+lone-known : All (Among refusals) ofLone
+lone-known = (refl, (refl, (refl, (refl, (refl, (refl, tt))))))
 
-written-thirteen : All (Among thirteen) ofWritten
-written-thirteen = (refl, (refl, (refl, (refl, (refl, (refl, (refl, tt)))))))
+written-known : All (Among refusals) ofWritten
+written-known = (refl, (refl, (refl, (refl, (refl, (refl, (refl, tt)))))))
 
-pervaded-thirteen : All (Among thirteen) ofPervaded
-pervaded-thirteen = (refl, (refl, (refl, (refl, (refl, (refl, (refl, (refl, tt))))))))
+pervaded-known : All (Among refusals) ofPervaded
+pervaded-known = (refl, (refl, (refl, (refl, (refl, (refl, (refl, (refl, tt))))))))
 
-shape-checked-thirteen : All (Among thirteen) ofShapeChecked
-shape-checked-thirteen = (refl, (refl, (refl, (refl, (refl, (refl, (refl, (refl, tt))))))))
+shape-checked-known : All (Among refusals) ofShapeChecked
+shape-checked-known = (refl, (refl, (refl, (refl, (refl, (refl, (refl, (refl, (refl, tt)))))))))
 
-validated-thirteen : All (Among thirteen) ofValidated
-validated-thirteen = (refl, (refl, (refl, (refl, (refl, (refl, (refl, (refl, (refl, tt)))))))))
+validated-known : All (Among refusals) ofValidated
+validated-known = (refl, (refl, (refl, (refl, (refl, (refl, (refl, (refl, (refl, (refl, tt))))))))))
 
-size-thirteen : All (Among thirteen) ofSize
-size-thirteen = (refl, (refl, (refl, (refl, (refl, (refl, (refl, tt)))))))
+size-known : All (Among refusals) ofSize
+size-known = (refl, (refl, (refl, (refl, (refl, (refl, (refl, tt)))))))
 
-sizes-written-thirteen : All (Among thirteen) ofSizesWritten
-sizes-written-thirteen = (refl, (refl, (refl, (refl, (refl, (refl, (refl, (refl, tt))))))))
+sizes-written-known : All (Among refusals) ofSizesWritten
+sizes-written-known = (refl, (refl, (refl, (refl, (refl, (refl, (refl, (refl, tt))))))))
 
-result-thirteen : All (Among thirteen) ofResult
-result-thirteen = (refl, tt)
+result-known : All (Among refusals) ofResult
+result-known = (refl, tt)
 
-sheet-call-thirteen : All (Among thirteen) ofSheetCall
-sheet-call-thirteen = (refl, (refl, (refl, (refl, (refl, (refl, (refl, (refl, (refl, (refl, (refl, tt)))))))))))
+sheet-call-known : All (Among refusals) ofSheetCall
+sheet-call-known = (refl, (refl, (refl, (refl, (refl, (refl, (refl, (refl, (refl, (refl, (refl, (refl, tt))))))))))))
 
-pub numbers-thirteen : (c : Call) → All (Among thirteen) (numbersOf c)
-numbers-thirteen (vg-dim-cmp a b) = sizes-thirteen
-numbers-thirteen (vg-dim-cmp-defined a b) = sizes-thirteen
-numbers-thirteen (vg-dim-max a b) = sizes-thirteen
-numbers-thirteen (vg-dim-join a b) = sizes-thirteen
-numbers-thirteen (vg-dim-compatible a b) = sizes-thirteen
-numbers-thirteen (vg-dim-row-compatible a b) = sizes-thirteen
-numbers-thirteen (vg-merge a b result) = written-thirteen
-numbers-thirteen (vg-join-shapes a b result) = written-thirteen
-numbers-thirteen (vg-compatible-shapes a b) = lone-thirteen
-numbers-thirteen (vg-row-shape t result) = written-thirteen
-numbers-thirteen (vg-shape-is-any t) = lone-thirteen
-numbers-thirteen (vg-shape-is-scalar t) = lone-thirteen
-numbers-thirteen (vg-row-count t) = lone-thirteen
-numbers-thirteen (vg-rank t) = lone-thirteen
-numbers-thirteen (vg-pervade flag a b result) = pervaded-thirteen
-numbers-thirteen (vg-union a b result) = written-thirteen
-numbers-thirteen (vg-unrefine t result) = written-thirteen
-numbers-thirteen (vg-superset a b) = lone-thirteen
-numbers-thirteen (vg-compatible-scalars a b) = lone-thirteen
-numbers-thirteen (vg-compatible-with-boxes a b) = lone-thirteen
-numbers-thirteen (vg-compare a b) = lone-thirteen
-numbers-thirteen (vg-kinds result) = result-thirteen
-numbers-thirteen (vg-read t) = lone-thirteen
-numbers-thirteen (vg-shape-record t result) = written-thirteen
-numbers-thirteen (vg-scalar-record t result) = written-thirteen
-numbers-thirteen (vg-row t result) = written-thirteen
-numbers-thirteen (vg-first-row t result) = written-thirteen
-numbers-thirteen (vg-last-row t result) = written-thirteen
-numbers-thirteen (vg-nth-row t n result) = written-thirteen
-numbers-thirteen (vg-unboxed t result) = written-thirteen
-numbers-thirteen (vg-as-boxes t result) = written-thirteen
-numbers-thirteen (vg-field t n) = lone-thirteen
-numbers-thirteen (vg-join a b result) = written-thirteen
-numbers-thirteen (vg-validate side spec t result) = validated-thirteen
-numbers-thirteen (vg-check-shape side spec t result) = shape-checked-thirteen
-numbers-thirteen (vg-check-scalar spec t result) = validated-thirteen
-numbers-thirteen (vg-val-ty kind x list t result) = written-thirteen
-numbers-thirteen (vg-val-spec kind x list t result) = sizes-written-thirteen
-numbers-thirteen (vg-val-scalar kind x list t result) = written-thirteen
-numbers-thirteen (vg-nums-scalar list result) = result-thirteen
-numbers-thirteen (vg-val-row-count kind x list t) = lone-thirteen
-numbers-thirteen (vg-val-rank kind x list t) = lone-thirteen
-numbers-thirteen (vg-val-row kind x list t before result) = written-thirteen
-numbers-thirteen (vg-val-first-row kind x list t before result) = written-thirteen
-numbers-thirteen (vg-val-last-row kind x list t before result) = written-thirteen
-numbers-thirteen (vg-as-dim kind x list t) = size-thirteen
-numbers-thirteen (vg-as-dims kind x list t sizes) = sizes-written-thirteen
-numbers-thirteen (vg-check-sheet sheet result scratch) = sheet-call-thirteen
+pub numbers-known : (c : Call) → All (Among refusals) (numbersOf c)
+numbers-known (vg-dim-cmp a b) = sizes-known
+numbers-known (vg-dim-cmp-defined a b) = sizes-known
+numbers-known (vg-dim-max a b) = sizes-known
+numbers-known (vg-dim-join a b) = sizes-known
+numbers-known (vg-dim-compatible a b) = sizes-known
+numbers-known (vg-dim-row-compatible a b) = sizes-known
+numbers-known (vg-merge a b result) = written-known
+numbers-known (vg-join-shapes a b result) = written-known
+numbers-known (vg-compatible-shapes a b) = lone-known
+numbers-known (vg-row-shape t result) = written-known
+numbers-known (vg-shape-is-any t) = lone-known
+numbers-known (vg-shape-is-scalar t) = lone-known
+numbers-known (vg-row-count t) = lone-known
+numbers-known (vg-rank t) = lone-known
+numbers-known (vg-pervade flag a b result) = pervaded-known
+numbers-known (vg-union a b result) = written-known
+numbers-known (vg-unrefine t result) = written-known
+numbers-known (vg-superset a b) = lone-known
+numbers-known (vg-compatible-scalars a b) = lone-known
+numbers-known (vg-compatible-with-boxes a b) = lone-known
+numbers-known (vg-compare a b) = lone-known
+numbers-known (vg-kinds result) = result-known
+numbers-known (vg-read t) = lone-known
+numbers-known (vg-shape-record t result) = written-known
+numbers-known (vg-scalar-record t result) = written-known
+numbers-known (vg-row t result) = written-known
+numbers-known (vg-first-row t result) = written-known
+numbers-known (vg-last-row t result) = written-known
+numbers-known (vg-nth-row t n result) = written-known
+numbers-known (vg-unboxed t result) = written-known
+numbers-known (vg-as-boxes t result) = written-known
+numbers-known (vg-field t n) = lone-known
+numbers-known (vg-join a b result) = written-known
+numbers-known (vg-validate side spec t result) = validated-known
+numbers-known (vg-check-shape side spec t result) = shape-checked-known
+numbers-known (vg-check-scalar spec t result) = validated-known
+numbers-known (vg-val-ty kind x list t result) = written-known
+numbers-known (vg-val-spec kind x list t result) = sizes-written-known
+numbers-known (vg-val-scalar kind x list t result) = written-known
+numbers-known (vg-nums-scalar list result) = result-known
+numbers-known (vg-val-row-count kind x list t) = lone-known
+numbers-known (vg-val-rank kind x list t) = lone-known
+numbers-known (vg-val-row kind x list t before result) = written-known
+numbers-known (vg-val-first-row kind x list t before result) = written-known
+numbers-known (vg-val-last-row kind x list t before result) = written-known
+numbers-known (vg-as-dim kind x list t) = size-known
+numbers-known (vg-as-dims kind x list t sizes) = sizes-written-known
+numbers-known (vg-check-sheet sheet result scratch) = sheet-call-known
 
--- "One of thirteen."
-pub call-thirteen : (c : Call) → RefusesOnly thirteen (replyTo c)
-call-thirteen c = λ e. among-more (numbersOf c) thirteen (numbers-thirteen c) (replyTo c .number) (call-refuses-only c e)
+-- "One of" fourteen.
+pub call-known : (c : Call) → RefusesOnly refusals (replyTo c)
+call-known c = λ e. among-more (numbersOf c) refusals (numbers-known c) (replyTo c .number) (call-refuses-only c e)

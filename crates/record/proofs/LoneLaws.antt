@@ -9,7 +9,7 @@ use Rattle.model.specs.Refusals.{trailing}
 use Rattle.model.specs.Types.{Ty}
 use Rattle.format.specs.Reader.{got, stopped, mapRead}
 use Rattle.format.specs.Records.{readType}
-use Rattle.format.specs.Outcome.{Outcome, accepted, refused, mapped, both, neither, first, second, refusalOf, lone}
+use Rattle.format.specs.Outcome.{Outcome, accepted, refused, mapped, both, unrefused, first, second, refusalOf, lone}
 use Rattle.record.specs.Answers.{nothing, nothings, loneOf, twoOf, whicheverOf}
 use Rattle.record.specs.declared.Lone.{Lone}
 use Rattle.record.specs.declared.Two.{Two}
@@ -57,8 +57,8 @@ module _ {A B : Type 0} (x : Outcome A) (y : Outcome B) where
     pub refusal-second : {k p : ℕ} → mapped nothing y ≡ refused k p → refusalOf x y ≡ second k p
     refusal-second e = passed-accepted x good λ a h. rw (h, passed-refused y e)
 
-    pub refusal-neither : mapped nothing y ≡ accepted 0 → refusalOf x y ≡ neither
-    refusal-neither e = passed-accepted x good λ a h. passed-accepted y e λ b g. rw (h, g)
+    pub refusal-unrefused : mapped nothing y ≡ accepted 0 → refusalOf x y ≡ unrefused
+    refusal-unrefused e = passed-accepted x good λ a h. passed-accepted y e λ b g. rw (h, g)
 
   whichever-both : whicheverOf (refusalOf x y) ≡ both nothings x y
   whichever-both = go x y

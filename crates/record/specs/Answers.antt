@@ -7,7 +7,7 @@ use lib.ListN.{take, getD}
 use Rattle.model.specs.Types.{Dim, Shape, shape}
 use Rattle.format.specs.Reader.{Read, got, stopped}
 use Rattle.format.specs.Records.{dimOf}
-use Rattle.format.specs.Outcome.{Outcome, accepted, refused, Refusal, neither, first, second}
+use Rattle.format.specs.Outcome.{Outcome, accepted, refused, Refusal, unrefused, first, second}
 use Rattle.record.specs.declared.Reading.{Reading}
 use Rattle.record.specs.declared.Reading.the-variants.{Got, Refused}
 use Rattle.record.specs.declared.Lone.{Lone}
@@ -52,12 +52,12 @@ loneOf Accepted = accepted 0
 loneOf (Refuses k p) = refused k p
 
 abbrev pub twoOf : Two → Refusal
-twoOf Both = neither
+twoOf Both = unrefused
 twoOf (First k p) = first k p
 twoOf (Second k p) = second k p
 
 -- the refusal, whichever of two inputs it is of
 abbrev pub whicheverOf : Refusal → Outcome ℕ
-whicheverOf neither = accepted 0
+whicheverOf unrefused = accepted 0
 whicheverOf (first k p) = refused k p
 whicheverOf (second k p) = refused k p

@@ -7,3 +7,4 @@ mod HeadLaws
 mod CopyLaws
 mod WalkLaws
 mod WholeLaws
+mod SeparateLaws

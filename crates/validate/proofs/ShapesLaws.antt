@@ -1,19 +1,21 @@
 -- `check_shape` on shapes by value: one law for each way out of a function.
 use Prim.Native.Nat.{ℕ, _+_}
 use native.Mathlib.Omega.{arith}
-use mathlib.Core.Bool.{Bool, true, false}
-use mathlib.Core.List.{List, [], _++_, reverse}
+use mathlib.Core.Bool.{Bool, true, false, not}
+use mathlib.Core.List.{List, [], reverse}
 use mathlib.Core.Option.{none, some}
 use mathlib.Core.Path.{_≡_, refl, sym, _∙_, ap}
-use lib.ListN.{length}
+use lib.ListN.{length, drop}
 use lib.Dec.{eqb, leb}
+use borrow.Author.Tests.{not-true, not-false}
 use Rattle.model.specs.Types.{Dim, Shape, shape}
 use Rattle.record.specs.Answers.{dimsOf, shapeFor}
 use Rattle.record.specs.declared.Dims.{Dims}
 use Rattle.record.specs.declared.DynShape.{DynShape}
 use Rattle.format.specs.Outcome.{accepted}
+use Rattle.rules.specs.Sizes.{compatible}
 use Rattle.rules.specs.Shapes.{isAny, rank, mergeFrom}
-use Rattle.validation.specs.CheckShape.{Side, unsided, left, right, agree, equalDims, clash, mismatch, shapeMismatch, sidedShape, refusedBy, checkShape}
+use Rattle.validation.specs.CheckShape.{Side, unsided, left, right, agree, equalDim, sizesAgree, countTest, namesAll, clash, mismatch, shapeMismatch, sidedShape, refusedBy, checkShape}
 use Rattle.validation.specs.CheckShapeLaws.{checkShape-match, checkShape-mismatch}
 use Rattle.validate.specs.Answers.{clashOf}
 use Rattle.validate.specs.declared.Clash.{Clash}
@@ -28,30 +30,42 @@ module _ (o : List Dim) (t : DynShape) where
 
   -- m sizes of the type, n of the spec, and whether they agree
   module _ (e : t .closed ≡ true) {m n : ℕ} (f : m ≡ length p) (g : n ≡ length o) {b : Bool} where
-    pub unsided-closed : b ≡ agree p o → clash (eqb m n) b ≡ mismatch unsided o (shapeFor t)
-    unfolding mismatch
+    pub unsided-closed : b ≡ agree compatible p o → clash (eqb m n) b true ≡ mismatch unsided o (shapeFor t)
+    unfolding mismatch countTest sizesAgree namesAll
     unsided-closed a = rw (e, f, g, a)
 
-    pub left-closed : b ≡ agree p o → clash (leb n m) b ≡ mismatch left o (shapeFor t)
-    unfolding mismatch
+    pub left-closed : b ≡ agree compatible p o → clash (leb n m) b true ≡ mismatch left o (shapeFor t)
+    unfolding mismatch countTest sizesAgree namesAll
     left-closed a = rw (e, f, g, a)
 
-    pub right-closed : b ≡ agree (reverse p) (reverse o) → clash (leb n m) b ≡ mismatch right o (shapeFor t)
-    unfolding mismatch rank
+    pub right-closed : b ≡ agree compatible (reverse p) (reverse o) → clash (leb n m) b true ≡ mismatch right o (shapeFor t)
+    unfolding mismatch countTest sizesAgree namesAll rank
     right-closed a = let q : m ≡ length p + 0 = omega (arith, f) in rw (e, q, g, a)
 
   module _ (e : t .closed ≡ false) {b : Bool} where
-    pub unsided-open : b ≡ equalDims (p ++ d) o → clash true b ≡ mismatch unsided o (shapeFor t)
-    unfolding mismatch
-    unsided-open a = rw (e, a)
+    -- l and m sizes of the type
+    module _ {l m n : ℕ} (x : l ≡ length p) (f : m ≡ length d) (g : n ≡ length o) where
+      pub unsided-open : b ≡ sizesAgree unsided o (shape p (some d)) → clash (leb (l + m) n) b (leb n (l + m)) ≡ mismatch unsided o (shapeFor t)
+      unfolding mismatch countTest namesAll
+      unsided-open a = rw (e, x, f, g, a)
 
-    pub left-open : b ≡ agree p o → clash true b ≡ mismatch left o (shapeFor t)
-    unfolding mismatch
+      pub right-open : b ≡ agree compatible (reverse d) (reverse o) → clash (leb n (l + m)) b true ≡ mismatch right o (shapeFor t)
+      unfolding mismatch countTest sizesAgree namesAll rank
+      right-open a = rw (e, x, f, g, a)
+
+    pub left-open : b ≡ agree compatible p o → clash true b true ≡ mismatch left o (shapeFor t)
+    unfolding mismatch countTest sizesAgree namesAll
     left-open a = rw (e, a)
 
-    pub right-open : {l m n : ℕ} → l ≡ length p → m ≡ length d → n ≡ length o → b ≡ agree (reverse d) (reverse o) → clash (leb n (l + m)) b ≡ mismatch right o (shapeFor t)
-    unfolding mismatch rank
-    right-open x f g a = rw (e, x, f, g, a)
+-- an open type without a side: its opening sizes, then its closing ones
+module _ (o p d : List Dim) {a : Bool} (f : a ≡ agree equalDim p o) where
+  pub opening-differ : not a ≡ true → false ≡ sizesAgree unsided o (shape p (some d))
+  unfolding sizesAgree
+  opening-differ h = rw (← f, not-true a h)
+
+  pub closing-decide : {b : Bool} → not a ≡ false → b ≡ agree equalDim (reverse d) (reverse (drop (length p) o)) → b ≡ sizesAgree unsided o (shape p (some d))
+  unfolding sizesAgree
+  closing-decide h g = rw (← f, not-false a h, g)
 
 -- ---- with what excuses it
 

@@ -1,5 +1,5 @@
 // Validation (mod.rs): `validate`, `check_scalar` and `check_shape`. Old bytes in, new bytes out, or a refusal and nothing
-// changed.
+// changed; a refusal tells which input was being read, or neither.
 mod calls;
 mod copies;
 mod descent;
@@ -20,6 +20,23 @@ pub enum Side {
     Unsided,
     Left,
     Right,
+}
+
+// The input that was being read, or neither.
+pub enum Input {
+    Spec,
+    CheckedType,
+    Neither,
+}
+
+// How many bytes a separate validation wrote to its result; or its refusal, with the input that was being read.
+pub enum Separate {
+    Wrote(usize),
+    Refused {
+        number: u8,
+        place: usize,
+        reading: Input,
+    },
 }
 
 // Whether a spec's shape clashes with a type's, and the number of the refusal if it does.

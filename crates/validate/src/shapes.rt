@@ -4,7 +4,9 @@ use crate::ShapeChecked;
 use crate::Side;
 use crate::dims::agree;
 use crate::dims::agree_ends;
-use crate::dims::equal_dims;
+use crate::dims::agree_exactly;
+use crate::dims::agree_exactly_ends;
+use limits::refusal::WRONG_COUNT;
 use limits::refusal::WRONG_SHAPE;
 use record::Dims;
 use record::DynShape;
@@ -13,22 +15,29 @@ use shape::is_any;
 use shape::merge_from;
 use writer::size_count;
 ghost use mathlib.Core.Path.{_≡_};
+ghost use mathlib.Core.Option.{some};
+ghost use Rattle.model.specs.Types.{shape};
 ghost use Rattle.record.specs.Answers.{dimsOf, shapeFor};
-ghost use Rattle.validation.specs.CheckShape.{unsided, left, right, clash, mismatch, shapeMismatch, sidedShape, checkShape};
+ghost use Rattle.validation.specs.CheckShape.{unsided, left, right, sizesAgree, clash, mismatch, shapeMismatch, sidedShape, checkShape};
 ghost use Rattle.validate.specs.Answers.{sideOf, clashOf, checkedOf};
 
-// Counts were tested, then sizes: what a mismatch is refused with. This alone chooses the number.
-fn judge(counts: bool, sizes: bool) -> Clash
-    ensures { λ r. ⌜ clashOf r ≡ clash counts sizes ⌝ }
+// The count test, whether the sizes agree, and whether all are named: what a mismatch is refused with.
+fn judge(count: bool, sizes: bool, all: bool) -> Clash
+    ensures { λ r. ⌜ clashOf r ≡ clash count sizes all ⌝ }
 {
-    if !counts {
+    if !count {
         return Clash::Numbered {
-            number: WRONG_SHAPE,
+            number: WRONG_COUNT,
         };
     }
     if !sizes {
         return Clash::Numbered {
             number: WRONG_SHAPE,
+        };
+    }
+    if !all {
+        return Clash::Numbered {
+            number: WRONG_COUNT,
         };
     }
     Clash::Clear
@@ -39,11 +48,23 @@ fn mismatch_unsided(o: Dims, t: DynShape) -> Clash
     ensures { λ r. ⌜ clashOf r ≡ mismatch unsided (dimsOf o) (shapeFor t) ⌝ }
 {
     let dims = t.dims;
+    let count = size_count(o);
     if t.closed {
-        return judge(size_count(dims) == size_count(o), agree(dims, o));
+        return judge(size_count(dims) == count, agree(dims, o), true);
     }
     let suffix = t.suffix;
-    judge(true, equal_dims(dims, suffix, o))
+    let named = size_count(dims) + size_count(suffix);
+    judge(named <= count, open_agrees(o, dims, suffix), count <= named)
+}
+
+// An open type's opening sizes are the spec's from the front, its closing ones what the spec has left from the end, as far as both go.
+fn open_agrees(o: Dims, dims: Dims, suffix: Dims) -> bool
+    ensures { λ r. ⌜ r ≡ sizesAgree unsided (dimsOf o) (shape (dimsOf dims) (some (dimsOf suffix))) ⌝ }
+{
+    if !agree_exactly(dims, o) {
+        return false;
+    }
+    agree_exactly_ends(suffix, o, size_count(dims))
 }
 
 fn mismatch_left(o: Dims, t: DynShape) -> Clash
@@ -51,9 +72,9 @@ fn mismatch_left(o: Dims, t: DynShape) -> Clash
 {
     let dims = t.dims;
     if t.closed {
-        return judge(size_count(o) <= size_count(dims), agree(dims, o));
+        return judge(size_count(o) <= size_count(dims), agree(dims, o), true);
     }
-    judge(true, agree(dims, o))
+    judge(true, agree(dims, o), true)
 }
 
 fn mismatch_right(o: Dims, t: DynShape) -> Clash
@@ -61,12 +82,13 @@ fn mismatch_right(o: Dims, t: DynShape) -> Clash
 {
     let dims = t.dims;
     if t.closed {
-        return judge(size_count(o) <= size_count(dims), agree_ends(dims, o));
+        return judge(size_count(o) <= size_count(dims), agree_ends(dims, o), true);
     }
     let suffix = t.suffix;
     judge(
         size_count(o) <= size_count(dims) + size_count(suffix),
         agree_ends(suffix, o),
+        true,
     )
 }
 

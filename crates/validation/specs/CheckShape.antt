@@ -1,12 +1,14 @@
--- `check_shape` (document 01, "mod.rs"): a spec's shape on a type's, without a side or for one. Opening sizes are compared from the
--- front, for the right side from the end; [..] on either side excuses a mismatch; what is not refused is merged.
-use Prim.Native.Nat.{ℕ}
+-- `check_shape` (document 01, "mod.rs"): a spec's shape on a type's, without a side or for one. Opening sizes are compared from the front,
+-- for the right side the last ones from the end; without a side an open type's closing sizes too, from the end. [..] on either side
+-- excuses a mismatch; what is not refused is merged. A mismatch separates "a count that cannot fit from a size that differs" (document
+-- 02, 2026-03).
+use Prim.Native.Nat.{ℕ, _+_}
 use mathlib.Core.Bool.{Bool, true, false, _&&_, _||_, cond}
-use mathlib.Core.List.{List, [], _∷_, _++_, reverse}
+use mathlib.Core.List.{List, [], _∷_, reverse}
 use mathlib.Core.Option.{Option, none, some}
-use lib.ListN.{length}
+use lib.ListN.{length, drop}
 use lib.Dec.{eqb, leb}
-use Rattle.model.specs.Refusals.{wrongShape}
+use Rattle.model.specs.Refusals.{wrongShape, wrongCount}
 use Rattle.model.specs.Types.{Dim, static, unknown, Shape, shape}
 use Rattle.format.specs.Outcome.{Outcome, accepted, refused}
 use Rattle.rules.specs.Sizes.{compatible}
@@ -16,13 +18,13 @@ use Rattle.rules.specs.Shapes.{isAny, rank, mergeFrom}
 pub data Side : Type 0 where
   unsided left right : Side
 
--- ---- lists of sizes
+-- ---- sizes
 
--- As far as both lists go, no two sizes are incompatible.
-unfoldable pub agree : List Dim → List Dim → Bool
-agree [] p = true
-agree (d ∷ o) [] = true
-agree (d ∷ o) (e ∷ p) = compatible d e && agree o p
+-- As far as both lists go, every two sizes pass a test.
+unfoldable pub agree : (Dim → Dim → Bool) → List Dim → List Dim → Bool
+agree test [] p = true
+agree test (d ∷ o) [] = true
+agree test (d ∷ o) (e ∷ p) = test d e && agree test o p
 
 -- Equal statics, and ? only with ?.
 unfoldable pub equalDim : Dim → Dim → Bool
@@ -31,37 +33,55 @@ equalDim (static m) unknown = false
 equalDim unknown (static n) = false
 equalDim unknown unknown = true
 
-unfoldable pub equalDims : List Dim → List Dim → Bool
-equalDims [] [] = true
-equalDims [] (e ∷ p) = false
-equalDims (d ∷ o) [] = false
-equalDims (d ∷ o) (e ∷ p) = equalDim d e && equalDims o p
-
--- ---- shapes
-
 -- The sizes that a right-side check compares: the closing ones of an open shape, else the opening ones.
 abbrev pub lastSizes : Shape → List Dim
 lastSizes (shape p none) = p
 lastSizes (shape p (some d)) = d
 
--- What a mismatch is refused with, or none, by two tests: of counts, where it is made apart, and of sizes. This alone chooses the number.
-abbrev pub clash : Bool → Bool → Option ℕ
-clash counts sizes = cond counts (cond sizes none (some wrongShape)) (some wrongShape)
+-- No size differs that both name, a type's shape and the opening sizes of a spec. Without a side: a closed type's sizes from the front;
+-- an open type's opening sizes from the front, its closing ones and what the spec has left from the end, where ? is equal to ? alone
+-- (elsewhere it passes with any size). For the left side: the opening sizes from the front. For the right side: the last ones from the end.
+unfoldable pub sizesAgree : Side → List Dim → Shape → Bool
+sizesAgree unsided o (shape p none) = agree compatible p o
+sizesAgree unsided o (shape p (some d)) = agree equalDim p o && agree equalDim (reverse d) (reverse (drop (length p) o))
+sizesAgree left o (shape p c) = agree compatible p o
+sizesAgree right o t = agree compatible (reverse (lastSizes t)) (reverse o)
 
--- The opening sizes of a spec against a type's shape. There is no mismatch if: without a side, a closed type has as many sizes, and they
--- agree; an open type's opening and closing sizes, one list after the other, equal the spec's. For the left side, a closed type has no
--- fewer sizes, and the opening sizes agree from the front. For the right side, opening and closing sizes are no fewer, and the last ones
--- agree from the end.
+-- ---- counts
+
+-- "Unsided, two closed shapes compare counts for equality, other pairs by the first test in `check_shape`; sided ones by its length test." So
+-- without a side: a closed type has as many sizes as the spec has opening sizes; an open type, opening and closing sizes together, no more.
+-- For the left side: a closed type no fewer. For the right side: opening and closing sizes together no fewer.
+unfoldable pub countTest : Side → List Dim → Shape → Bool
+countTest unsided o (shape p none) = eqb (length p) (length o)
+countTest unsided o (shape p (some d)) = leb (length p + length d) (length o)
+countTest left o (shape p none) = leb (length o) (length p)
+countTest left o (shape p (some d)) = true
+countTest right o t = leb (length o) (rank t)
+
+-- Without a side an open type names no fewer either.
+unfoldable pub namesAll : Side → List Dim → Shape → Bool
+namesAll unsided o (shape p none) = true
+namesAll unsided o (shape p (some d)) = leb (length o) (length p + length d)
+namesAll left o t = true
+namesAll right o t = true
+
+-- ---- the mismatch
+
+-- What a mismatch is refused with, or none. "14, `check_shape` mismatches and the count test fails, as now in 01's case (m)": there the test
+-- passes, but fewer sizes are named and none of them differs. "10 remains for its other mismatches": a size differs.
+abbrev pub clash : Bool → Bool → Bool → Option ℕ
+clash count sizes all = cond count (cond sizes (cond all none (some wrongCount)) (some wrongShape)) (some wrongCount)
+
+-- The opening sizes of a spec against a type's shape.
 unfoldable pub mismatch : Side → List Dim → Shape → Option ℕ
-mismatch unsided o (shape p none) = clash (eqb (length p) (length o)) (agree p o)
-mismatch unsided o (shape p (some d)) = clash true (equalDims (p ++ d) o)
-mismatch left o (shape p none) = clash (leb (length o) (length p)) (agree p o)
-mismatch left o (shape p (some d)) = clash true (agree p o)
-mismatch right o t = clash (leb (length o) (rank t)) (agree (reverse (lastSizes t)) (reverse o))
+mismatch side o t = clash (countTest side o t) (sizesAgree side o t) (namesAll side o t)
 
 -- [..] on either side excuses a mismatch. The spec's closing sizes are not looked at.
 unfoldable pub shapeMismatch : Side → Shape → Shape → Option ℕ
 shapeMismatch side (shape o c) t = cond (isAny (shape o c) || isAny t) none (mismatch side o t)
+
+-- ---- what is answered
 
 -- What is merged: for a side the spec's opening sizes alone, open, and for the right side as closing sizes.
 unfoldable pub sidedShape : Side → Shape → Shape

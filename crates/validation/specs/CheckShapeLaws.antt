@@ -1,52 +1,21 @@
--- Laws about `check_shape`: it accepts what is no mismatch, with the merged shape, and refuses only a mismatch, by 10 at place 0; equal sizes
--- are equal; the result keeps to the limits.
+-- Laws about `check_shape`: it accepts what is no mismatch, with the merged shape, and refuses only a mismatch, by 10 or 14 at place 0; the
+-- result keeps to the limits. (What a mismatch is: MismatchLaws.)
 use Prim.Native.Nat.{ℕ}
 use native.Mathlib.Omega.{arith}
-use mathlib.Core.Bool.{Bool, true, false, _&&_, _||_, cond}
-use mathlib.Core.List.{List, [], _∷_, _++_, reverse}
+use mathlib.Core.Bool.{Bool, true, false, _||_, cond}
+use mathlib.Core.List.{[], _∷_}
+use mathlib.Core.Logic.{_⊎_, inl, inr}
 use mathlib.Core.Option.{Option, none, some}
-use mathlib.Core.Path.{_≡_, refl, sym, _∙_, ap}
-use lib.ListN.{length}
-use lib.Dec.{eqb, leb}
-use borrow.Author.Tests.{eq-eqb, eqb-true}
-use Rattle.model.specs.Refusals.{wrongShape}
-use Rattle.model.specs.Types.{Dim, static, unknown, Shape, shape}
+use mathlib.Core.Path.{_≡_, refl}
+use lib.Dec.{eqb}
+use borrow.Author.Tests.{eqb-true}
+use Rattle.model.specs.Refusals.{wrongShape, wrongCount, Among}
+use Rattle.model.specs.Types.{Shape, shape}
 use Rattle.model.specs.Within.{ShapeWithin}
 use Rattle.format.specs.Outcome.{accepted, refused}
-use Rattle.rules.specs.Shapes.{isAny, rank, mergeFrom}
+use Rattle.rules.specs.Shapes.{isAny, mergeFrom}
 use Rattle.rules.specs.ShapesLaws.{merge-within}
-use Rattle.validation.specs.CheckShape.{Side, unsided, left, right, agree, lastSizes, equalDim, equalDims, clash, mismatch, shapeMismatch, sidedShape, refusedBy, checkShape}
-
--- ---- equal sizes
-
-equalDim-true : (d e : Dim) → equalDim d e ≡ true → d ≡ e
-unfolding equalDim
-equalDim-true (static m) (static n) h = ap static (eqb-true m n h)
-equalDim-true (static m) unknown h = cc
-equalDim-true unknown (static n) h = cc
-equalDim-true unknown unknown h = refl
-
-equalDim-refl : (d : Dim) → equalDim d d ≡ true
-unfolding equalDim
-equalDim-refl (static m) = eq-eqb m m refl
-equalDim-refl unknown = refl
-
--- `equalDims` is equality.
-pub equalDims-true : (o p : List Dim) → equalDims o p ≡ true → o ≡ p
-unfolding equalDims
-equalDims-true [] [] h = refl
-equalDims-true [] (e ∷ p) h = cc
-equalDims-true (d ∷ o) [] h = cc
-equalDims-true (d ∷ o) (e ∷ p) h = go (equalDim d e) refl (equalDims-true o p) h
-  where
-    go : (t : Bool) → equalDim d e ≡ t → (equalDims o p ≡ true → o ≡ p) → (t && equalDims o p) ≡ true → d ∷ o ≡ e ∷ p
-    go true x f y = rw (equalDim-true d e x, f y)
-    go false x f y = cc
-
-pub equalDims-refl : (o : List Dim) → equalDims o o ≡ true
-unfolding equalDims
-equalDims-refl [] = refl
-equalDims-refl (d ∷ o) = rw (equalDim-refl d, equalDims-refl o)
+use Rattle.validation.specs.CheckShape.{Side, unsided, left, right, sizesAgree, countTest, namesAll, clash, mismatch, shapeMismatch, sidedShape, refusedBy, checkShape}
 
 -- ---- what is answered
 
@@ -68,34 +37,42 @@ checkShape-mismatch side s t h = rw h
 
 -- ---- the number of a mismatch
 
-clash-number : (counts sizes : Bool) {n : ℕ} → clash counts sizes ≡ some n → n ≡ wrongShape
-clash-number true true e = let z : _≡_ {A = ℕ} 0 1 = cc in absurd (omega arith)
-clash-number true false e = cc
-clash-number false sizes e = cc
+abbrev pub NumberOfMismatch : ℕ → Type 0
+NumberOfMismatch n = (n ≡ wrongShape) ⊎ (n ≡ wrongCount)
 
-mismatch-number : (side : Side) (o : List Dim) (t : Shape) {n : ℕ} → mismatch side o t ≡ some n → n ≡ wrongShape
-unfolding mismatch
-mismatch-number unsided o (shape p none) e = clash-number (eqb (length p) (length o)) (agree p o) e
-mismatch-number unsided o (shape p (some d)) e = clash-number true (equalDims (p ++ d) o) e
-mismatch-number left o (shape p none) e = clash-number (leb (length o) (length p)) (agree p o) e
-mismatch-number left o (shape p (some d)) e = clash-number true (agree p o) e
-mismatch-number right o t e = clash-number (leb (length o) (rank t)) (agree (reverse (lastSizes t)) (reverse o)) e
+-- one of two, by computation
+one-of-two : (n : ℕ) → Among (wrongShape ∷ wrongCount ∷ []) n → NumberOfMismatch n
+one-of-two n h = go (eqb n wrongShape) (eqb n wrongCount) refl refl h
+  where
+    go : (a b : Bool) → eqb n wrongShape ≡ a → eqb n wrongCount ≡ b → (a || (b || false)) ≡ true → NumberOfMismatch n
+    go true b e f h = inl (eqb-true n wrongShape e)
+    go false true e f h = inr (eqb-true n wrongCount f)
+    go false false e f h = let z : _≡_ {A = ℕ} 0 1 = cc in absurd (omega arith)
 
-shapeMismatch-number : (side : Side) (s t : Shape) {n : ℕ} → shapeMismatch side s t ≡ some n → n ≡ wrongShape
-unfolding shapeMismatch
+is-one : {m n : ℕ} → some m ≡ some n → Among (wrongShape ∷ wrongCount ∷ []) m → NumberOfMismatch n
+is-one {m} {n} e h = let q : m ≡ n = cc in rw (← q) (one-of-two m h)
+
+clash-number : (count sizes all : Bool) {n : ℕ} → clash count sizes all ≡ some n → NumberOfMismatch n
+clash-number true true true e = let z : _≡_ {A = ℕ} 0 1 = cc in absurd (omega arith)
+clash-number true true false e = is-one e refl
+clash-number true false all e = is-one e refl
+clash-number false sizes all e = is-one e refl
+
+shapeMismatch-number : (side : Side) (s t : Shape) {n : ℕ} → shapeMismatch side s t ≡ some n → NumberOfMismatch n
+unfolding shapeMismatch mismatch
 shapeMismatch-number side (shape o c) t {n} e = go (isAny (shape o c) || isAny t) e
   where
-    go : (b : Bool) → cond b none (mismatch side o t) ≡ some n → n ≡ wrongShape
+    go : (b : Bool) → cond b none (mismatch side o t) ≡ some n → NumberOfMismatch n
     go true e = let z : _≡_ {A = ℕ} 0 1 = cc in absurd (omega arith)
-    go false e = mismatch-number side o t e
+    go false e = clash-number (countTest side o t) (sizesAgree side o t) (namesAll side o t) e
 
-pub checkShape-refused : (side : Side) (s t : Shape) {n p : ℕ} → checkShape side s t ≡ refused n p → (n ≡ wrongShape) × (p ≡ 0)
+pub checkShape-refused : (side : Side) (s t : Shape) {n p : ℕ} → checkShape side s t ≡ refused n p → NumberOfMismatch n × (p ≡ 0)
 unfolding checkShape
 checkShape-refused side s t {n} {p} e = go (shapeMismatch side s t) refl e
   where
-    go : (m : Option ℕ) → shapeMismatch side s t ≡ m → refusedBy m (mergeFrom t (sidedShape side s)) ≡ refused n p → (n ≡ wrongShape) × (p ≡ 0)
+    go : (m : Option ℕ) → shapeMismatch side s t ≡ m → refusedBy m (mergeFrom t (sidedShape side s)) ≡ refused n p → NumberOfMismatch n × (p ≡ 0)
     go none h e = let z : _≡_ {A = ℕ} 0 1 = cc in absurd (omega arith)
-    go (some m) h e = let q : m ≡ n = cc in (sym q ∙ shapeMismatch-number side s t h, cc)
+    go (some m) h e = let q : m ≡ n = cc in (rw (← q) (shapeMismatch-number side s t h), cc)
 
 -- ---- limits
 

@@ -2,10 +2,13 @@ pub mod CheckShape
 pub mod AsFields
 pub mod CheckScalar
 pub mod Validate
+pub mod Separate
 pub mod Claims
 pub mod Examples
 pub mod OutcomeLaws
 pub mod CheckShapeLaws
+pub mod MismatchLaws
+pub mod SeparateLaws
 pub mod CheckShapeSteps
 pub mod RecordsLaws
 pub mod KeepsLaws

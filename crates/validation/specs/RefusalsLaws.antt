@@ -1,7 +1,8 @@
--- Validation refuses by 5, 9 and 10 alone, at place 0.
+-- Validation refuses by 5, 9, 10 and 14 alone, at place 0.
 use Prim.Native.Nat.{ℕ}
 use mathlib.Core.Bool.{Bool, true, false, cond}
 use mathlib.Core.List.{List}
+use mathlib.Core.Logic.{⊎-elim}
 use mathlib.Core.Option.{Option, none, some}
 use mathlib.Core.Path.{_≡_, refl}
 use lib.Dec.{leb}
@@ -57,7 +58,7 @@ checkShape-listed side s t = go (checkShape side s t) refl
   where
     go : (r : Outcome Shape) → checkShape side s t ≡ r → Listed r
     go (accepted u) e = tt
-    go (refused n p) e = let h = checkShape-refused side s t e in (rw (h .0) refl, h .1)
+    go (refused n p) e = let h = checkShape-refused side s t e in (⊎-elim (λ q. rw q) (λ q. rw q) (h .0), h .1)
 
 copied-listed : (keeps : Scalar → Bool) (name : List ℕ) (n : ℕ) (t : Ty) → Listed (copied keeps name n t)
 unfolding copied

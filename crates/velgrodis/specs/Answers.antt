@@ -9,10 +9,12 @@ use Rattle.format.specs.Records.{dimNumber}
 use Rattle.format.specs.Outcome.{Outcome, accepted, refused, Delivery, delivery, deliver}
 use Rattle.rules.specs.Sizes.{Order, less, same, more}
 use Rattle.rules.specs.Types.{Stretch, stretch}
+use Rattle.validation.specs.Separate.{Input, neither, spec, checkedType, Separate, separate}
 use Rattle.ty.specs.Calls.{Given, given, offered}
 use Rattle.val.specs.Values.{RowDelivery, handed as rowNumber, written as rowWritten}
 use Rattle.machine.specs.Call.{Tally, tally, Called, called}
 use Rattle.velgrodis.specs.declared.Answer.{Answer}
+use Rattle.velgrodis.specs.declared.Validation.{Validation}
 
 -- ---- the three kinds of an answer
 
@@ -105,6 +107,23 @@ pub data RowHanded : Type 0 where
 abbrev pub rowed : Float → RowDelivery → RowHanded
 rowed before (rowNumber x buffer) = rowHanded (value 0 1) x buffer
 rowed before (rowWritten (delivery o buffer)) = rowHanded (counted o) before buffer
+
+-- ---- the answer of a validation, which has one number more, beside a result buffer
+
+-- 0 neither, 1 the spec, 2 the checked type
+abbrev pub inputNumber : Input → ℕ
+inputNumber neither = 0
+inputNumber spec = 1
+inputNumber checkedType = 2
+
+abbrev pub whileReading : Input → Answer → Validation
+whileReading i r = record { answer = r; reading = inputNumber i }
+
+pub data ValidationHanded : Type 0 where
+  validationHanded : Validation → List ℕ → ValidationHanded
+
+abbrev pub validationOf : Separate → ValidationHanded
+validationOf (separate (delivery o buffer) i) = validationHanded (whileReading i (counted o)) buffer
 
 -- ---- the answer of the sheet check, beside the result and the scratch
 

@@ -8,10 +8,10 @@ use lib.Ieee.{Float}
 use lib.ListN.{getD}
 use Rattle.model.specs.Refusals.{outOfRange}
 use Rattle.model.specs.Types.{Ty}
-use Rattle.format.specs.Records.{writeTy}
-use Rattle.format.specs.Outcome.{Outcome, accepted, refused, mapped, bound, both, lone}
+use Rattle.format.specs.Outcome.{Outcome, accepted, refused, mapped, lone, delivery}
 use Rattle.machine.specs.Steps.{maxFlag, fillsTop, fillsBelow}
 use Rattle.validation.specs.CheckShape.{Side, unsided, left, right}
+use Rattle.validation.specs.Separate.{neither, Separate, separate, separately}
 use Rattle.shape_calls.specs.Calls.{pervadeCall}
 use Rattle.val.specs.Values.{Value, number, numbers, typed}
 
@@ -26,9 +26,14 @@ pervadeFlagged flag a b = cond (leb flag maxFlag) (pervadeCall (fillsTop flag) (
 abbrev pub sideFor : ℕ → Outcome Side
 sideFor n = getD (accepted unsided ∷ accepted left ∷ accepted right ∷ []) n unsaid
 
--- a rule for a side, of a spec's bytes and a type's
-abbrev pub sided : (Side → Ty → Ty → Outcome Ty) → ℕ → List ℕ → List ℕ → Outcome (List ℕ)
-sided f n spec t = bound (λ side. both (λ s u. mapped writeTy (f side s u)) (lone spec) (lone t)) (sideFor n)
+-- What is answered for a side; one that stands for nothing is refused while neither input is read.
+abbrev pub forSide : (Side → Separate) → List ℕ → Outcome Side → Separate
+forSide f buffer (accepted side) = f side
+forSide f buffer (refused k p) = separate (delivery (refused k p) buffer) neither
+
+-- a rule for a side, of a spec's bytes, a type's and a result buffer
+abbrev pub sided : (Side → Ty → Ty → Outcome Ty) → ℕ → List ℕ → List ℕ → List ℕ → Separate
+sided f n s t buffer = forSide (λ side. separately (f side) s t buffer) buffer (sideFor n)
 
 -- 0 the number, 1 the list, 2 the type whose bytes they are; what is lent for another is not looked at
 abbrev pub handedIn : ℕ → Float → List Float → List ℕ → Outcome Value

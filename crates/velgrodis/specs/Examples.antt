@@ -9,10 +9,11 @@ use Rattle.model.specs.Types.{unknown}
 use Rattle.format.specs.Outcome.{accepted, refused, mapped, lone}
 use Rattle.rules.specs.Sizes.{less, same, more}
 use Rattle.validation.specs.CheckShape.{unsided, left, right}
+use Rattle.validation.specs.Separate.{neither, spec, checkedType}
 use Rattle.shape_calls.specs.Calls.{pervadeCall}
 use Rattle.val.specs.Values.{number, numbers, typed}
 use Rattle.velgrodis.specs.declared.Answer.{Answer}
-use Rattle.velgrodis.specs.Answers.{counted, tested, sized, compared, sizedOrNone}
+use Rattle.velgrodis.specs.Answers.{counted, tested, sized, compared, sizedOrNone, whileReading}
 use Rattle.velgrodis.specs.Codes.{pervadeFlagged, sideFor, handedIn}
 
 -- ---- what an answer is: 0 refused, 1 a value, 2 none
@@ -47,6 +48,17 @@ same-is-1 = refl
 
 pub more-is-2 : compared (accepted more) ≡ answer 1 0 0 2 0
 more-is-2 = refl
+
+-- ---- the input that a validation was reading: 0 neither, 1 the spec, 2 the checked type
+
+pub neither-0 : whileReading neither (answer 0 14 0 0 0) ≡ record { answer = answer 0 14 0 0 0; reading = 0 }
+neither-0 = refl
+
+pub spec-1 : whileReading spec (answer 0 1 4 0 0) ≡ record { answer = answer 0 1 4 0 0; reading = 1 }
+spec-1 = refl
+
+pub type-2 : whileReading checkedType (answer 0 6 15 0 0) ≡ record { answer = answer 0 6 15 0 0; reading = 2 }
+type-2 = refl
 
 -- ---- a side: 0 none, 1 left, 2 right; 3 is none of them, and refused 3 at place 0
 

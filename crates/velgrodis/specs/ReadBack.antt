@@ -3,17 +3,18 @@
 use Prim.Native.Nat.{ℕ}
 use mathlib.Core.Bool.{Bool, true, false, cond}
 use mathlib.Core.Option.{Option, none, some}
-use mathlib.Core.Path.{_≡_, refl}
+use mathlib.Core.Path.{_≡_, refl, ap}
 use lib.Dec.{eqb}
 use lib.Ieee.{Float}
 use Rattle.format.specs.Records.{dimOf}
 use Rattle.format.specs.Outcome.{Outcome, accepted, refused, mapped, Delivery, delivery}
 use Rattle.rules.specs.Sizes.{Order, less, same, more}
 use Rattle.rules.specs.Types.{Stretch, stretch}
+use Rattle.validation.specs.Separate.{Input, neither, spec, checkedType, Separate, separate}
 use Rattle.ty.specs.Calls.{Given, given}
 use Rattle.val.specs.Values.{RowDelivery, handed as rowNumber, written as rowWritten}
 use Rattle.machine.specs.Call.{tally, Called, called}
-use Rattle.velgrodis.specs.Answers.{counted, tested, sized, sizedOrNone, compared, found, Handed, handed, written, listed, RowHanded, rowHanded, rowed, Returned, returned, checked}
+use Rattle.velgrodis.specs.Answers.{counted, tested, sized, sizedOrNone, compared, found, Handed, handed, written, listed, RowHanded, rowHanded, rowed, inputNumber, ValidationHanded, validationHanded, validationOf, Returned, returned, checked}
 use Rattle.format.specs.ReadWrite.{dim-number}
 use Rattle.velgrodis.specs.declared.Answer.{Answer}
 
@@ -92,6 +93,23 @@ pub rowed-back : (before : Float) (d : RowDelivery) → rowFrom (rowed before d)
 rowed-back before (rowNumber x buffer) = refl
 rowed-back before (rowWritten (delivery (accepted n) buffer)) = refl
 rowed-back before (rowWritten (delivery (refused k p) buffer)) = refl
+
+-- ---- a validation, beside its result
+
+abbrev pub inputBy : ℕ → Input
+inputBy n = cond (eqb n 0) neither (cond (eqb n 1) spec checkedType)
+
+abbrev pub separateBy : ValidationHanded → Separate
+separateBy (validationHanded v buffer) = separate (deliveryBy (handed (v .answer) buffer)) (inputBy (v .reading))
+
+input-back : (i : Input) → inputBy (inputNumber i) ≡ i
+input-back neither = refl
+input-back spec = refl
+input-back checkedType = refl
+
+pub validation-back : (s : Separate) → separateBy (validationOf s) ≡ s
+validation-back (separate (delivery (accepted n) buffer) i) = ap (separate (delivery (accepted n) buffer)) (input-back i)
+validation-back (separate (delivery (refused k p) buffer) i) = ap (separate (delivery (refused k p) buffer)) (input-back i)
 
 -- ---- the sheet check, beside the result and the scratch
 

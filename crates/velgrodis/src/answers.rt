@@ -1,8 +1,12 @@
 // Each enum that a call answers, as the answer that crosses to a host.
 use crate::Answer;
+use crate::CHECKED_TYPE;
+use crate::NEITHER;
 use crate::NOTHING;
 use crate::REFUSED;
+use crate::SPEC;
 use crate::VALUE;
+use crate::Validation;
 use lent::Counted;
 use lent::Tested;
 use lent::Written;
@@ -15,6 +19,8 @@ use ty::Boxes;
 use ty::Found;
 use val::MaybeDim;
 use val::Row;
+use validate::Input;
+use validate::Separate;
 ghost use mathlib.Core.List.{List};
 ghost use mathlib.Core.Path.{_≡_};
 ghost use Prim.Native.Nat.{ℕ};
@@ -27,7 +33,9 @@ ghost use Rattle.shape.specs.Answers.{orderOf};
 ghost use Rattle.shape_calls.specs.Answers.{orderedOf};
 ghost use Rattle.ty.specs.Calls.{boxesOf, foundOf, given};
 ghost use Rattle.val.specs.Answers.{maybeDim, rowDelivered};
-ghost use Rattle.velgrodis.specs.Answers.{no, value, noneAnswer, ordered, counted, tested, sized, sizedOrNone, compared, found, handed, written, listed, rowHanded, rowed, returned, checked};
+ghost use Rattle.validation.specs.Separate.{neither};
+ghost use Rattle.validate.specs.Answers.{inputOf, separateOf};
+ghost use Rattle.velgrodis.specs.Answers.{no, value, noneAnswer, ordered, counted, tested, sized, sizedOrNone, compared, found, handed, written, listed, rowHanded, rowed, inputNumber, whileReading, validationHanded, validationOf, returned, checked};
 
 pub fn of_written(w: Written) -> Answer
     ensures { λ r. ⌜ ((buffer : List ℕ) → handed r buffer ≡ written (delivered w buffer)) ⌝ }
@@ -35,6 +43,41 @@ pub fn of_written(w: Written) -> Answer
     match w {
         Written::Wrote(n) => give(n as u64, 0),
         Written::Refused { number, place } => refuse(number, place),
+    }
+}
+
+pub fn of_separate(s: Separate) -> Validation
+    ensures { λ r. ⌜ ((buffer : List ℕ) → validationHanded r buffer ≡ validationOf (separateOf s buffer)) ⌝ }
+{
+    match s {
+        Separate::Wrote(n) => reading_neither(give(n as u64, 0)),
+        Separate::Refused {
+            number,
+            place,
+            reading,
+        } => Validation {
+            answer: refuse(number, place),
+            reading: of_input(reading),
+        },
+    }
+}
+
+pub fn reading_neither(answer: Answer) -> Validation
+    ensures { λ r. ⌜ r ≡ whileReading neither answer ⌝ }
+{
+    Validation {
+        answer,
+        reading: NEITHER,
+    }
+}
+
+fn of_input(i: Input) -> u64
+    ensures { λ r. ⌜ r ≡ inputNumber (inputOf i) ⌝ }
+{
+    match i {
+        Input::Spec => SPEC,
+        Input::CheckedType => CHECKED_TYPE,
+        Input::Neither => NEITHER,
     }
 }
 

@@ -66,7 +66,14 @@ pub const VALUE: u64 = 1;
 
 pub const NOTHING: u64 = 2;
 
-// What every call answers: refused, with number and place; a value, in `first` and `second`; or none. A number that its kind
+// The input that a validation was reading.
+pub const NEITHER: u64 = 0;
+
+pub const SPEC: u64 = 1;
+
+pub const CHECKED_TYPE: u64 = 2;
+
+// What a call answers: refused, with number and place; a value, in `first` and `second`; or none. A number that its kind
 // does not have is 0.
 #[repr(C)]
 pub struct Answer {
@@ -75,4 +82,11 @@ pub struct Answer {
     pub place: u64,
     pub first: u64,
     pub second: u64,
+}
+
+// What a validation answers: the same, and which input was being read when it was refused; neither, if it was not.
+#[repr(C)]
+pub struct Validation {
+    pub answer: Answer,
+    pub reading: u64,
 }

@@ -1,7 +1,7 @@
 use mathlib.Core.Path.{sym, ap, _∙_}
 use Rattle.format.specs.Outcome.{lone}
 use Rattle.record.specs.Answers.{loneOf}
-use Rattle.record.proofs.LoneLaws.{refusal-first, refusal-second, refusal-neither}
+use Rattle.record.proofs.LoneLaws.{refusal-first, refusal-second, refusal-unrefused}
 use borrow.Author.Needs.{needs}
 use Rattle.record.proofs.whole.read_two.Statement.{statement}
 use Rattle.record.proofs.whole.read_two.Tie as tie
@@ -41,7 +41,7 @@ enum-told-2 c = search needs
 
 returns-3 : tie.Need-returns-3
 returns-3 c =
-    sym (refusal-neither (lone (c .before .before .before .before .before .before .before .before .args .a .now))
+    sym (refusal-unrefused (lone (c .before .before .before .before .before .before .before .before .args .a .now))
     (lone (c .before .before .before .before .before .before .before .before .args .b .now))
     (sym (c .before .before .before .before .before .read-lone .ensures) ∙ ap loneOf (c .before .before .before .enum-told .given .1))
     (sym (c .before .before .read-lone2 .ensures) ∙ ap loneOf (c .enum-told2 .given .1)))

@@ -4,18 +4,15 @@ use mathlib.Core.Path.{_≡_, refl, sym, _∙_}
 use lib.ListN.{drop}
 use borrow.Author.Needs.{needs}
 use Rattle.record.specs.Answers.{dimsOf}
+use Rattle.rules.specs.Sizes.{compatible}
 use Rattle.validation.specs.CheckShape.{agree}
 use Rattle.validation.specs.CheckShapeSteps.{agree-end, agree-end′}
 use Rattle.validate.proofs.DimsLaws.{sizes-more, sizes-stop}
 use Rattle.validate.proofs.dims.agree.Statement.{statement}
 use Rattle.validate.proofs.dims.agree.Tie as tie
-use Rattle.validate.proofs.dims.agree.Reads as reads
-use Rattle.validate.proofs.dims.agree.Lts as lts
-use Rattle.shape.proofs.compatible.Reads as compatible-reads
-use Rattle.writer.proofs.size_count.Reads as size-count-reads
 
 abbrev Inv-loop : tie.InvT-loop
-Inv-loop a b m n i₀ i = (i ≤ m) × (agree (dimsOf a) (dimsOf b) ≡ agree (drop i (dimsOf a)) (drop i (dimsOf b)))
+Inv-loop a b m n i₀ i = (i ≤ m) × (agree compatible (dimsOf a) (dimsOf b) ≡ agree compatible (drop i (dimsOf a)) (drop i (dimsOf b)))
 
 abbrev μ-loop : tie.MeasureT-loop
 μ-loop a b m n i₀ i = m - i
@@ -35,7 +32,7 @@ returns c =
     let at-size-count2 = c .before .before .before in
     let at-loop = c .before .before in
     let args = entry .args in
-    sym (at-loop .loop .inv .1 ∙ agree-end′ (at-loop .loop .i) (dimsOf (args .t1)) (dimsOf (args .t2)) (omega (arith, at-size-count2 .size-count2 .ensures .0)))
+    sym (at-loop .loop .inv .1 ∙ agree-end′ compatible (at-loop .loop .i) (dimsOf (args .t1)) (dimsOf (args .t2)) (omega (arith, at-size-count2 .size-count2 .ensures .0)))
 
 mul-compatible : tie.Need-mul-compatible Inv-loop μ-loop
 mul-compatible c = search needs
@@ -85,7 +82,7 @@ returns-3 c =
     let entry = c .before .before .before .before in
     let at-size-count = c .before .before .before in
     let args = entry .args in
-    sym (c .before .loop .inv .1 ∙ agree-end (c .before .loop .i) (dimsOf (args .t1)) (dimsOf (args .t2)) (omega (arith, at-size-count .size-count .ensures .0)))
+    sym (c .before .loop .inv .1 ∙ agree-end compatible (c .before .loop .i) (dimsOf (args .t1)) (dimsOf (args .t2)) (omega (arith, at-size-count .size-count .ensures .0)))
 
 pub agree-spec : {M : Type 1} → statement M
 agree-spec =

@@ -5,18 +5,15 @@ use mathlib.Core.List.{reverse}
 use lib.ListN.{drop}
 use borrow.Author.Needs.{needs}
 use Rattle.record.specs.Answers.{dimsOf}
+use Rattle.rules.specs.Sizes.{compatible}
 use Rattle.validation.specs.CheckShape.{agree}
 use Rattle.validation.specs.CheckShapeSteps.{agreeEnds-end, agreeEnds-end′}
 use Rattle.validate.proofs.DimsLaws.{ends-more, ends-stop}
 use Rattle.validate.proofs.dims.agree_ends.Statement.{statement}
 use Rattle.validate.proofs.dims.agree_ends.Tie as tie
-use Rattle.validate.proofs.dims.agree_ends.Reads as reads
-use Rattle.validate.proofs.dims.agree_ends.Lts as lts
-use Rattle.shape.proofs.compatible.Reads as compatible-reads
-use Rattle.writer.proofs.size_count.Reads as size-count-reads
 
 abbrev Inv-loop : tie.InvT-loop
-Inv-loop a b m n i₀ i = (i ≤ m) × (agree (reverse (dimsOf a)) (reverse (dimsOf b)) ≡ agree (drop i (reverse (dimsOf a))) (drop i (reverse (dimsOf b))))
+Inv-loop a b m n i₀ i = (i ≤ m) × (agree compatible (reverse (dimsOf a)) (reverse (dimsOf b)) ≡ agree compatible (drop i (reverse (dimsOf a))) (drop i (reverse (dimsOf b))))
 
 abbrev μ-loop : tie.MeasureT-loop
 μ-loop a b m n i₀ i = m - i
@@ -36,7 +33,7 @@ returns c =
     let at-size-count2 = c .before .before .before in
     let at-loop = c .before .before in
     let args = entry .args in
-    sym (at-loop .loop .inv .1 ∙ agreeEnds-end′ (at-loop .loop .i) (dimsOf (args .t1)) (dimsOf (args .t2)) (omega (arith, at-size-count2 .size-count2 .ensures .0)))
+    sym (at-loop .loop .inv .1 ∙ agreeEnds-end′ compatible (at-loop .loop .i) (dimsOf (args .t1)) (dimsOf (args .t2)) (omega (arith, at-size-count2 .size-count2 .ensures .0)))
 
 sub-compatible : tie.Need-sub-compatible Inv-loop μ-loop
 sub-compatible c = search needs
@@ -98,7 +95,7 @@ returns-3 c =
     let entry = c .before .before .before .before in
     let at-size-count = c .before .before .before in
     let args = entry .args in
-    sym (c .before .loop .inv .1 ∙ agreeEnds-end (c .before .loop .i) (dimsOf (args .t1)) (dimsOf (args .t2)) (omega (arith, at-size-count .size-count .ensures .0)))
+    sym (c .before .loop .inv .1 ∙ agreeEnds-end compatible (c .before .loop .i) (dimsOf (args .t1)) (dimsOf (args .t2)) (omega (arith, at-size-count .size-count .ensures .0)))
 
 pub agree-ends-spec : {M : Type 1} → statement M
 agree-ends-spec =

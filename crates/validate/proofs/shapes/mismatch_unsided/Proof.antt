@@ -1,15 +1,9 @@
 use mathlib.Core.Path.{_∙_}
-use borrow.Author.Needs.{needs}
 use Rattle.record.specs.Answers.{dimsOf}
 use Rattle.validate.proofs.ShapesLaws.{unsided-closed, unsided-open}
+use borrow.Author.Needs.{needs}
 use Rattle.validate.proofs.shapes.mismatch_unsided.Statement.{statement}
 use Rattle.validate.proofs.shapes.mismatch_unsided.Tie as tie
-use Rattle.validate.proofs.shapes.mismatch_unsided.Reads as reads
-use Rattle.validate.proofs.shapes.mismatch_unsided.Lts as lts
-use Rattle.validate.proofs.dims.agree.Reads as agree-reads
-use Rattle.validate.proofs.dims.equal_dims.Reads as equal-dims-reads
-use Rattle.validate.proofs.shapes.judge.Reads as judge-reads
-use Rattle.writer.proofs.size_count.Reads as size-count-reads
 
 size-count-requires : tie.Need-size-count-requires
 size-count-requires c κs = search needs
@@ -25,25 +19,38 @@ judge-requires c κs = search needs
 
 returns : tie.Need-returns
 returns c =
-    let entry = c .before .before .before .before .before .before in
-    let at-if1 = c .before .before .before .before in
-    let at-size-count = c .before .before .before in
+    let args = c .before .before .before .before .before .before .args in
+    let at-if1 = c .before .before .before in
     let at-size-count2 = c .before .before in
-    let args = entry .args in
-    c .judge .ensures ∙ unsided-closed (dimsOf (args .o)) (args .t) (at-if1 .if1 .taken) (at-size-count .size-count .ensures .0) (at-size-count2 .size-count2 .ensures .0) (c .before .agree .ensures)
+    let at-size-count = c .before .before .before .before in
+    let at-agree = c .before in
+    c .judge .ensures ∙ unsided-closed (dimsOf (args .o)) (args .t) (at-if1 .if1 .taken) (at-size-count2 .size-count2 .ensures .0) (at-size-count .size-count .ensures .0) (at-agree .agree .ensures)
 
-equal-dims-requires : tie.Need-equal-dims-requires
-equal-dims-requires c κs = search needs
+size-count-requires-3 : tie.Need-size-count-requires-3
+size-count-requires-3 c κs = search needs
+
+size-count-requires-4 : tie.Need-size-count-requires-4
+size-count-requires-4 c κs = search needs
+
+add-named : tie.Need-add-named
+add-named c = search needs
+
+open-agrees-requires : tie.Need-open-agrees-requires
+open-agrees-requires c κs = search needs
 
 judge-requires-2 : tie.Need-judge-requires-2
 judge-requires-2 c κs = search needs
 
 returns-2 : tie.Need-returns-2
 returns-2 c =
-    let entry = c .before .before .before .before .before in
-    let at-if1 = c .before .before .before in
-    let args = entry .args in
-    c .judge2 .ensures ∙ unsided-open (dimsOf (args .o)) (args .t) (at-if1 .if1 .left) (c .before .equal-dims .ensures)
+    let args = c .before .before .before .before .before .before .before .before .args in
+    let at-if1 = c .before .before .before .before .before in
+    let at-size-count3 = c .before .before .before in
+    let at-size-count4 = c .before .before in
+    let at-size-count = c .before .before .before .before .before .before in
+    let at-open-agrees = c .before in
+    c .judge2 .ensures
+    ∙ unsided-open (dimsOf (args .o)) (args .t) (at-if1 .if1 .left) (at-size-count3 .size-count3 .ensures .0) (at-size-count4 .size-count4 .ensures .0) (at-size-count .size-count .ensures .0) (at-open-agrees .open-agrees .ensures)
 
 pub mismatch-unsided-spec : {M : Type 1} → statement M
 mismatch-unsided-spec =
@@ -54,6 +61,9 @@ mismatch-unsided-spec =
     agree-requires
     judge-requires
     returns
-    equal-dims-requires
+    size-count-requires-3
+    size-count-requires-4
+    add-named
+    open-agrees-requires
     judge-requires-2
     returns-2)

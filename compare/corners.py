@@ -319,6 +319,52 @@ def grown():
     yield from (request for a in (taker, largest()) for request in checks(largest(), a))
 
 
+# a spec's shape and a type's: counts that cannot fit, sizes that differ, both, and some that pass
+COUNTED = (
+    # an open type with fewer sizes, from the front and from the end; ? equals ? alone
+    ("2 3", "2.."), ("2 3", "5.."), ("2 3", "?.."), ("2 3", "1.."), ("? 3", "?.."), ("? 3", "2.."), ("2 3", "..3"), ("2 3", "..4"),
+    ("2 3", "..?"), ("2 ?", "..?"), ("2 ?", "..3"), ("2 3..", "2.."), ("2 3..9", "..3"), ("2 3..9", "..9"),
+    ("2 3 4", "2..4"), ("2 3 4", "2..5"), ("2 3 4", "1..4"), ("2 3 4", "1..5"), ("2 3 4", "..3 4"), ("2 3 4", "..2 4"), ("2 3 4", "2 3.."),
+    ("2 3 4", "2 4.."), ("2 ? 4", "2..? 4"), (EIGHT, "1 2 3..7 8"), (EIGHT, "1 2 4..7 8"), (EIGHT, "1 2 3..6 8"),
+    # with more, and with as many
+    ("2", "2 3.."), ("2", "5 3.."), ("2", "..3 2"), ("2 3", "2..3 4"), ("", "3.."), ("..3", "..3"), (EIGHT, f"{EIGHT}..{EIGHT}"),
+    ("2 3", "2..3"), ("2 3", "2..4"), ("2 3", "2..?"), ("2 3", "..3 2"), ("?", "2.."), ("2", "?.."), ("?", "?.."),
+    # a closed type, with fewer, more and as many
+    ("2 3", "2"), ("2 3", "3"), ("2 3", "5"), ("2 3..", "2"), ("2 3..", "5"), ("2", "2 3"), ("2", "3 2"), ("2..", "2 3"), ("..3", "3"), ("..3", "2"),
+    ("3", ""), ("", "3"), ("2 3", "5 6 7"), ("2 3", "2 4"), ("2 3..", "2 4"), ("2 3", "? 4"), ("? ?", "2 3"), (EIGHT, EIGHT[2:]), (EIGHT, EIGHT[:-2]),
+    ("..", "2 3..4"), ("2 3", ".."),
+)  # fmt: skip
+
+
+def counted():
+    """A count that cannot fit or a size that differs: under each side, and in boxes and sheets, where none is in force."""
+    for spec, a in ((num(spec), num(a)) for spec, a in COUNTED):
+        for side in SIDES:
+            yield ask("check_shape", side, spec, a)
+            yield ask("validate", side, ty("", box(spec)), ty("", box(a)))
+        yield ask("check_scalar", ty("..", fields(num("1"), spec)), ty("2", fields(num("1"), a)))
+        yield ask("check_scalar", ty("..", box(spec)), ty("2", fields(a)))
+        yield sheet(put(num(""), a), check(spec))
+        yield sheet(put(ty("", box(a))), check(ty("", box(spec))), ROW)
+    # two fields and the shape around them, each of which passes, has a size that differs or a count that cannot fit: the first that does not pass
+    three = (num("2 3"), num("5.."), num("2.."))
+    for side, first, second in ((side, first, second) for side in SIDES for first in three for second in three):
+        for shape in ("2 4", "3 4", "4"):
+            spec = ty("2 4", fields(num("2 3"), num("2 3")))
+            yield ask("validate", side, spec, ty(shape, fields(first, second)))
+
+
+def reading():
+    """1 to 6 while the spec is being read, or the type; of two that are broken the spec. Else neither: 5, 9, 10 and 14."""
+    good, over = ty("2", fields(num("3"))), ty("2", box(num(str(LARGEST + 1))))
+    broken = (b"", good[:-1], b"XX", good[:-3] + b"SX\3", b"SH\x09", over, nested(8), good + b"\0", good + good)
+    for request in ("check_scalar", *(f"{request} {side}" for request in ("validate", "check_shape") for side in SIDES)):
+        for a in broken:
+            yield from (ask(request, a, good), ask(request, good, a), ask(request, a, broken[-1]), ask(request, broken[-1], a))
+        for spec, a in ((ty("..", fields(name=b"n")), ty("33", ANY)), (num("2"), ty("2", CHAR)), (num("2"), num("3")), (num("2 3"), num("2"))):
+            yield ask(request, spec, a)
+
+
 # ---- sheets
 
 ROW, JOIN, PERVADE = b"RW", b"JN", b"PV\0"
@@ -518,7 +564,7 @@ def lines():
 
 PARTS = (
     cases, dims, shapes, scalars, orders, rows, boxes, looked_up, joins, values, kinds, shape_checks, scalar_checks,
-    grown, judged, worked, met, poured, buffers, sheet_lines, table, refused, lines,
+    grown, counted, reading, judged, worked, met, poured, buffers, sheet_lines, table, refused, lines,
 )  # fmt: skip
 
 

@@ -3,13 +3,15 @@
 //!     bench [ROUNDS [PART]]    so many samples of each side, by turns; the cases whose names have this part
 //!
 //! The Rust's side reads the bytes into its `Type`s, works its rules on them, writes what is left straight to the result and clears a
-//! scratch of the same length. Validation calls the cut `validate` once: the limits are not measured. A sheet's pervading is no text of
-//! the Rust's, but oracle/filled.rs. Both sides must answer the same.
+//! scratch of the same length. Validation calls the cut `validate` once: the limits are not measured. A sheet's
+//! pervading (oracle/filled.rs) and the number of a mismatch (oracle/counts.rs) are no text of the Rust's. Both sides must answer the same.
 
 #![allow(dead_code)]
 
 #[path = "../oracle/bytes.rs"]
 mod bytes;
+#[path = "../oracle/counts.rs"]
+mod counts;
 #[path = "../oracle/edges.rs"]
 mod edges;
 mod expected;
@@ -104,7 +106,8 @@ fn validated(spec: Type, mut ty: Type) -> Result<Type, No> {
     match uiua::validate(spec, &mut ty, None) {
         Ok(()) => Ok(ty),
         Err(TypeError::ScalarMismatch(..)) => no(9, 0),
-        Err(_) => no(10, 0),
+        Err(TypeError::ShapeMismatch(spec, ty)) => no(counts::number(None, &spec, &ty), 0),
+        Err(other) => panic!("{other:?}"),
     }
 }
 
@@ -168,7 +171,8 @@ fn our_sheet(sheet: &[u8], result: &mut [u8], scratch: &mut [u8]) -> Answer {
 
 fn our_validate(spec: &[u8], ty: &[u8], result: &mut [u8]) -> Answer {
     let (to, room) = (result.as_mut_ptr(), result.len());
-    unsafe { library::vg_validate(0, spec.as_ptr(), spec.len(), ty.as_ptr(), ty.len(), to, room) }
+    let (from, length) = (spec.as_ptr(), spec.len());
+    unsafe { library::vg_validate(0, from, length, ty.as_ptr(), ty.len(), to, room) }.answer
 }
 
 // What is measured.

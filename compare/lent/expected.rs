@@ -6,6 +6,8 @@ use crate::library::Answer;
 #[derive(Clone, Debug, Default, PartialEq)]
 pub struct Expected {
     pub answer: Answer,
+    /// What a separate validation was reading; for every other call nothing.
+    pub reading: u64,
     pub bytes: Vec<u8>,
     pub sizes: Vec<u64>,
     pub number: Option<u64>,
@@ -15,6 +17,10 @@ pub struct Expected {
 
 pub const VALUE: u64 = 1;
 pub const NONE: u64 = 2;
+
+const NEITHER: u64 = 0;
+const SPEC: u64 = 1;
+const TYPE: u64 = 2;
 
 pub fn refusal(number: u64, place: u64) -> Expected {
     Expected {
@@ -66,6 +72,18 @@ pub fn bytes(text: &str) -> Expected {
         let bytes = unhex(words[0]);
         Expected { bytes: bytes.clone(), ..value(bytes.len() as u64, 0) }
     })
+}
+
+/// A separate validation's answer: bytes, or a refusal with what was being read as its last word.
+pub fn checked(text: &str) -> Expected {
+    let (rest, reading) = match text.rsplit_once(' ').expect("words") {
+        ("ok", _) => (text, NEITHER),
+        (rest, "neither") => (rest, NEITHER),
+        (rest, "spec") => (rest, SPEC),
+        (rest, "type") => (rest, TYPE),
+        _ => panic!("the oracle answered {text}"),
+    };
+    Expected { reading, ..bytes(rest) }
 }
 
 pub fn number(text: &str) -> Expected {

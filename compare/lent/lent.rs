@@ -7,6 +7,8 @@
 mod buffers;
 #[path = "../oracle/bytes.rs"]
 mod bytes;
+#[path = "../oracle/counts.rs"]
+mod counts;
 #[path = "../oracle/edges.rs"]
 mod edges;
 mod expected;
@@ -39,7 +41,7 @@ use buffers::{Lent, Pattern};
 use expected::{Expected, refusal, unhex};
 use generate::{SIDES, hex_word};
 use invent::Random;
-use library::{Answer, CALLS, Call, SCRATCH};
+use library::{CALLS, Call, SCRATCH, Validation};
 use std::process::ExitCode;
 use uiua::{Dim, Scalar, ScalarBox, Type};
 
@@ -179,11 +181,24 @@ impl Both {
             }
             Call::Led(most, f) => {
                 let (a, b) = (unhex(words[1]), unhex(words[2]));
-                let side = SIDES.iter().position(|&side| side == words[0]);
-                let lead = side.map_or_else(|| decimal(words[0]), |side| side as u64);
-                let (lead, wanted) = self.led(r, most, lead, wanted);
+                let (lead, wanted) = self.led(r, most, decimal(words[0]), wanted);
                 self.to(r, &line, wanted, |to| unsafe {
                     f(lead, a.as_ptr(), a.len(), b.as_ptr(), b.len(), to.as_mut_ptr(), to.len())
+                });
+            }
+            Call::Checked(f) => {
+                let (spec, a) = (unhex(words[0]), unhex(words[1]));
+                self.to(r, &line, wanted(), |to| unsafe {
+                    f(spec.as_ptr(), spec.len(), a.as_ptr(), a.len(), to.as_mut_ptr(), to.len())
+                });
+            }
+            Call::Sided(most, f) => {
+                let (spec, a) = (unhex(words[1]), unhex(words[2]));
+                let side = SIDES.iter().position(|&side| side == words[0]).expect("a side");
+                let (side, wanted) = self.led(r, most, side as u64, wanted);
+                self.to(r, &line, wanted, |to| unsafe {
+                    let (to, room) = (to.as_mut_ptr(), to.len());
+                    f(side, spec.as_ptr(), spec.len(), a.as_ptr(), a.len(), to, room)
                 });
             }
             Call::NumbersTo(f) => {
@@ -290,12 +305,12 @@ impl Both {
     }
 
     /// The call with a result of each length.
-    fn to(
+    fn to<A: Into<Validation>>(
         &mut self,
         r: &mut Random,
         line: &str,
         wanted: Expected,
-        call: impl Fn(&mut [u8]) -> Answer,
+        call: impl Fn(&mut [u8]) -> A,
     ) {
         for length in lengths(r, wanted.bytes.len()) {
             let mut to = self.bytes.lend(r, length);
@@ -365,7 +380,9 @@ impl Both {
     }
 
     /// Counts the call, and says so if the answer or the bytes lent are not as they must be.
-    fn judge(&mut self, line: &str, wanted: &Expected, held: bool, answer: Answer) {
+    fn judge(&mut self, line: &str, wanted: &Expected, held: bool, answer: impl Into<Validation>) {
+        let answer = answer.into();
+        let must_be = Validation { answer: wanted.answer, reading: wanted.reading };
         let tally = &mut self.tallies[self.turn];
         tally[0] += 1;
         tally[match (wanted.answer.kind, wanted.answer.number) {
@@ -374,15 +391,15 @@ impl Both {
             (_, 7) => 3,
             _ => 4,
         }] += 1;
-        if answer == wanted.answer && held {
+        if answer == must_be && held {
             return;
         }
         self.differences += 1;
         if self.differences <= SHOWN {
             let line: String = line.chars().take(2_000).collect();
             println!(
-                "{}\n  request  {line}\n  wanted   {:?}\n  answer   {answer:?}",
-                CALLS[self.turn].1, wanted.answer
+                "{}\n  request  {line}\n  wanted   {must_be:?}\n  answer   {answer:?}",
+                CALLS[self.turn].1
             );
             if !held {
                 println!("  the bytes lent are not as they must be");
@@ -404,7 +421,7 @@ impl Both {
 fn line(r: &mut Random, request: &str) -> String {
     let (_, call) =
         requests::REQUESTS.iter().find(|(word, _)| *word == request).expect("a request");
-    let rest = generate::arguments(r, request, call);
+    let rest = generate::arguments(r, call);
     match call {
         _ if request == "as_boxes" && r.one_in(50) => format!("{request} {}", hex_word(&copies(r))),
         requests::Call::Written(_) => {

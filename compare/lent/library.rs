@@ -6,7 +6,7 @@ use crate::limits::BUFFER;
 /// Bytes that the sheet check asks for as a scratch.
 pub const SCRATCH: usize = BUFFER;
 
-/// The answer of every call. The kind is 0 for a refusal, 1 for a value, 2 for none.
+/// The answer of every call, of the three separate validations within theirs. The kind is 0 for a refusal, 1 for a value, 2 for none.
 #[repr(C)]
 #[derive(Clone, Copy, Debug, Default, PartialEq)]
 pub struct Answer {
@@ -15,6 +15,21 @@ pub struct Answer {
     pub place: u64,
     pub first: u64,
     pub second: u64,
+}
+
+/// The answer of a separate validation. Reading is 1 where a refusal came while the spec was being read, 2 while the type was, else 0.
+#[repr(C)]
+#[derive(Clone, Copy, Debug, Default, PartialEq)]
+pub struct Validation {
+    pub answer: Answer,
+    pub reading: u64,
+}
+
+/// Every other answer is held as one for which nothing was being read.
+impl From<Answer> for Validation {
+    fn from(answer: Answer) -> Self {
+        Validation { answer, reading: 0 }
+    }
 }
 
 /// What a value is handed in by: its kind, then a number, numbers and a type, of which it looks at one.
@@ -32,10 +47,17 @@ pub enum Call {
     TwoTo(unsafe extern "C" fn(*const u8, usize, *const u8, usize, *mut u8, usize) -> Answer),
     Numbered(unsafe extern "C" fn(*const u8, usize, u64) -> Answer),
     NumberedTo(unsafe extern "C" fn(*const u8, usize, u64, *mut u8, usize) -> Answer),
-    /// Before the two types stands a number that must be at most this: a flag or a side.
+    /// Before the two types stands a number that must be at most this: a flag.
     Led(
         u64,
         unsafe extern "C" fn(u64, *const u8, usize, *const u8, usize, *mut u8, usize) -> Answer,
+    ),
+    /// A separate validation, of a spec and a type.
+    Checked(unsafe extern "C" fn(*const u8, usize, *const u8, usize, *mut u8, usize) -> Validation),
+    /// The same with a side before them, which must be at most this.
+    Sided(
+        u64,
+        unsafe extern "C" fn(u64, *const u8, usize, *const u8, usize, *mut u8, usize) -> Validation,
     ),
     Sizes(unsafe extern "C" fn(u64, u64) -> Answer),
     NumbersTo(unsafe extern "C" fn(*const f64, usize, *mut u8, usize) -> Answer),
@@ -46,10 +68,20 @@ pub enum Call {
     Sheet(unsafe extern "C" fn(*const u8, usize, *mut u8, usize, *mut u8, usize) -> Answer),
 }
 
+/// What a call answers, where it names no other.
+macro_rules! answered {
+    () => {
+        Answer
+    };
+    ($other:ty) => {
+        $other
+    };
+}
+
 macro_rules! declared {
-    ($(($request:literal, $name:ident, $kind:ident $(($most:literal))?, $expected:expr, ($($argument:ty),*)),)*) => {
+    ($(($request:literal, $name:ident, $kind:ident $(($most:literal))?, $expected:expr, ($($argument:ty),*) $(-> $other:ty)?),)*) => {
         unsafe extern "C" {
-            $(pub fn $name($(_: $argument),*) -> Answer;)*
+            $(pub fn $name($(_: $argument),*) -> answered!($($other)?);)*
         }
         /// The oracle's request, the call, and how the request's answer is turned into what the call must do.
         pub const CALLS: &[(&str, &str, Call, fn(&str) -> Expected)] =
@@ -106,9 +138,9 @@ declared! {
     ("val_last_row", vg_val_last_row, ValueRow, expected::row, (u64, f64, Floats, usize, In, usize, *mut f64, Out, usize)),
     ("as_dim", vg_as_dim, Value, expected::number, (u64, f64, Floats, usize, In, usize)),
     ("as_dims", vg_as_dims, ValueSizes, expected::sizes, (u64, f64, Floats, usize, In, usize, *mut u64, usize)),
-    ("validate", vg_validate, Led(2), expected::bytes, (u64, In, usize, In, usize, Out, usize)),
-    ("check_shape", vg_check_shape, Led(2), expected::bytes, (u64, In, usize, In, usize, Out, usize)),
-    ("check_scalar", vg_check_scalar, TwoTo, expected::bytes, (In, usize, In, usize, Out, usize)),
+    ("validate", vg_validate, Sided(2), expected::checked, (u64, In, usize, In, usize, Out, usize) -> Validation),
+    ("check_shape", vg_check_shape, Sided(2), expected::checked, (u64, In, usize, In, usize, Out, usize) -> Validation),
+    ("check_scalar", vg_check_scalar, Checked, expected::checked, (In, usize, In, usize, Out, usize) -> Validation),
     ("kinds", vg_kinds, To, expected::bytes, (Out, usize)),
     ("sheet_call", vg_check_sheet, Sheet, expected::types_left, (In, usize, Out, usize, Out, usize)),
 }

@@ -1,5 +1,6 @@
 //! Requests that need no seed. `edges`: every limit with its neighbours, every cut of a few types
-//! and sheets, all numbers at borders. `pairs`: all pairs of small shapes and of scalars.
+//! and sheets, all numbers at borders. `pairs`: all pairs of small shapes and of scalars, and specs of
+//! three sizes on small shapes.
 
 use std::io::Result;
 
@@ -13,7 +14,11 @@ use crate::uiua::{Dim, DynShape, Scalar, ScalarBox, Type};
 
 pub fn edges(out: &mut Lines) -> Result<()> {
     samples().iter().try_for_each(|ty| damaged(out, &type_bytes(ty)))?;
-    limits().iter().try_for_each(|ty| out.line("read", word(ty)))?;
+    for ty in limits() {
+        out.line("read", word(&ty))?;
+        checks(out, &(word(&num(3)) + &word(&ty)))?;
+        checks(out, &(word(&ty) + &word(&num(3))))?;
+    }
     copies(out)?;
     values(out)?;
     sizes(out)?;
@@ -51,19 +56,34 @@ fn samples() -> Vec<Type> {
     ]
 }
 
-/// Each cut and each changed byte.
+/// The requests that say whether the spec or the type was being read.
+fn checks(out: &mut Lines, both: &str) -> Result<()> {
+    out.line("check_scalar", both)?;
+    for side in SIDES {
+        out.line("validate", format!(" {side}{both}"))?;
+        out.line("check_shape", format!(" {side}{both}"))?;
+    }
+    Ok(())
+}
+
+/// Each cut and each changed byte, as the only type, the first of two and the second.
 fn damaged(out: &mut Lines, bytes: &[u8]) -> Result<()> {
     let whole = hex(bytes);
     for at in 0..=bytes.len() {
         let cut = hex_word(&bytes[..at]);
         out.line("read", format!(" {cut}"))?;
-        out.line("join", format!(" {whole} {cut}"))?;
-        out.line("join", format!(" {cut} {whole}00"))?;
+        for both in [format!(" {whole} {cut}"), format!(" {cut} {whole}00")] {
+            out.line("join", &both)?;
+            checks(out, &both)?;
+        }
     }
     for (at, byte) in (0..bytes.len()).flat_map(|at| BYTES.map(|byte| (at, byte))) {
         let mut changed = bytes.to_vec();
         changed[at] = byte;
-        out.line("read", format!(" {}", hex(&changed)))?;
+        let changed = hex(&changed);
+        out.line("read", format!(" {changed}"))?;
+        out.line("check_scalar", format!(" {changed} {whole}"))?;
+        out.line("check_scalar", format!(" {whole} {changed}"))?;
     }
     Ok(())
 }
@@ -205,12 +225,36 @@ pub fn pairs(out: &mut Lines) -> Result<()> {
     }
     for (a, b) in scalars.iter().flat_map(|a| scalars.iter().map(move |b| (a, b))) {
         let both = word(a) + &word(b);
-        for (request, _) in REQUESTS.iter().filter(|(_, call)| matches!(call, Call::Two(_))) {
+        let of_two = |call: &Call| matches!(call, Call::Two(_) | Call::Checked(_));
+        for (request, _) in REQUESTS.iter().filter(|(_, call)| of_two(call)) {
             out.line(request, &both)?;
         }
         out.line("validate", format!(" none{both}"))?;
     }
-    shapes.iter().try_for_each(|a| shapes.iter().try_for_each(|b| shape_pair(out, a, b)))
+    shapes.iter().try_for_each(|a| shapes.iter().try_for_each(|b| shape_pair(out, a, b)))?;
+    threes().iter().try_for_each(|a| shapes.iter().try_for_each(|b| counted(out, a, b)))
+}
+
+/// A spec and a type under each side, in a box, as a field and in a sheet. Inside, no side is in
+/// force.
+fn counted(out: &mut Lines, spec: &Type, ty: &Type) -> Result<()> {
+    let boxed = |ty: &Type| word(&invent::all(ty.clone()));
+    let field = |ty: &Type| word(&invent::def(None, vec![num(1), ty.clone()]));
+    for side in SIDES {
+        out.line("check_shape", format!(" {side}{}{}", word(spec), word(ty)))?;
+        out.line("validate", format!(" {side}{}{}", boxed(spec), boxed(ty)))?;
+        out.line("validate", format!(" {side}{}{}", field(spec), field(ty)))?;
+    }
+    out.line("check_scalar", boxed(spec) + &boxed(ty))?;
+    out.line("sheet", format!(" {}", hex(&[put(ty), validate(spec)].concat())))
+}
+
+/// All closed shapes of three of the sizes 1, 2 and ?, and the same open.
+fn threes() -> Vec<Type> {
+    let sizes = [Dim::Static(1), Dim::Static(2), Dim::Dyn];
+    let pairs = sizes.iter().flat_map(|&a| sizes.map(|b| [a, b]));
+    let lists: Vec<_> = pairs.flat_map(|[a, b]| sizes.map(|c| vec![a, b, c])).collect();
+    lists.iter().flat_map(|dims| [num(dims.clone()), num(open(dims.clone(), vec![]))]).collect()
 }
 
 fn shape_pair(out: &mut Lines, a: &Type, b: &Type) -> Result<()> {

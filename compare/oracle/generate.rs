@@ -57,7 +57,7 @@ fn mix(out: &mut Lines, r: &mut Random) -> Result<()> {
     }
     while out.left > 0 {
         let (word, call) = r.pick(&turns);
-        let rest = arguments(r, word, call);
+        let rest = arguments(r, call);
         if r.one_in(300) { out.line(word, spoiled(r, rest))? } else { out.line(word, rest)? }
     }
     Ok(())
@@ -74,10 +74,11 @@ fn weight(word: &str) -> usize {
 }
 
 /// The arguments, each after a space.
-pub fn arguments(r: &mut Random, word: &str, call: &Call) -> String {
+pub fn arguments(r: &mut Random, call: &Call) -> String {
     match call {
         Call::One(_) => one(r),
-        Call::Two(_) => two(r, word == "check_scalar"),
+        Call::Two(_) => two(r, false),
+        Call::Checked(_) => two(r, true),
         Call::Sided(_) => format!(" {}{}", r.pick(&SIDES), two(r, true)),
         Call::Flagged(_) => format!(" {}{}", r.below(4), two(r, false)),
         Call::Numbered(_) => format!(" {}{}", r.pick(&[0, 0, 1, 1, 2, 30, 31, u64::MAX]), one(r)),
@@ -123,7 +124,12 @@ fn one(r: &mut Random) -> String {
 }
 
 fn two(r: &mut Random, checked: bool) -> String {
-    let (a, b) = if checked { specs::spec_and_type(r) } else { invent::pair(r) };
+    let (mut a, mut b) = if checked { specs::spec_and_type(r) } else { invent::pair(r) };
+    for ty in [&mut a, &mut b] {
+        if checked && r.one_in(24) {
+            invent::at_a_limit(r, ty);
+        }
+    }
     type_word(r, &a) + &type_word(r, &b)
 }
 
@@ -181,7 +187,7 @@ fn step(r: &mut Random, stack: &[Type]) -> Vec<u8> {
     let Some(top) = stack.last() else {
         return if r.one_in(30) { any_step(r) } else { put(&invent::ty(r)) };
     };
-    match r.below(36) {
+    match r.below(37) {
         0 => any_step(r),
         1..3 => {
             let (spec, ty) = specs::spec_and_type(r);
@@ -194,6 +200,7 @@ fn step(r: &mut Random, stack: &[Type]) -> Vec<u8> {
         22..34 if stack.len() == PLACES => on_two(r),
         22..26 => put(&invent::related(r, top)),
         30..36 if stack.len() < PLACES => [put(&invent::met(r, top)), pervade(r)].concat(),
+        36 => validate(&specs::missed(r, top)),
         _ => put(&invent::resized(r, top)),
     }
 }

@@ -7,6 +7,7 @@
 
 mod beside;
 mod bytes;
+mod counts;
 mod edges;
 mod filled;
 mod generate;

@@ -17,6 +17,9 @@ type Answer = Result<String, No>;
 pub enum Call {
     One(fn(Type) -> Answer),
     Two(fn(Type, Type) -> Answer),
+    /// A separate validation, of a spec and a type: a refusal says which of them was being read.
+    Checked(fn(Type, Type) -> Answer),
+    /// The same with a side.
     Sided(fn(Option<SubSide>, Type, Type) -> Answer),
     Flagged(fn(u64, Type, Type) -> Answer),
     Numbered(fn(u64, Type) -> Answer),
@@ -39,7 +42,7 @@ pub const REQUESTS: &[(&str, Call)] = &[
     ("unboxed", Call::One(|a| ty(&a.unboxed()))),
     ("join", Call::Two(|a, b| ty(&(a | b)))),
     ("validate", Call::Sided(|side, spec, a| ty(&rules::validated(side, spec, a)?))),
-    ("check_scalar", Call::Two(|spec, a| ty(&rules::scalar_checked(spec, a)?))),
+    ("check_scalar", Call::Checked(|spec, a| ty(&rules::scalar_checked(spec, a)?))),
     ("check_shape", Call::Sided(|side, spec, a| ty(&rules::shape_checked(side, spec, a)?))),
     ("merge", Call::Two(merged)),
     ("join_shapes", Call::Two(|a, b| shape(&(a.shape | b.shape)))),
@@ -173,6 +176,8 @@ fn order(order: Ordering) -> Answer {
 enum Fault {
     Bad(&'static str),
     No(No),
+    /// Of a separate validation, and what was being read.
+    Reading(&'static str, No),
 }
 
 impl From<No> for Fault {
@@ -191,6 +196,7 @@ pub fn answer(line: &[u8]) -> String {
     match answered(line) {
         Ok(text) => format!("ok {text}"),
         Err(Fault::No(No { number, place })) => format!("no {number} {place}"),
+        Err(Fault::Reading(what, No { number, place })) => format!("no {number} {place} {what}"),
         Err(Fault::Bad(why)) => format!("bad {why}"),
     }
 }
@@ -220,11 +226,16 @@ fn called(call: &Call, words: &[&[u8]]) -> Taken<String> {
             let (a, b) = two(a, b)?;
             call(a, b)?
         }
+        Call::Checked(call) => {
+            let [spec, a] = exactly(words)?;
+            let (spec, a) = spec_and_type(spec, a)?;
+            reading("neither", call(spec, a))?
+        }
         Call::Sided(call) => {
-            let [of, a, b] = exactly(words)?;
+            let [of, spec, a] = exactly(words)?;
             let of = side(of)?;
-            let (a, b) = two(a, b)?;
-            call(of, a, b)?
+            let (spec, a) = spec_and_type(spec, a)?;
+            reading("neither", call(of, spec, a))?
         }
         Call::Flagged(call) => {
             let [flag, a, b] = exactly(words)?;
@@ -274,6 +285,16 @@ fn exactly<'a, const N: usize>(words: &[&'a [u8]]) -> Taken<[&'a [u8]; N]> {
 fn two(a: &[u8], b: &[u8]) -> Taken<(Type, Type)> {
     let (a, b) = (unhex(a)?, unhex(b)?);
     Ok((read_lone(&a)?, read_lone(&b)?))
+}
+
+/// The same, and a refusal says which was being read.
+fn spec_and_type(spec: &[u8], a: &[u8]) -> Taken<(Type, Type)> {
+    let (spec, a) = (unhex(spec)?, unhex(a)?);
+    Ok((reading("spec", read_lone(&spec))?, reading("type", read_lone(&a))?))
+}
+
+fn reading<T>(what: &'static str, outcome: Result<T, No>) -> Taken<T> {
+    outcome.map_err(|no| Fault::Reading(what, no))
 }
 
 fn unhex(word: &[u8]) -> Taken<Vec<u8>> {

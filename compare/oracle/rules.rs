@@ -1,6 +1,7 @@
 //! The rules, each answered by the cut Rust; here only the limits and refusals around them.
 
 use crate::bytes::{No, depth, no, types};
+use crate::counts;
 use crate::limits::{COPIES, DEPTH, LARGEST, SIZES, TYPES};
 use crate::standins::{SubSide, stop_after};
 use crate::uiua::{
@@ -14,22 +15,40 @@ pub fn pervade(flag: u64, first: DynShape, second: DynShape) -> Result<DynShape,
 }
 
 pub fn validated(side: Option<SubSide>, spec: Type, ty: Type) -> Result<Type, No> {
-    within_limits(&ty, |ty| validate(spec.clone(), ty, side))
+    let in_force = || if in_a_box(&spec, &ty) { None } else { side };
+    within_limits(&ty, in_force, |ty| validate(spec.clone(), ty, side))
 }
 
 pub fn scalar_checked(spec: Type, ty: Type) -> Result<Type, No> {
-    within_limits(&ty, |ty| check_scalar(spec.scalar.clone(), ty))
+    within_limits(&ty, || None, |ty| check_scalar(spec.scalar.clone(), ty))
 }
 
 pub fn shape_checked(side: Option<SubSide>, spec: Type, ty: Type) -> Result<Type, No> {
-    within_limits(&ty, |ty| check_shape(spec.shape.clone(), ty, side))
+    within_limits(&ty, || side, |ty| check_shape(spec.shape.clone(), ty, side))
+}
+
+/// Whether a validation that ends with a shape mismatch found it inside a box, where no side is in
+/// force, or at the outermost shapes, which alone have the side. The two shapes of the error do not
+/// tell: an unsided spec too may be open and name only opening sizes, or only closing ones. But
+/// `validate` is `check_scalar` and then `check_shape`, it stops at the first mismatch, and all that
+/// `check_scalar` validates it validates unsided. So the scalar is checked once more, on a fresh copy
+/// and to its end: it makes the same changes in the same order, and mismatches where the validation
+/// did or, if that came to the outermost shapes, passes.
+fn in_a_box(spec: &Type, ty: &Type) -> bool {
+    stop_after(usize::MAX);
+    check_scalar(spec.scalar.clone(), &mut ty.clone()).is_err()
 }
 
 /// Runs `rule` on copies of the type: one run that stops right after the first change, one that
 /// stops right after the second, and so on, until a run comes to its own end. What a stopped run
 /// leaves is the whole type after that change, and is measured. So refusal 5 comes at the first
 /// change that takes the type over, before anything that the Rust would have answered later.
-fn within_limits(ty: &Type, rule: impl Fn(&mut Type) -> TypeResult) -> Result<Type, No> {
+/// `in_force` says under which side that end was, should it be a shape mismatch.
+fn within_limits(
+    ty: &Type,
+    in_force: impl Fn() -> Option<SubSide>,
+    rule: impl Fn(&mut Type) -> TypeResult,
+) -> Result<Type, No> {
     for changes in 1.. {
         let mut copy = ty.clone();
         stop_after(changes);
@@ -38,7 +57,9 @@ fn within_limits(ty: &Type, rule: impl Fn(&mut Type) -> TypeResult) -> Result<Ty
             Err(TypeError::Generic(_)) if types(&copy) > TYPES || depth(&copy) > DEPTH => break,
             Err(TypeError::Generic(_)) => {}
             Err(TypeError::ScalarMismatch(..)) => return no(9, 0),
-            Err(TypeError::ShapeMismatch(..)) => return no(10, 0),
+            Err(TypeError::ShapeMismatch(spec, ty)) => {
+                return no(counts::number(in_force(), &spec, &ty), 0);
+            }
             Err(other) => panic!("{other:?}"),
         }
     }

@@ -1,17 +1,19 @@
-//! A spec and a type to hold against it: many pass, many fail deep inside, many grow.
+//! A spec and a type to hold against it: many pass, many fail deep inside, many grow, many have
+//! shapes of other counts.
 
 use crate::bytes::{KINDS, types};
 use crate::invent::{
     Random, all, closing, def, limited, name, nested, pair, related, shape, size, ty, type_at,
 };
-use crate::limits::{COPIES, DEPTH, LARGEST, TYPES};
+use crate::limits::{COPIES, DEPTH, LARGEST, SIZES, TYPES};
 use crate::uiua::{Dim, DynShape, Scalar, ScalarBox, Type};
 
 pub fn spec_and_type(r: &mut Random) -> (Type, Type) {
-    match r.below(10) {
+    match r.below(13) {
         0 => pair(r),
         1..3 => with_copies(r),
         3..5 => with_takers(r),
+        5..8 => with_counts(r),
         _ => {
             let spec = ty(r);
             let fitting = limited(fit(r, &spec), &spec);
@@ -108,6 +110,74 @@ fn with_takers(r: &mut Random) -> (Type, Type) {
     surrounded(r, spec, def(None, vec![taker; count]))
 }
 
+/// Two whose shapes nearly fit, bare or in boxes, whose own shapes and further fields may not fit
+/// either.
+fn with_counts(r: &mut Random) -> (Type, Type) {
+    let (spec, ty) = counted(r);
+    match r.below(6) {
+        0..3 => (spec, ty),
+        3 => surrounded(r, spec, ty),
+        form => {
+            let (outer_spec, outer) = counted(r);
+            let (scalar, taken) = if form == 4 {
+                (all(spec).scalar, all(ty).scalar)
+            } else {
+                let (next_spec, next) = counted(r);
+                let fields = def(name(r).as_deref(), vec![ty, next]);
+                (def(None, vec![spec, next_spec]).scalar, fields.scalar)
+            };
+            (scalar.shaped(outer_spec.shape), taken.shaped(outer.shape))
+        }
+    }
+}
+
+/// Num and Int, of two shapes of which one nearly fits the other.
+fn counted(r: &mut Random) -> (Type, Type) {
+    let count = r.pick(&[1, 1, 2, 2, 2, 3, 3, 4, SIZES - 1, SIZES]);
+    let dims: Vec<Dim> = (0..count).map(|_| size(r)).collect();
+    let shape = if r.one_in(4) { dims.clone().into() } else { nearly(r, &dims) };
+    (Scalar::Num.shaped(DynShape { dims, suffix: closing(r) }), Scalar::Int.shaped(shape))
+}
+
+/// A shape that has as many sizes as are asked for, or some more or fewer: the same ones, from the
+/// front and from the end, but for one at times.
+fn nearly(r: &mut Random, asked: &[Dim]) -> DynShape {
+    let near = (asked.len() + 1).min(SIZES) - r.below(3).min(asked.len());
+    let count = if r.one_in(4) { r.below(SIZES + 1) } else { near };
+    let mut shape = match r.below(5) {
+        0 => first(r, asked, count).into(),
+        1 => last(r, asked, count).into(),
+        _ => {
+            let opening = r.below(count + 1);
+            let left = &asked[opening.min(asked.len())..];
+            let closing = last(r, left, count - opening);
+            DynShape { dims: first(r, asked, opening), suffix: Some(closing) }
+        }
+    };
+    let mut sizes: Vec<&mut Dim> =
+        shape.dims.iter_mut().chain(shape.suffix.iter_mut().flatten()).collect();
+    if r.one_in(2) && !sizes.is_empty() {
+        let index = r.below(sizes.len());
+        *sizes[index] = size(r);
+    }
+    shape
+}
+
+/// So many sizes, those of the list from its front, then any.
+fn first(r: &mut Random, list: &[Dim], count: usize) -> Vec<Dim> {
+    let mut sizes = list[..count.min(list.len())].to_vec();
+    sizes.resize_with(count, || size(r));
+    sizes
+}
+
+/// The same from its end.
+fn last(r: &mut Random, list: &[Dim], count: usize) -> Vec<Dim> {
+    let backwards: Vec<Dim> = list.iter().rev().copied().collect();
+    let mut sizes = first(r, &backwards, count);
+    sizes.reverse();
+    sizes
+}
+
 /// Both put at the same place of larger types, some levels deep or beside other fields, the last
 /// of which may mismatch.
 fn surrounded(r: &mut Random, spec: Type, ty: Type) -> (Type, Type) {
@@ -136,4 +206,22 @@ pub fn loosened(r: &mut Random, ty: &Type) -> Type {
         return scalar.shaped(DynShape::ANY);
     }
     Type { scalar, shape: DynShape { dims, suffix: closing(r) } }
+}
+
+/// A spec whose shape this type's nearly fits: a size more between its opening and its closing ones,
+/// one fewer, or another.
+pub fn missed(r: &mut Random, ty: &Type) -> Type {
+    let closing_sizes = ty.shape.suffix.as_deref().unwrap_or(&[]);
+    let between = if r.one_in(2) { vec![size(r)] } else { Vec::new() };
+    let mut dims = [&ty.shape.dims[..], &between, closing_sizes].concat();
+    dims.truncate(SIZES);
+    match r.below(4) {
+        0 => drop(dims.pop()),
+        1 if !dims.is_empty() => {
+            let index = r.below(dims.len());
+            dims[index] = size(r);
+        }
+        _ => {}
+    }
+    ty.scalar.clone().shaped(DynShape { dims, suffix: closing(r) })
 }

@@ -58,7 +58,7 @@ enum vg_kind {
     VG_NONE = 2     /* accepted, and there is none of what was asked for; all else is 0 */
 };
 
-/* The answer of every call. */
+/* The answer of every call; a validation says one thing more beside it (vg_validation). */
 typedef struct vg_answer {
     uint64_t kind;   /* of enum vg_kind */
     uint64_t number; /* of enum vg_refusal */
@@ -67,8 +67,9 @@ typedef struct vg_answer {
     uint64_t second;
 } vg_answer;
 
-/* Why an input is refused. In a lone type a place is a byte of the type; of two types that were handed in, the one that was
- * refused (vg_read tells which: the first, or the spec, is read whole before the other). In a sheet a place is a byte of the sheet. */
+/* Why an input is refused. In a lone type a place is a byte of the type; of two types that were handed in, of the one that was
+ * refused: of a spec and a type the validation itself tells which (`reading`); for two others hand the first to vg_read, since it is
+ * read whole before the other: refused, it is that one. In a sheet a place is a byte of the sheet. */
 enum vg_refusal {
     VG_ENDED = 1,         /* The bytes end inside a record or a type. Place: first byte of the record begun or due. */
     VG_UNMARKED = 2,      /* Two bytes that are no mark allowed there. Place: the first of them. */
@@ -81,12 +82,13 @@ enum vg_refusal {
     VG_TRAILING = 6,      /* Bytes after a lone type. Place: the first of them, which is the length of the type before them. */
     VG_TOO_SHORT = 7,     /* A result too short for what is to be written; it is found last, after any other refusal. Place: 0, for a
                            * sheet its length. Or a scratch under VG_SCRATCH_BYTES; it is found first of all. Place: 0. */
-    VG_UNPERVADED = 8,    /* Two shapes that cannot pervade. Place: 0, in a sheet the step's mark; so for the next two. */
+    VG_UNPERVADED = 8,    /* Two shapes that cannot pervade. Place: 0, in a sheet the step's mark; so for 9, 10 and 14. */
     VG_WRONG_SCALAR = 9,  /* A spec's scalar that is no superset of the type's. */
-    VG_WRONG_SHAPE = 10,  /* A type's shape that does not pass the spec's. */
+    VG_WRONG_SHAPE = 10,  /* A type's shape that does not pass the spec's: a size differs (vg_validate says when it is 14 instead). */
     VG_UNDERFLOW = 11,    /* A step that lacks types on the stack. Place: its mark. */
     VG_OVERFLOW = 12,     /* A ninth type on the stack, or a 65th step. Place: the step's mark. */
-    VG_NOT_A_SIZE = 13    /* NaN, a negative number or a fraction where a size is wanted. Place: its index; 0 for a lone number. */
+    VG_NOT_A_SIZE = 13,   /* NaN, a negative number or a fraction where a size is wanted. Place: its index; 0 for a lone number. */
+    VG_WRONG_COUNT = 14   /* A type's shape that does not pass the spec's: so many sizes cannot fit (vg_validate says when exactly). */
 };
 
 /* Every comment below has: what a value says; the refusals, in the order in which they are found.
@@ -106,7 +108,7 @@ enum vg_refusal {
  *   12 at the step, if it is the 65th, whatever its bytes are; 1 or 2 at the step, for its mark;
  *   11 at the step, if the stack lacks the types it takes; 12 at the step, if it puts a ninth;
  *   1 to 5 for the type that follows its mark, places in the sheet; 1 or 3 at the step, for a flag byte;
- *   8, 9, 10 or 5 at the step, for its rule.
+ *   8, 9, 10, 14 or 5 at the step, for its rule.
  *   At last 7 at the sheet's length, if the result is too short for the types left.
  * A refusal leaves the whole result as lent. Whatever is answered, bytes 0 to VG_SCRATCH_BYTES - 1 of the scratch are then 0 and
  * later ones as lent; a scratch that is too short stays as lent. What the scratch held before makes no difference. */
@@ -332,15 +334,41 @@ enum vg_side {
     VG_RIGHT = 2
 };
 
+/* Which input was being read when a validation was refused. */
+enum vg_reading {
+    VG_NEITHER = 0,     /* neither: accepted, or refused before the spec was read or after both were */
+    VG_SPEC = 1,        /* the spec, which is read whole before the type */
+    VG_CHECKED_TYPE = 2 /* the type that is checked */
+};
+
+/* The answer of a validation: what every call answers, and which input was being read. For a refusal of "reading spec" `reading` is
+ * VG_SPEC, for one of "reading ty" VG_CHECKED_TYPE; the number is 1 to 6 then, and the place is in that input. For everything else it
+ * is VG_NEITHER: a value, 3 for a side above 2, 5 where the rule would make one type too many, 7, 9, 10 and 14. */
+typedef struct vg_validation {
+    vg_answer answer;
+    uint64_t reading; /* of enum vg_reading */
+} vg_validation;
+
 /* A spec on a type: the type as it then is. vg_validate checks the scalar and then the shape; vg_check_shape the shape alone, and keeps
- * the type's scalar; vg_check_scalar the scalar alone, without side, and keeps the type's shape. For a side the opening sizes of the
- * spec alone are compared, from the front or from the end, and a type that passes is open afterwards; contents of boxes are validated
- * without side.
+ * the type's scalar; vg_check_scalar the scalar alone, without side, and keeps the type's shape. Of the spec the opening sizes alone
+ * are compared, for a side from the front or from the end; a type that passes for a side is open afterwards. Contents of boxes are
+ * validated without side.
  * Value: bytes written, a type. Refused: 3 at 0 for a side above 2; reading spec; reading ty; then at 0 the first that is met of
- * 9, 10 or 5, contents of boxes first (vg_check_shape: 10; vg_check_scalar: a 10 comes from inside a box); result. */
-vg_answer vg_validate(uint64_t side, const uint8_t *spec, size_t spec_len, const uint8_t *ty, size_t ty_len, uint8_t *result, size_t result_len);
-vg_answer vg_check_shape(uint64_t side, const uint8_t *spec, size_t spec_len, const uint8_t *ty, size_t ty_len, uint8_t *result, size_t result_len);
-vg_answer vg_check_scalar(const uint8_t *spec, size_t spec_len, const uint8_t *ty, size_t ty_len, uint8_t *result, size_t result_len);
+ * 9, 10, 14 or 5, contents of boxes first (vg_check_shape: 10 or 14; vg_check_scalar: a 10 or 14 comes from inside a box); result.
+ *
+ * A shape that does not pass the spec's is refused 14 if its count of sizes cannot fit, else 10: a size differs. Where either is [..],
+ * it passes. Counted are the spec's opening sizes, and the type's opening and closing ones together. It is 14 exactly if
+ *   VG_LEFT: the type is closed and has fewer sizes than the spec;
+ *   VG_RIGHT: the type has fewer sizes than the spec;
+ *   VG_UNSIDED, a closed type: it has more or fewer than the spec, be that closed or open;
+ *   VG_UNSIDED, an open type: it names more than the spec; or fewer, and each of them equals the spec's, the opening ones from the
+ *     front and the closing ones from the end (? equals ? alone).
+ * Spec on type, unsided: [2 3] on [2..], [2] on [2 3..], [2 3] on [..3], [2 3..] on [2] and on [5] are 14; [2] on [3], and [2 3] on
+ * [5..], on [?..] and on [..4] are 10. Left: [2 3] on [2] and on [5] are 14, on [5..] 10. Right: [2 3] on [..3] and on [..4] are 14,
+ * on [..4 5] 10. */
+vg_validation vg_validate(uint64_t side, const uint8_t *spec, size_t spec_len, const uint8_t *ty, size_t ty_len, uint8_t *result, size_t result_len);
+vg_validation vg_check_shape(uint64_t side, const uint8_t *spec, size_t spec_len, const uint8_t *ty, size_t ty_len, uint8_t *result, size_t result_len);
+vg_validation vg_check_scalar(const uint8_t *spec, size_t spec_len, const uint8_t *ty, size_t ty_len, uint8_t *result, size_t result_len);
 
 #ifdef __cplusplus
 }

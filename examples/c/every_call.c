@@ -320,18 +320,252 @@ static void rows(void)
     expect("the number of a row that is a type", number == 7.0);
 }
 
+/* ---- validation: which input was being read -------------------------------------------------------------------------------- */
+
+static int passed(vg_validation v, const char *text) { return wrote(v.answer, text) && v.reading == VG_NEITHER; }
+
+static int refused_in(vg_validation v, uint64_t reading, uint64_t number, uint64_t place)
+{
+    return refused(v.answer, number, place) && v.reading == reading;
+}
+
+#define PASSED(call, text) (fresh(), expect(#call, passed(call, text)))
+#define REFUSED_IN(call, reading, number, place) (fresh(), expect(#call, refused_in(call, reading, number, place)))
+
+/* The three validations as one; the scalar's has no side, and is called unsided alone. */
+enum validating { VALIDATE, CHECK_SHAPE, CHECK_SCALAR };
+static const char *const validating_name[] = {"vg_validate", "vg_check_shape", "vg_check_scalar"};
+static const char *const side_name[] = {"unsided", "left", "right"};
+static const uint64_t last_side[] = {VG_RIGHT, VG_RIGHT, VG_UNSIDED};
+
+static vg_validation validated(int call, uint64_t side, bytes spec, bytes ty)
+{
+    fresh();
+    if (call == CHECK_SCALAR) {
+        return vg_check_scalar(spec.data, spec.length, ty.data, ty.length, result, room);
+    }
+    return (call == VALIDATE ? vg_validate : vg_check_shape)(side, spec.data, spec.length, ty.data, ty.length, result, room);
+}
+
+static void expect_on(int call, uint64_t side, const char *where, const char *spec, const char *ty, int good)
+{
+    char what[512];
+    snprintf(what, sizeof what, "%s, %s, %s: %s on %s", validating_name[call], side_name[side], where, spec, ty);
+    expect(what, good);
+}
+
+/* Bytes that are no lone type, for each number, some of them at another place than 0. */
+typedef struct damage {
+    const char *bytes;
+    uint64_t number;
+    uint64_t place;
+} damage;
+
+#define TWO_BOXES SCALAR ALL SCALAR ALL
+
+static const damage damages[] = {
+    {"", VG_ENDED, 0},
+    {ONE("02"), VG_ENDED, 12},
+    {"5858", VG_UNMARKED, 0},
+    {SCALAR SCALAR, VG_UNMARKED, 4},
+    {"534809", VG_OUT_OF_RANGE, 0},
+    {SCALAR "53430a", VG_OUT_OF_RANGE, 4},
+    {"534801ff 0100000000002000" NUM, VG_OVERSIZED, 0},
+    {TWO_BOXES TWO_BOXES TWO_BOXES TWO_BOXES, VG_TOO_MANY, 80},
+    {SCALAR NUM "00", VG_TRAILING, 7},
+};
+static const size_t damages_made = sizeof damages / sizeof damages[0];
+
+/* A damaged spec, a damaged type, and both: then it is the spec that is said, whatever the type is. */
+static void reading(int call, uint64_t side, const damage *d)
+{
+    const char *good = SCALAR NUM;
+    bytes ty = hex(good), damaged = hex(d->bytes);
+    expect_on(call, side, "spec", d->bytes, good, refused_in(validated(call, side, damaged, ty), VG_SPEC, d->number, d->place));
+    expect_on(call, side, "type", good, d->bytes, refused_in(validated(call, side, ty, damaged), VG_CHECKED_TYPE, d->number, d->place));
+    for (size_t i = 0; i < damages_made; i++) {
+        ty = hex(damages[i].bytes);
+        expect_on(call, side, "both", d->bytes, damages[i].bytes, refused_in(validated(call, side, damaged, ty), VG_SPEC, d->number, d->place));
+    }
+}
+
+/* A box of 32 fields would be made of [32] Any by a spec with a name: 5, with both inputs read. */
+#define NAMED "534308425802016e00" /* named n, no field */
+
+static void readings(void)
+{
+    for (int call = VALIDATE; call <= CHECK_SCALAR; call++) {
+        for (uint64_t side = VG_UNSIDED; side <= last_side[call]; side++) {
+            for (size_t i = 0; i < damages_made; i++) {
+                reading(call, side, &damages[i]);
+            }
+        }
+    }
+    PASSED(vg_validate(VG_UNSIDED, T(UNKNOWN_ONE NUM), T(ONE("03") INT), result, 15), ONE("03") INT);
+    PASSED(vg_validate(VG_LEFT, T(UNKNOWN_ONE NUM), T(ONE("03") INT), result, room), "53480100 0300000000000000" INT);
+    PASSED(vg_check_shape(VG_RIGHT, T(ONE("03") CHAR), T(TWO("02", "03") NUM), result, room), "53480201 0200000000000000 0300000000000000 0300000000000000" NUM);
+    PASSED(vg_check_scalar(T(ONE("02") NUM), T(ONE("03") INT), result, room), ONE("03") INT);
+    REFUSED_IN(vg_validate(VG_UNSIDED, T(UNKNOWN_ONE NUM), T(ONE("03") INT), result, 14), VG_NEITHER, VG_TOO_SHORT, 0);
+    REFUSED_IN(vg_check_shape(VG_LEFT, T(UNKNOWN_ONE NUM), T(ONE("03") INT), result, 14), VG_NEITHER, VG_TOO_SHORT, 0);
+    REFUSED_IN(vg_check_scalar(T(ONE("02") NUM), T(ONE("03") INT), result, 0), VG_NEITHER, VG_TOO_SHORT, 0);
+    REFUSED_IN(vg_validate(3, T(""), T(""), result, room), VG_NEITHER, VG_OUT_OF_RANGE, 0);
+    REFUSED_IN(vg_check_shape(VG_UNKNOWN, T("5858"), T(SCALAR NUM), result, 0), VG_NEITHER, VG_OUT_OF_RANGE, 0);
+    REFUSED_IN(vg_validate(VG_LEFT, T(OPEN NAMED), T(ONE("20") ANY), result, room), VG_NEITHER, VG_TOO_MANY, 0);
+    REFUSED_IN(vg_check_scalar(T(OPEN NAMED), T(ONE("20") ANY), result, room), VG_NEITHER, VG_TOO_MANY, 0);
+    REFUSED_IN(vg_validate(VG_UNSIDED, T(SCALAR NUM), T(SCALAR CHAR), result, room), VG_NEITHER, VG_WRONG_SCALAR, 0);
+    REFUSED_IN(vg_validate(VG_RIGHT, T(SCALAR ALL SCALAR NUM), T(SCALAR ALL SCALAR CHAR), result, room), VG_NEITHER, VG_WRONG_SCALAR, 0);
+    REFUSED_IN(vg_check_scalar(T(OPEN NUM), T(ONE("03") ANY), result, room), VG_NEITHER, VG_WRONG_SCALAR, 0);
+    /* The scalar is judged before the shape, a box's content before either; a short result after all. */
+    REFUSED_IN(vg_validate(VG_UNSIDED, T(ONE("02") NUM), T(ONE("03") CHAR), result, 0), VG_NEITHER, VG_WRONG_SCALAR, 0);
+    REFUSED_IN(vg_validate(VG_UNSIDED, T(ONE("02") ALL ONE("02") NUM), T(SCALAR ALL ONE("03") NUM), result, 0), VG_NEITHER, VG_WRONG_SHAPE, 0);
+    REFUSED_IN(vg_validate(VG_UNSIDED, T(ONE("02") ALL SCALAR NUM), T(ONE("03") ALL ONE("03") NUM), result, 0), VG_NEITHER, VG_WRONG_COUNT, 0);
+    REFUSED_IN(vg_check_shape(VG_UNSIDED, T(ONE("02") ALL SCALAR NUM), T(ONE("03") ALL ONE("03") NUM), result, 0), VG_NEITHER, VG_WRONG_SHAPE, 0);
+}
+
+/* ---- validation: a size that differs, a count that cannot fit -------------------------------------------------------------- */
+
+/* A spec's shape on a type's, as the paper writes shapes, and the number that it is refused with by each side's code, 0 where it passes. */
+typedef struct fit {
+    const char *spec;
+    const char *ty;
+    uint64_t number[3];
+} fit;
+
+static const fit fits[] = {
+    /* A closed type. */
+    {"[2]", "[3]", {10, 10, 10}},
+    {"[?]", "[3]", {0, 0, 0}},
+    {"[2]", "[]", {14, 14, 14}},
+    {"[]", "[2]", {14, 0, 0}},
+    {"[2 3]", "[2]", {14, 14, 14}},
+    {"[2 3]", "[3]", {14, 14, 14}},
+    {"[2 3]", "[5]", {14, 14, 14}},
+    {"[2]", "[2 3]", {14, 0, 10}},
+    {"[3]", "[2 3]", {14, 10, 0}},
+    {"[5]", "[2 3]", {14, 10, 10}},
+    {"[2 3]", "[2 4]", {10, 10, 10}},
+    {"[2 3]", "[2 ?]", {0, 0, 0}},
+    /* The same for an open spec, of which the opening sizes alone are compared. */
+    {"[2 3..]", "[2]", {14, 14, 14}},
+    {"[2 3..]", "[5]", {14, 14, 14}},
+    {"[2 3..]", "[2 4]", {10, 10, 10}},
+    {"[2..4]", "[2 3]", {14, 0, 10}},
+    {"[2..4]", "[2]", {0, 0, 0}},
+    {"[..3]", "[2]", {14, 0, 0}},
+    {"[..3]", "[]", {0, 0, 0}},
+    /* An open type that names fewer sizes: unsided it is the count, unless one of them differs. */
+    {"[2 3]", "[2..]", {14, 0, 14}},
+    {"[2 3]", "[5..]", {10, 10, 14}},
+    {"[2 3]", "[?..]", {10, 0, 14}},
+    {"[? 3]", "[?..]", {14, 0, 14}},
+    {"[? 3]", "[2..]", {10, 0, 14}},
+    {"[2 3]", "[..3]", {14, 0, 14}},
+    {"[2 3]", "[..4]", {10, 0, 14}},
+    {"[2 3]", "[..?]", {10, 0, 14}},
+    {"[2 ?]", "[..?]", {14, 0, 14}},
+    {"[2 3 4]", "[2..4]", {14, 0, 14}},
+    {"[2 3 4]", "[2..5]", {10, 0, 14}},
+    {"[2 3 4]", "[5..4]", {10, 10, 14}},
+    {"[2 3..]", "[2..]", {14, 0, 14}},
+    {"[2 3..3]", "[5..]", {10, 10, 14}},
+    /* One that names as many: a size. */
+    {"[2]", "[2..]", {0, 0, 0}},
+    {"[2]", "[5..]", {10, 10, 0}},
+    {"[2]", "[?..]", {10, 0, 0}},
+    {"[?]", "[2..]", {10, 0, 0}},
+    {"[2]", "[..3]", {10, 0, 10}},
+    {"[2 3]", "[2..3]", {0, 0, 0}},
+    {"[2 3]", "[2..4]", {10, 0, 10}},
+    {"[2 3]", "[..4 5]", {10, 0, 10}},
+    /* One that names more: unsided the count, whatever the sizes are. */
+    {"[2]", "[2 3..]", {14, 0, 0}},
+    {"[5]", "[2 3..]", {14, 10, 0}},
+    {"[2]", "[2..3]", {14, 0, 10}},
+    {"[2 3]", "[2 3..3]", {14, 0, 0}},
+    {"[]", "[2..]", {14, 0, 0}},
+    {"[..3]", "[..3]", {14, 0, 0}},
+    /* [..] as the one or the other excuses all. */
+    {"[..]", "[2]", {0, 0, 0}},
+    {"[..]", "[5..4]", {0, 0, 0}},
+    {"[2 3]", "[..]", {0, 0, 0}},
+};
+static const size_t fits_made = sizeof fits / sizeof fits[0];
+
+/* What the two shapes stand behind, and Num behind each of them: nothing, or a box that holds them. */
+typedef struct held {
+    const char *where;
+    const char *spec;
+    const char *ty;
+} held;
+
+static const held alone = {"alone", "", ""};
+static const held in_boxes[] = {
+    {"in a box", SCALAR ALL, SCALAR ALL},
+    {"two boxes deep", SCALAR ALL ONE("02") ALL, SCALAR ALL ONE("02") ALL},
+    {"as a field", ONE("02") DEF SCALAR NUM, ONE("02") DEF SCALAR NUM},
+    {"as a field, the spec for each", SCALAR ALL, SCALAR DEF OPEN NUM},
+};
+static const size_t boxes_made = sizeof in_boxes / sizeof in_boxes[0];
+
+static bytes followed(bytes b, bytes more)
+{
+    memcpy(b.data + b.length, more.data, more.length);
+    b.length += more.length;
+    return b;
+}
+
+/* The record of a shape whose sizes have one digit or are ?. */
+static bytes shape(const char *text)
+{
+    bytes b = hex("534800ff");
+    size_t count_at = 2;
+    for (; *text != 0; text++) {
+        if (*text == '.') {
+            count_at = 3;
+            b.data[3] = 0;
+            text++;
+        } else if (strchr("[ ]", *text) == NULL) {
+            b.data[count_at]++;
+            b = followed(b, hex(*text == '?' ? "ffffffffffffffff" : "0000000000000000"));
+            b.data[b.length - 8] = *text == '?' ? 0xff : (uint8_t)(*text - '0');
+        }
+    }
+    return b;
+}
+
+static bytes nums_behind(const char *before, const char *shape_text) { return followed(followed(hex(before), shape(shape_text)), hex(NUM)); }
+
+static int fits_as(vg_validation v, uint64_t number)
+{
+    if (number == 0) {
+        return value(v.answer, v.answer.first) && v.reading == VG_NEITHER && as_lent((size_t)v.answer.first);
+    }
+    return refused_in(v, VG_NEITHER, number, 0);
+}
+
+static void fit_held(int call, uint64_t side, const held *h, const fit *f, uint64_t number)
+{
+    expect_on(call, side, h->where, f->spec, f->ty, fits_as(validated(call, side, nums_behind(h->spec, f->spec), nums_behind(h->ty, f->ty)), number));
+}
+
+/* What a box holds is validated without side, whatever the side is, and only where scalars are. */
 static void validation(void)
 {
-    REFUSED(vg_validate(VG_UNSIDED, T(ONE("02") NUM), T(ONE("03") NUM), result, room), VG_WRONG_SHAPE, 0);
-    REFUSED(vg_validate(VG_UNSIDED, T(SCALAR NUM), T(SCALAR CHAR), result, room), VG_WRONG_SCALAR, 0);
-    WROTE(vg_validate(VG_UNSIDED, T(UNKNOWN_ONE NUM), T(ONE("03") INT), result, room), ONE("03") INT);
-    WROTE(vg_validate(VG_LEFT, T(UNKNOWN_ONE NUM), T(ONE("03") INT), result, room), "53480100 0300000000000000" INT);
-    REFUSED(vg_validate(3, T(""), T(""), result, room), VG_OUT_OF_RANGE, 0);
-    WROTE(vg_check_shape(VG_RIGHT, T(ONE("03") CHAR), T(TWO("02", "03") NUM), result, room), "53480201 0200000000000000 0300000000000000 0300000000000000" NUM);
-    REFUSED(vg_check_shape(VG_UNSIDED, T(TWO("02", "03") NUM), T("53480100 0200000000000000" NUM), result, room), VG_WRONG_SHAPE, 0);
-    WROTE(vg_check_scalar(T(ONE("02") NUM), T(ONE("03") INT), result, room), ONE("03") INT);
-    REFUSED(vg_check_scalar(T(OPEN NUM), T(ONE("03") ANY), result, room), VG_WRONG_SCALAR, 0);
+    expect("vg_validation, six numbers", sizeof(vg_validation) == 48 && offsetof(vg_validation, reading) == 40);
+    readings();
+    for (int call = VALIDATE; call <= CHECK_SCALAR; call++) {
+        for (uint64_t side = VG_UNSIDED; side <= VG_RIGHT; side++) {
+            for (const fit *f = fits; f < fits + fits_made; f++) {
+                fit_held(call, side, &alone, f, call == CHECK_SCALAR ? 0 : f->number[side]);
+                for (size_t i = 0; i < boxes_made; i++) {
+                    fit_held(call, side, &in_boxes[i], f, call == CHECK_SHAPE ? 0 : f->number[VG_UNSIDED]);
+                }
+            }
+        }
+    }
 }
+
+/* ---- the sheet ------------------------------------------------------------------------------------------------------------- */
 
 static uint8_t scratch[VG_SCRATCH_BYTES + 1];
 
@@ -346,16 +580,43 @@ static int cleared(void)
 }
 
 /* A scratch that holds anything is cleared, whatever is answered. */
-static vg_answer check(const char *text, size_t room_for_types)
+static vg_answer check_bytes(bytes sheet, size_t room_for_types)
 {
-    bytes sheet = hex(text);
     memset(scratch, lent, sizeof scratch);
     fresh();
     return vg_check_sheet(sheet.data, sheet.length, result, room_for_types, scratch, sizeof scratch);
 }
 
+static vg_answer check(const char *text, size_t room_for_types) { return check_bytes(hex(text), room_for_types); }
+
 #define PUT "5055"
 #define PERVADE "5056"
+#define VALIDATION "5641"
+
+/* A step validates without side, and a mismatch is at its mark, also one inside a box. */
+static void step(const held *h, const fit *f)
+{
+    bytes put = followed(hex(PUT), nums_behind(h->ty, f->ty));
+    vg_answer answer = check_bytes(followed(put, followed(hex(VALIDATION), nums_behind(h->spec, f->spec))), room);
+    uint64_t number = f->number[VG_UNSIDED];
+    char what[128];
+    snprintf(what, sizeof what, "a step, %s: %s on %s", h->where, f->spec, f->ty);
+    if (number == 0) {
+        expect(what, is(answer, VG_VALUE, 0, 0, 1, answer.second) && as_lent((size_t)answer.second) && cleared());
+    } else {
+        expect(what, refused(answer, number, put.length) && cleared());
+    }
+}
+
+static void steps(void)
+{
+    for (const fit *f = fits; f < fits + fits_made; f++) {
+        step(&alone, f);
+        for (size_t i = 0; i < boxes_made; i++) {
+            step(&in_boxes[i], f);
+        }
+    }
+}
 
 static void sheets(void)
 {
@@ -383,6 +644,7 @@ int main(void)
     values();
     rows();
     validation();
+    steps();
     sheets();
     printf("%u calls, %u wrong\n", calls, wrong);
     return wrong == 0 ? 0 : 1;

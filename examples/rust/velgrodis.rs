@@ -1,5 +1,6 @@
 //! The calls of libvelgrodis.a that the example needs, each as a safe function: a slice's pointer and length are true, and Rust lends
-//! nothing to be written twice. The other calls of include/velgrodis.h are declared alike.
+//! nothing to be written twice. The other calls of include/velgrodis.h are declared alike; the three validations answer a struct of an
+//! `Answer` and, behind it, a `u64` that says which input was being read.
 
 /// Types on a sheet's stack, and bytes that suffice for any of them.
 const MAX_STACK: usize = 8;

@@ -1,9 +1,9 @@
 -- Document 01, "Thirteen ways of saying no", of each byte of both buffers after the sheet call, whatever the sheet: "Refusals write
--- nothing to the result; scratch bytes 0 to 39,935 are zero after every call that is lent one, and later ones stay; a short scratch
--- stays as lent. Result bytes past the written length stay." Both are as long as before.
+-- nothing to the result; scratch bytes 0 to" 29,951, by document 02, 2026-04, "are zero after every call that is lent one, and later ones
+-- stay; a short scratch stays as lent. Result bytes past the written length stay." Both are as long as before.
 use Prim.Native.Nat.{ℕ, _≤_, _<_}
 use native.Mathlib.Omega.{arith}
-use mathlib.Core.List.{List, _++_}
+use mathlib.Core.List.{List}
 use mathlib.Core.Path.{_≡_, sym, _∙_}
 use lib.ListN.{length, getD, drop, replicate, length-replicate, getD-replicate, List·getD-append}
 use lib.Seq.{drop-at}
@@ -13,25 +13,28 @@ use Rattle.format.specs.Outcome.{Outcome, accepted, refused}
 use Rattle.format.specs.DeliverLaws.{front-stays, front-length}
 use Rattle.machine.specs.SheetLimits.{scratchBytes}
 use Rattle.machine.specs.CallLaws.{Ways, shortScratch, runRefused, shortResult, typesWritten, call-ways}
-use Rattle.machine.specs.Call.{Tally, tally, called, writeTypes, zeroed, atFront, sheetCall}
+use Rattle.machine.specs.Call.{Tally, tally, called, writeTypes, firstZero, zeroed, atFront, sheetCall}
 
 -- ---- a scratch that was zeroed
 
--- n zeros before what stood behind n bytes
 module _ (n : ℕ) (d : List ℕ) where
   zeros-length : length (replicate {A = ℕ} n 0) ≡ n
   zeros-length = length-replicate n 0
 
-  zeros-drop : drop n (replicate n 0 ++ drop n d) ≡ drop n d
+  zeros-drop : drop n (firstZero n d) ≡ drop n d
+  unfolding firstZero
   zeros-drop = drop-at (replicate n 0) (drop n d) n zeros-length
 
-  zeros-front : (i z : ℕ) → i < n → getD (replicate n 0 ++ drop n d) i z ≡ 0
+  zeros-front : (i z : ℕ) → i < n → getD (firstZero n d) i z ≡ 0
+  unfolding firstZero
   zeros-front i z h = List·getD-append (replicate n 0) (drop n d) z i (rw zeros-length h) ∙ getD-replicate n i 0 z h
 
-  zeros-behind : (i z : ℕ) → n ≤ i → getD (replicate n 0 ++ drop n d) i z ≡ getD d i z
+  zeros-behind : (i z : ℕ) → n ≤ i → getD (firstZero n d) i z ≡ getD d i z
+  unfolding firstZero
   zeros-behind i z h = rw zeros-length at (front-stays (replicate n 0) d i z (rw zeros-length h))
 
-  zeros-same-length : n ≤ length d → length (replicate n 0 ++ drop n d) ≡ length d
+  zeros-same-length : n ≤ length d → length (firstZero n d) ≡ length d
+  unfolding firstZero
   zeros-same-length h = rw zeros-length at (front-length (replicate n 0) d (rw zeros-length h))
 
 module _ (d : List ℕ) where

@@ -14,9 +14,10 @@ use Rattle.machine.specs.Steps.{Step, SheetOf}
 use Rattle.machine.specs.Run.{gives, refuses, aside, steps, bottomFirst}
 use Rattle.machine.specs.Sheet.{sheetRun}
 use Rattle.machine.specs.Call.{tally, called, writeTypes, zeroed, atFront}
+use Rattle.machine.specs.WellFormed.{typesLeft}
 use Rattle.demand.specs.Claims.{Check, answerTo, IsAccepted, Leaves, Mismatched, MakesAccepted}
-use Rattle.machine.specs.CallLaws.{Ways, shortScratch, runRefused, shortResult, typesWritten, call-writes, call-refuses, call-ways}
-use Rattle.machine.specs.StepsWithin.{writeTypes-suffices, writeTypes-same}
+use Rattle.machine.specs.CallLaws.{Ways, shortScratch, runRefused, shortResult, typesWritten, call-writes, call-refuses, call-ways, left-fits}
+use Rattle.machine.specs.StepsWithin.{writeTypes-same}
 use Rattle.machine.specs.Sheets.{sheet-steps, left-within}
 
 -- ---- an accepted call
@@ -81,11 +82,11 @@ module _ (c : Check) (enough : scratchBytes ≤ length (c .scratch)) where
   run-mismatched p e = record { place = p; outcome = call-refuses (c .sheet) (c .result) (c .scratch) enough unpervaded p e }
 
   module _ (xs : List Step) (sheet : SheetOf (c .sheet) xs) where
-    pub call-leaves : resultBytes ≤ length (c .result) → (t : Ty) → steps xs [] ≡ gives (t ∷ []) → Leaves c (t ∷ [])
+    pub call-leaves : resultBytes (typesLeft xs) ≤ length (c .result) → (t : Ty) → steps xs [] ≡ gives (t ∷ []) → Leaves c (t ∷ [])
     call-leaves room t e =
         let run : sheetRun (c .sheet) ≡ accepted (t ∷ []) = aside-accepted (sheetRun (c .sheet)) (t ∷ []) (sheet-steps (c .sheet) xs sheet ∙ ap bottomFirst e) in
         let within = left-within (c .sheet) xs (t ∷ []) sheet run .1 in
-        run-leaves (t ∷ []) run within (omega (arith, writeTypes-suffices (t ∷ []) within))
+        run-leaves (t ∷ []) run within (omega (arith, left-fits (c .sheet) xs (t ∷ []) sheet run))
 
     pub call-mismatch : steps xs [] ≡ refuses unpervaded → Mismatched c
     call-mismatch e =

@@ -98,8 +98,8 @@ pub data SecondHalf (c : Check) (xs : List Step) : Type 0 where
   accepts : (t : Ty) → Leaves c (t ∷ []) → (f : Feeds xs) (left : List RealShape) → Through xs f left → SecondHalf c xs
   mismatches : Mismatched c → NoneThrough xs → SecondHalf c xs
 
--- "every other order or grouping of the same puts within eight places": another sheet with the same conditions, so within eight places,
--- that puts the same types, each as often. Its buffers may be others too.
+-- "every other order or grouping of the same puts within" six "places", which "rearranged puts must manage with" (document 02, 2026-04):
+-- another sheet with the same conditions, so within six places, that puts the same types, each as often. Its buffers may be others too.
 pub record Regrouped (c d : Check) (xs ys : List Step) : Type 0 where
   pub one : SecondConditions c xs
   pub other : SecondConditions d ys

@@ -65,7 +65,7 @@ module _ (c : Check) (xs : List Step) (k : SecondConditions c xs) where
       go (mismatches m h) = absurd (matched m)
       go (accepts t l f left h) = (t, l)
 
--- "Every other order or grouping of the same puts within eight places": `Regrouped`.
+-- "Every other order or grouping of the same puts within" six "places" (document 02, 2026-04): `Regrouped`.
 module _ (c d : Check) (xs ys : List Step) (r : Regrouped c d xs ys) where
   -- "Gets the same verdict": accepted or mismatch, the place aside.
   pub same-verdict : verdictOf (answerTo c) ≡ verdictOf (answerTo d)

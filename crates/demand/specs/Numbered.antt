@@ -1,7 +1,7 @@
 -- Demand 1, "gets its result or one of" fourteen "numbered refusals": whatever the bytes and the buffers, what a lone type and a sheet
--- are refused with; and what the reading that makes a sheet well-formed is. What each public call is refused with stands in the crate
--- `numbered`.
-use Prim.Native.Nat.{ℕ, zero, suc, _-_, _≤_}
+-- are refused with; what the reading that makes a sheet well-formed is, and a well-formed sheet. What each public call is refused with stands
+-- in the crate `numbered`.
+use Prim.Native.Nat.{ℕ, zero, suc, _+_, _-_, _≤_, _<_}
 use native.Mathlib.Omega.{arith}
 use mathlib.Core.Bool.{Bool, true, false, _&&_, _||_, cond}
 use mathlib.Core.List.{List, [], _∷_, reverse}
@@ -10,12 +10,12 @@ use mathlib.Core.Option.{Option, none, some}
 use mathlib.Core.Path.{_≡_, refl}
 use lib.ListN.{length, getD}
 use lib.Dec.{eqb, leb, ltb}
-use borrow.Author.Tests.{eqb-true}
+use borrow.Author.Tests.{eqb-true, ltb-false}
 use Rattle.model.specs.Limits.{maxSize, ones, maxSizes, maxName, maxFields, maxTypes, maxDepth}
 use Rattle.model.specs.Refusals.{ended, unmarked, outOfRange, oversized, tooMany, trailing, tooShort, unpervaded, underflow, overflow, isAmong, Among}
 use Rattle.model.specs.Types.{Shape, Scalar, Ty, ty, types}
 use Rattle.model.specs.Within.{All}
-use Rattle.format.specs.Reader.{Read, got, stopped, Reader, andThen, _>>=_, give, stop, need, here, byte, judged, number}
+use Rattle.format.specs.Reader.{Bytes, Read, got, stopped, Reader, andThen, _>>=_, give, stop, need, here, byte, judged, number}
 use Rattle.format.specs.Records.{Mark, mark, shapeMark, scalarMark, boxMark, boxCode, kindOf, isCount, isOptional, listCount, isPrinting, form, orStop, readMark, readDim, readDims}
 use Rattle.format.specs.Records.{shapeFrom, readName, readFields, defFrom, boxFrom, scalarFrom, readTy, readType}
 use Rattle.format.specs.Outcome.{Outcome, accepted, refused, mapped, alone, lone}
@@ -27,12 +27,17 @@ use Rattle.validation.specs.Claims.{ofValidation, Listed}
 use Rattle.validation.specs.RefusalsLaws.{validate-listed}
 use Rattle.machine.specs.SheetLimits.{maxSteps, maxStack, scratchBytes, resultBytes}
 use Rattle.machine.specs.Steps.{Step, put, row, pervading, join, validating, Opcode, aPut, aRow, aPervading, aJoin, aValidating, opcodeOf, opcodes, takes, heightPast, maxFlag}
-use Rattle.machine.specs.Steps.{Rule, ofNone, ofOne, ofTwo}
-use Rattle.machine.specs.Run.{Ruling, gives, refuses, following, orRefuses, aside, Stack, State, fresh, afterStep, onto, pervadeTypes, ruleOf, ruleOn, step, work}
+use Rattle.machine.specs.Steps.{SheetOf, Rule, ofNone, ofOne, ofTwo}
+use Rattle.machine.specs.Run.{Ruling, gives, refuses, following, orRefuses, aside, Stack, State, fresh, afterStep, onto, pervadeTypes, ruleOf, ruleOn, step, work, steps, bottomFirst}
 use Rattle.machine.specs.Sheet.{opcodeIn, placed, opcodeFrom, argumentFrom, stepFrom, workFrom, toEnd, sheetMore, skimMore, sheetFrom, skimFrom, outcomeOf, sheetRun, skim}
-use Rattle.machine.specs.WellFormed.{WellFormed}
+use Rattle.machine.specs.WellFormed.{WellFormed, typesLeft, Heights}
 use Rattle.machine.specs.Call.{called, tally, writeTypes, zeroed, atFront, handOver, sheetCall}
-use Rattle.demand.specs.Numbers.{ofRecords, ofLone, ofReading, ofSheet, ofSheetCall, RefusedWith, answerIn}
+use Rattle.machine.specs.RuleOn.{arity, rule-takes, lays-one}
+use Rattle.machine.specs.StepsTook.{skim-took}
+use Rattle.machine.specs.SheetWorked.{step-height}
+use Rattle.machine.specs.Sheets.{sheet-steps}
+use Rattle.machine.specs.CallLaws.{Ways, shortScratch, runRefused, shortResult, typesWritten, call-ways, left-fits}
+use Rattle.demand.specs.Numbers.{ofRecords, ofLone, ofReading, ofRules, ofSheet, ofSheetCall, RefusedWith, answerIn}
 
 -- ---- lists of numbers
 
@@ -252,14 +257,14 @@ pub skim-numbered : (s : List ℕ) → RefusedWith ofReading (skim s)
 unfolding skim skimFrom
 skim-numbered s = outcome-number ofReading (skimMore s maxSteps (fresh 0) 0) (stops-skim s maxSteps (fresh 0) .number-is 0)
 
--- "Meets none of 1 to 5, 11 and 12 .. and both buffers hold 39,936 bytes": with buffers that are long enough a sheet of any bytes is
--- well-formed, or its reading meets one of these.
-pub well-formed-or-refused : (s result scratch : List ℕ) → resultBytes ≤ length result → scratchBytes ≤ length scratch
+-- "Meets none of 1 to 5, 11 and 12", and "has the scratch asked for and 4,992 result bytes for each type left": with such buffers a sheet of
+-- any bytes is well-formed, or its reading meets one of these.
+pub well-formed-or-refused : (s result scratch : List ℕ) → ((xs : List Step) → skim s ≡ accepted xs → resultBytes (typesLeft xs) ≤ length result) → scratchBytes ≤ length scratch
     → ((xs : List Step) × WellFormed s result scratch xs) ⊎ ((k : ℕ) × (p : ℕ) × (skim s ≡ refused k p) × Among ofReading k)
 well-formed-or-refused s result scratch r c = go (skim s) refl
   where
     go : (o : Outcome (List Step)) → skim s ≡ o → ((xs : List Step) × WellFormed s result scratch xs) ⊎ ((k : ℕ) × (p : ℕ) × (skim s ≡ refused k p) × Among ofReading k)
-    go (accepted xs) e = inl (xs, record { read = e; result-holds = r; scratch-holds = c })
+    go (accepted xs) e = inl (xs, record { read = e; result-holds = r xs e; scratch-holds = c })
     go (refused k p) e = inr (k, p, e, skim-numbered s .number-is k p e)
 
 -- ---- the rules: 5, 8, 9, 10 and 14
@@ -275,53 +280,102 @@ RuleRefuses ns (ofNone a) = RefusesWith ns a
 RuleRefuses ns (ofOne f) = (t : Ty) → RefusesWith ns (f t)
 RuleRefuses ns (ofTwo f) = (t u : Ty) → RefusesWith ns (f t u)
 
-onto-refuses : (st : Stack) (a : Ruling Ty) → RefusesWith ofSheet a → RefusesWith ofSheet (onto st a)
-onto-refuses st (gives t) h = tt
-onto-refuses st (refuses k) h = h
+-- of any numbers that have the rules' among them: these alone, or all of a sheet
+module _ (ns : List ℕ) (ruled : All (Among ns) ofRules) where
+  by-rule : (k : ℕ) → Among ofRules k → Among ns k
+  by-rule = among-more ofRules ns ruled
 
-room-refuses : (b : Bool) (st : Stack) (a : Ruling Ty) → RefusesWith ofSheet a → RefusesWith ofSheet (cond b (onto st a) (refuses overflow))
-room-refuses true st a h = onto-refuses st a h
-room-refuses false st a h = refl
+  pervading-refuses : (f g : Bool) (t u : Ty) → RefusesWith ns (pervadeTypes f g t u)
+  unfolding pervadeTypes
+  pervading-refuses f g (ty s k) (ty t l) = go (pervadeInSheets f g s t)
+    where
+      go : (o : Option Shape) → RefusesWith ns (following (orRefuses o unpervaded) λ x. gives (ty x (union k l)))
+      go none = by-rule unpervaded refl
+      go (some x) = tt
 
-ruleOn-refuses : (r : Rule Ty (Ruling Ty)) (st : Stack) → RuleRefuses ofSheet r → RefusesWith ofSheet (ruleOn r st)
-ruleOn-refuses (ofNone a) st h = room-refuses (ltb (length st) maxStack) st a h
-ruleOn-refuses (ofOne f) [] h = refl
-ruleOn-refuses (ofOne f) (t ∷ st) h = onto-refuses st (f t) (h t)
-ruleOn-refuses (ofTwo f) [] h = refl
-ruleOn-refuses (ofTwo f) (t ∷ []) h = refl
-ruleOn-refuses (ofTwo f) (t ∷ u ∷ st) h = onto-refuses st (f t u) (h t u)
+  validating-refuses : (o : Outcome Ty) → Listed o → RefusesWith ns (aside o)
+  validating-refuses (accepted t) h = tt
+  validating-refuses (refused n p) h = by-rule n (among-more ofValidation ofRules (refl, (refl, (refl, (refl, tt)))) n (h .0))
 
-pervading-refuses : (f g : Bool) (t u : Ty) → RefusesWith ofSheet (pervadeTypes f g t u)
-unfolding pervadeTypes
-pervading-refuses f g (ty s k) (ty t l) = go (pervadeInSheets f g s t)
+  rule-refuses : (x : Step) → RuleRefuses ns (ruleOf x)
+  rule-refuses (put t) = tt
+  rule-refuses row = λ t. tt
+  rule-refuses (pervading f g) = λ t u. pervading-refuses f g t u
+  rule-refuses join = λ t u. tt
+  rule-refuses (validating spec) = λ t. validating-refuses (validate unsided spec t) (validate-listed unsided spec t)
+
+  -- ---- on a stack: 11 is said only where it lacks types, and 12 only where it has no room
+
+  onto-refuses : (st : Stack) (a : Ruling Ty) → RefusesWith ns a → RefusesWith ns (onto st a)
+  onto-refuses st (gives t) h = tt
+  onto-refuses st (refuses k) h = h
+
+  room-refuses : (b : Bool) (st : Stack) (a : Ruling Ty) → (b ≡ false → Among ns overflow) → RefusesWith ns a → RefusesWith ns (cond b (onto st a) (refuses overflow))
+  room-refuses true st a full h = onto-refuses st a h
+  room-refuses false st a full h = full refl
+
+  ruleOn-refuses : (r : Rule Ty (Ruling Ty)) (st : Stack) → (length st < arity r → Among ns underflow) → (maxStack < length st - arity r + 1 → Among ns overflow)
+      → RuleRefuses ns r
+      → RefusesWith ns (ruleOn r st)
+  ruleOn-refuses (ofNone a) st lacks full h = room-refuses (ltb (length st) maxStack) st a (λ e. full (omega (arith, ltb-false (length st) maxStack e))) h
+  ruleOn-refuses (ofOne f) [] lacks full h = lacks (omega arith)
+  ruleOn-refuses (ofOne f) (t ∷ st) lacks full h = onto-refuses st (f t) (h t)
+  ruleOn-refuses (ofTwo f) [] lacks full h = lacks (omega arith)
+  ruleOn-refuses (ofTwo f) (t ∷ []) lacks full h = lacks (omega arith)
+  ruleOn-refuses (ofTwo f) (t ∷ u ∷ st) lacks full h = onto-refuses st (f t u) (h t u)
+
+  step-refuses : (x : Step) (st : Stack) → (length st < takes (opcodeOf x) → Among ns underflow) → (maxStack < heightPast (opcodeOf x) (length st) → Among ns overflow)
+      → RefusesWith ns (step x st)
+  unfolding step
+  step-refuses x st lacks full =
+      ruleOn-refuses (ruleOf x) st
+      (λ l. lacks (omega (arith, rule-takes x)))
+      (λ l. full (omega (arith, rule-takes x, lays-one (opcodeOf x))))
+      (rule-refuses x)
+
+-- Steps that lack no types and lay down none too many are refused by a rule alone.
+steps-ruled : (xs : List Step) (st : Stack) → Heights xs (length st) → RefusesWith ofRules (steps xs st)
+unfolding steps
+steps-ruled [] st h = tt
+steps-ruled (x ∷ xs) st h =
+    let first = step-refuses ofRules (refl, (refl, (refl, (refl, (refl, tt))))) x st (λ l. absurd (omega (arith, h .0))) (λ l. absurd (omega (arith, h .1))) in
+    go (step x st) refl first λ st₁ e. steps-ruled xs st₁ (rw (step-height x st st₁ e) (h .2))
   where
-    go : (o : Option Shape) → RefusesWith ofSheet (following (orRefuses o unpervaded) λ x. gives (ty x (union k l)))
-    go none = refl
-    go (some x) = tt
+    go : (a : Ruling Stack) → step x st ≡ a → RefusesWith ofRules a → ((st₁ : Stack) → step x st ≡ gives st₁ → RefusesWith ofRules (steps xs st₁)) → RefusesWith ofRules (following a λ st₁. steps xs st₁)
+    go (gives st₁) e h k = k st₁ e
+    go (refuses j) e h k = h
 
-validating-refuses : (o : Outcome Ty) → Listed o → RefusesWith ofSheet (aside o)
-validating-refuses (accepted t) h = tt
-validating-refuses (refused n p) h = among-more ofValidation ofSheet (refl, (refl, (refl, (refl, tt)))) n (h .0)
+-- ---- a well-formed sheet: 5, 8, 9, 10 and 14
 
-rule-refuses : (x : Step) → RuleRefuses ofSheet (ruleOf x)
-rule-refuses (put t) = tt
-rule-refuses row = λ t. tt
-rule-refuses (pervading f g) = λ t u. pervading-refuses f g t u
-rule-refuses join = λ t u. tt
-rule-refuses (validating spec) = λ t. validating-refuses (validate unsided spec t) (validate-listed unsided spec t)
+run-ruled : (s : List ℕ) (xs : List Step) → SheetOf s xs → Heights xs 0 → RefusedWith ofRules (sheetRun s)
+run-ruled s xs h k = go (sheetRun s) (steps xs []) (sheet-steps s xs h) (steps-ruled xs [] k)
+  where
+    go : (o : Outcome (List Ty)) (a : Ruling Stack) → aside o ≡ bottomFirst a → RefusesWith ofRules a → RefusedWith ofRules o
+    go (accepted ts) a e h = accepted-with
+    go (refused j p) (gives st) e h = let z : _≡_ {A = ℕ} 0 1 = cc in absurd (omega arith)
+    go (refused j p) (refuses k) e h = let w : j ≡ k = cc in refused-with (rw w h)
 
-step-refuses : (x : Step) (st : Stack) → RefusesWith ofSheet (step x st)
-unfolding step
-step-refuses x st = ruleOn-refuses (ruleOf x) st (rule-refuses x)
+-- A well-formed sheet is accepted, or refused by a rule: the scratch asked for and 4,992 result bytes "for each type left" never fall short.
+pub well-formed-numbered : (s result scratch : List ℕ) → Bytes s → (xs : List Step) → WellFormed s result scratch xs → RefusedWith ofRules (answerIn (sheetCall s result scratch))
+well-formed-numbered s result scratch small xs w = go (call-ways s result scratch)
+  where
+    took : SheetOf s xs × Heights xs 0
+    took = skim-took s small xs (w .read)
+
+    go : Ways s result scratch → RefusedWith ofRules (answerIn (sheetCall s result scratch))
+    go (shortScratch l e) = absurd (omega (arith, w .scratch-holds))
+    go (runRefused l k p r e) = rw e (refused-with (run-ruled s xs (took .0) (took .1) .number-is k p r))
+    go (shortResult l ts r m e) = absurd (omega (arith, w .result-holds, left-fits s xs ts (took .0) r))
+    go (typesWritten l ts r room e) = rw e accepted-with
+
+-- ---- a sheet, worked: 1 to 5, 8 to 12 and 14
 
 work-refuses : (x : Step) (st : State Stack) → RefusesWith ofSheet (work x st)
-work-refuses x st = go (step x (st .stack)) (step-refuses x (st .stack))
+work-refuses x st = go (step x (st .stack)) (step-refuses ofSheet (refl, (refl, (refl, (refl, (refl, tt))))) x (st .stack) (λ l. refl) (λ l. refl))
   where
     go : (a : Ruling Stack) → RefusesWith ofSheet a → RefusesWith ofSheet (following a λ b. gives (afterStep st b))
     go (gives b) h = tt
     go (refuses k) h = h
-
--- ---- a sheet, worked: 1 to 5, 8 to 12 and 14
 
 reading-sheet : All (Among ofSheet) ofReading
 reading-sheet = (refl, (refl, (refl, (refl, (refl, (refl, (refl, tt)))))))

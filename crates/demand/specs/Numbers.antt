@@ -1,5 +1,5 @@
 -- Demand 1, "gets its result or one of" fourteen "numbered refusals" (its count grows with document 02): which of them a record, a lone
--- type, a sheet and the sheet call can have, as lists of their names.
+-- type, a sheet's reading, its rules, a sheet and the sheet call can have, as lists of their names.
 use Prim.Native.Nat.{ℕ}
 use mathlib.Core.List.{List, [], _∷_}
 use mathlib.Core.Path.{_≡_}
@@ -18,6 +18,10 @@ ofLone = ended ∷ unmarked ∷ outOfRange ∷ oversized ∷ tooMany ∷ trailin
 -- "meets none of 1 to 5, 11 and 12": those of a sheet's reading, the rules passed over
 abbrev pub ofReading : List ℕ
 ofReading = ended ∷ unmarked ∷ outOfRange ∷ oversized ∷ tooMany ∷ underflow ∷ overflow ∷ []
+
+-- "rule refusals": those of the steps' rules, which are passed over in that reading. 5 is a validation's.
+abbrev pub ofRules : List ℕ
+ofRules = tooMany ∷ unpervaded ∷ wrongScalar ∷ wrongShape ∷ wrongCount ∷ []
 
 -- those of a sheet, worked: all but 6, which is a lone type's, 7, which is the buffers', and 13, which is a number's
 abbrev pub ofSheet : List ℕ

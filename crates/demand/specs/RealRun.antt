@@ -8,7 +8,7 @@ use mathlib.Core.List.{List, [], _∷_, reverse}
 use mathlib.Core.Logic.{inl, inr}
 use mathlib.Core.Option.{Option, none, some}
 use mathlib.Core.Path.{_≡_, refl, sym, _∙_}
-use lib.ListN.{length, length-reverse}
+use lib.ListN.{length}
 use Rattle.model.specs.Types.{Ty, shapeOf}
 use Rattle.format.specs.Reader.{Bytes}
 use Rattle.machine.specs.SheetLimits.{maxStack}
@@ -21,7 +21,7 @@ use Rattle.machine.specs.RunLaws.{following-gives}
 use Rattle.machine.specs.StepsReads.{step-room}
 use Rattle.machine.specs.SheetWorked.{step-height, step-takes}
 use Rattle.machine.specs.RuleOn.{arity, real-takes, lays-one, realRuleOn-height}
-use Rattle.machine.specs.Sheets.{left-within}
+use Rattle.machine.specs.Sheets.{left-within, left-many}
 use Rattle.demand.specs.Claims.{Check, MakesAccepted, TopsStop, TopUnfit, StopsBecause, RunStopsBecause}
 use Rattle.demand.specs.Calls.{leaves-run}
 
@@ -136,12 +136,6 @@ steps-heights (x ∷ xs) st st₁ h e =
     let l : length st₂ ≡ heightPast (opcodeOf x) (length st) = step-height x st st₂ e₁ in
     (step-takes x st st₂ e₁, rw l at n, rw l at (steps-heights xs st₂ st₁ n e₂))
 
--- They leave as many types as counted.
-steps-many : (xs : List Step) (st st₁ : Stack) → steps xs st ≡ gives st₁ → length st₁ ≡ heightAfter xs (length st)
-unfolding steps
-steps-many [] st st₁ e = let w : st ≡ st₁ = cc in rw (← w)
-steps-many (x ∷ xs) st st₁ e = following-gives (step x st) e λ st₂ e₁ e₂. rw (step-height x st st₂ e₁) at (steps-many xs st₂ st₁ e₂)
-
 module _ (c : Check) (xs : List Step) (ts : List Ty) (m : MakesAccepted c xs ts) (f : Feeds xs) where
   worked : steps xs [] ≡ gives (reverse ts)
   worked = left-within (c .sheet) xs ts (m .bytes) (leaves-run c xs ts m) .0
@@ -152,4 +146,4 @@ module _ (c : Check) (xs : List Step) (ts : List Ty) (m : MakesAccepted c xs ts)
 
   -- and what gets through it leaves as many real shapes as there are types left, whatever the conditions of demand 3
   pub accepted-many : (left : List RealShape) → realRun xs f [] ≡ some left → length left ≡ length ts
-  accepted-many left e = run-many xs f [] left e ∙ sym (steps-many xs [] (reverse ts) worked) ∙ length-reverse ts
+  accepted-many left e = run-many xs f [] left e ∙ sym (left-many (c .sheet) xs ts (m .bytes) (leaves-run c xs ts m))

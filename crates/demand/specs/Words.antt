@@ -10,7 +10,7 @@ use Rattle.machine.specs.SheetLimits.{scratchBytes, resultBytes}
 use Rattle.machine.specs.Steps.{Step, SheetOf}
 use Rattle.machine.specs.Run.{gives, aside, steps, bottomFirst}
 use Rattle.machine.specs.Sheet.{sheetRun}
-use Rattle.machine.specs.WellFormed.{WellFormed, Heights}
+use Rattle.machine.specs.WellFormed.{WellFormed, typesLeft, Heights}
 use Rattle.machine.specs.StepsTook.{skim-took}
 use Rattle.machine.specs.StepsReads.{writeSteps-same}
 use Rattle.machine.specs.Sheets.{sheet-steps, accepted-steps, skim-steps, left-within}
@@ -44,6 +44,6 @@ pub well-formed-steps : (s result scratch : List ℕ) → Bytes s → (xs : List
 well-formed-steps s result scratch small xs w = skim-took s small xs (w .read)
 
 pub steps-well-formed : (s result scratch : List ℕ) (xs : List Step) → SheetOf s xs → Heights xs 0
-    → resultBytes ≤ length result → scratchBytes ≤ length scratch
+    → resultBytes (typesLeft xs) ≤ length result → scratchBytes ≤ length scratch
     → WellFormed s result scratch xs
 steps-well-formed s result scratch xs h k r c = record { read = skim-steps s xs h k; result-holds = r; scratch-holds = c }

@@ -95,9 +95,9 @@ turnedSteps = put4 ∷ put3 ∷ pervade0 ∷ []
 abbrev pub turnedBytes : List ℕ
 turnedBytes = putting (oneSize 4) ++ (putting (oneSize 3) ++ pervading0)
 
--- a call with two buffers that are long enough
+-- a call with the scratch asked for, and a result for the one type left, no byte more
 abbrev pub checkWith : List ℕ → Check
-checkWith s = checkOf s (zeroes resultBytes) (zeroes scratchBytes)
+checkWith s = checkOf s (zeroes (resultBytes 1)) (zeroes scratchBytes)
 
 -- ---- they are bytes
 
@@ -147,12 +147,12 @@ turned-sheet = record { bytes = refl; within = (within4, (within3, (tt, tt))); f
 conditions : (s : List ℕ) (xs : List Step) → Bytes s → SheetOf s xs → areHeights xs 0 ≡ true → All PutOrPervade xs → typesLeft xs ≡ 1 → SecondConditions (checkWith s) xs
 conditions s xs small sheet heights only one = record {
   bytes = small;
-  well-formed = steps-well-formed s (zeroes resultBytes) (zeroes scratchBytes) xs sheet (are-heights xs 0 heights) (long-enough resultBytes) (long-enough scratchBytes);
+  well-formed = steps-well-formed s (zeroes (resultBytes 1)) (zeroes scratchBytes) xs sheet (are-heights xs 0 heights) (rw one (long-enough (resultBytes 1))) (long-enough scratchBytes);
   puts-and-pervadings = only;
   one-left = one;
 }
 
--- Each step has what it takes, at most eight types lie on the stack, and one is left.
+-- Each step has what it takes, at most six types lie on the stack, and one is left.
 pub pairs-conditions : SecondConditions (checkWith pairsBytes) pairsSteps
 pairs-conditions = conditions pairsBytes pairsSteps pairs-bytes pairs-sheet refl (tt, (tt, (refl, (tt, (tt, (refl, (refl, tt))))))) refl
 
@@ -190,7 +190,7 @@ one-length = refl
 pub pairs-leaves : Leaves (checkWith pairsBytes) (oneLeft ∷ [])
 pairs-leaves =
     let within : Within oneLeft = num-within (shape (static 3 ∷ []) (some [])) ((omega arith, (omega arith, tt)), (omega arith, tt)) in
-    run-leaves (checkWith pairsBytes) (long-enough scratchBytes) (oneLeft ∷ []) pairs-run (within, tt) (omega (arith, one-length, long-enough resultBytes))
+    run-leaves (checkWith pairsBytes) (long-enough scratchBytes) (oneLeft ∷ []) pairs-run (within, tt) (omega (arith, one-length, long-enough (resultBytes 1)))
 
 -- [3] and [4] are refused at the pervading.
 unlike-run : sheetRun unlikeBytes ≡ refused unpervaded 34

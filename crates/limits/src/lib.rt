@@ -32,7 +32,7 @@ pub const MAX_BYTES: usize = 4992;
 // Steps of a sheet; types on the stack.
 pub const MAX_STEPS: usize = 64;
 
-pub const MAX_STACK: usize = 8;
+pub const MAX_STACK: usize = 6;
 
 // Bytes of scratch: room of MAX_BYTES for each type on the stack.
 pub const SCRATCH_BYTES: usize = MAX_STACK * MAX_BYTES;

@@ -24,9 +24,13 @@ unfoldable pub writeTypes : List Ty → List ℕ
 writeTypes [] = []
 writeTypes (t ∷ ts) = writeTy t ++ writeTypes ts
 
+-- the first n bytes zero, later ones as lent
+unfoldable pub firstZero : ℕ → List ℕ → List ℕ
+firstZero n buffer = replicate n 0 ++ drop n buffer
+
 -- The bytes that a call asks for are zero, later ones stay; it is said only of a scratch that has as many.
 unfoldable pub zeroed : List ℕ → List ℕ
-zeroed scratch = replicate scratchBytes 0 ++ drop scratchBytes scratch
+zeroed scratch = firstZero scratchBytes scratch
 
 -- bytes at the front of a buffer, all after them as lent
 abbrev pub atFront : List ℕ → List ℕ → List ℕ

@@ -1,6 +1,5 @@
--- What an answer of the sheet call says of the sheet's run: the types left and their bytes in the result, or the refusal. With
--- the bytes that are asked for in both buffers no refusal is for want of room, since no more types are left than the stack has places
--- and `maxBytes` suffice for each.
+-- What an answer of the sheet call says of the sheet's run: the types left and their bytes in the result, or the refusal. `resultBytes`
+-- of the types left suffice for them, and no more are left than the stack has places.
 use Prim.Native.Nat.{ℕ, _≤_, _<_}
 use native.Mathlib.Omega.{arith}
 use mathlib.Core.Bool.{Bool, true, false}
@@ -16,14 +15,15 @@ use Rattle.model.specs.Within.{All, Within}
 use Rattle.format.specs.Reader.{Bytes}
 use Rattle.format.specs.Outcome.{Outcome, accepted, refused}
 use Rattle.machine.specs.SheetLimits.{maxStack, scratchBytes, resultBytes}
-use Rattle.machine.specs.Steps.{Step}
+use Rattle.machine.specs.Steps.{Step, SheetOf}
 use Rattle.machine.specs.Run.{gives, Stack, step, steps}
 use Rattle.machine.specs.Sheet.{sheetRun}
 use Rattle.machine.specs.Call.{tally, called, writeTypes, zeroed, atFront, leftWith, handOver, sheetCall}
+use Rattle.machine.specs.WellFormed.{typesLeft}
 use Rattle.machine.specs.RunLaws.{following-gives}
 use Rattle.machine.specs.StepsWithin.{writeTypes-suffices}
 use Rattle.machine.specs.StepsReads.{step-room}
-use Rattle.machine.specs.Sheets.{accepted-steps, left-within}
+use Rattle.machine.specs.Sheets.{accepted-steps, left-within, left-many}
 
 -- ---- the ways out of the call
 
@@ -81,7 +81,7 @@ steps-few (x ∷ xs) st st₁ h e = following-gives (step x st) e λ st₂ e₁ 
 pub record Few (ts : List Ty) : Type 0 where
   pub within : All Within ts
   pub few : length ts ≤ maxStack
-  pub suffices : length (writeTypes ts) ≤ resultBytes
+  pub suffices : length (writeTypes ts) ≤ resultBytes maxStack
 
 pub run-few : (s : List ℕ) → Bytes s → (ts : List Ty) → sheetRun s ≡ accepted ts → Few ts
 run-few s small ts e =
@@ -89,6 +89,10 @@ run-few s small ts e =
     let w : All Within ts = left-within s xs ts h e .1 in
     let n : length ts ≤ maxStack = omega (arith, steps-few xs [] (reverse ts) (omega arith) k, length-reverse ts) in
     record { within = w; few = n; suffices = omega (arith, writeTypes-suffices ts w) }
+
+-- `resultBytes` of the types that are counted on the reading suffice.
+pub left-fits : (s : List ℕ) (xs : List Step) (ts : List Ty) → SheetOf s xs → sheetRun s ≡ accepted ts → length (writeTypes ts) ≤ resultBytes (typesLeft xs)
+left-fits s xs ts h e = rw (left-many s xs ts h e) at (writeTypes-suffices ts (left-within s xs ts h e .1))
 
 -- ---- an answer with types left
 
@@ -116,16 +120,3 @@ module _ (s result scratch : List ℕ) where
           let o : out ≡ atFront (writeTypes ts) result = cc in
           let front : take b out ≡ writeTypes ts = rw (d, o) (take-append-seam (writeTypes ts) (drop (length (writeTypes ts)) result)) in
           f ts record { run = r; count = c; bytes = d; front = front; kept = run-few s small ts r }
-
-  -- ---- a refusal
-
-  -- With enough room in both buffers it is the run's.
-  pub call-refused : {k p : ℕ} {out after : List ℕ} → Bytes s → resultBytes ≤ length result → scratchBytes ≤ length scratch
-      → called (refused k p) out after ≡ sheetCall s result scratch → sheetRun s ≡ refused k p
-  call-refused {k} {p} {out} {after} small wide enough e = go (call-ways s result scratch)
-    where
-      go : Ways s result scratch → sheetRun s ≡ refused k p
-      go (shortScratch l w) = absurd (omega arith)
-      go (runRefused l j q r w) = let a : j ≡ k = cc in let b : q ≡ p = cc in r ∙ rw (a, b)
-      go (shortResult l ts r m w) = absurd (omega (arith, run-few s small ts r .suffices))
-      go (typesWritten l ts r room w) = let z : _≡_ {A = ℕ} 0 1 = cc in absurd (omega arith)

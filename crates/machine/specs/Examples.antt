@@ -1,9 +1,10 @@
--- Worked examples of the sheet in one list: document 01's own, and those where its words are easily read otherwise. What comes
+-- Worked examples of the sheet: the papers' own, and those where their words are easily read otherwise. What comes
 -- first of several refusals, which place is named, which side is the first, and what stands at the bottom.
-use Prim.Native.Nat.{ℕ, zero, suc, _≤_}
+use Prim.Native.Nat.{ℕ, _≤_}
 use native.Mathlib.Omega.{arith}
 use mathlib.Core.Bool.{Bool, true, false}
 use mathlib.Core.List.{List, [], _∷_, _++_, map}
+use mathlib.Core.Logic.{_↔_}
 use mathlib.Core.Option.{Option, none, some}
 use mathlib.Core.Path.{_≡_, refl}
 use lib.ListN.{length, replicate}
@@ -30,6 +31,7 @@ use Rattle.machine.specs.Steps.{Step, put, row, pervading, join, validat
 use Rattle.machine.specs.Run.{pervadeTypes, step}
 use Rattle.machine.specs.Sheet.{opcodeFrom, argumentFrom, stepFrom, workFrom, sheetMore, skimMore, sheetFrom, skimFrom, sheetRun, skim}
 use Rattle.machine.specs.Call.{tally, called, writeTypes, zeroed, handOver, sheetCall}
+use Rattle.machine.specs.WellFormed.{WellFormed}
 use Rattle.machine.specs.Real.{RealShape, fits, realPervade, theTop, theOneBelow, Feeds, realStep, realRun}
 use Rattle.machine.specs.Conditions.{Alike, PutOrPervade}
 
@@ -42,17 +44,20 @@ pub data Example : Type 0 where
   theRefusal : List ℕ → ℕ → ℕ → Example
   -- a sheet's bytes, and the steps that are read with the rules passed over
   theSteps : List ℕ → List Step → Example
+  -- a sheet's bytes, and the refusal of that reading with the place
+  theUnread : List ℕ → ℕ → ℕ → Example
 
 abbrev pub Shown : Example → Type 0
 Shown (theBytes s w) = mapped writeTypes (sheetRun s) ≡ accepted w
 Shown (theTypes xs ts) = sheetRun (writeSteps xs) ≡ accepted ts
 Shown (theRefusal s k p) = sheetRun s ≡ refused k p
 Shown (theSteps s xs) = skim s ≡ accepted xs
+Shown (theUnread s k p) = skim s ≡ refused k p
 
 -- ---- limits, marks and flags as they stand in the paper, once
 
--- 64 steps, a stack of eight, 39,936 bytes for the scratch and for the result, and 49,152 for the program
-pub sheet-limited : _≡_ {A = List ℕ} (maxSteps ∷ maxStack ∷ scratchBytes ∷ resultBytes ∷ programBytes ∷ []) (64 ∷ 8 ∷ 39936 ∷ 39936 ∷ 49152 ∷ [])
+-- 64 steps, a stack of six, 29,952 bytes for the scratch, 4,992 of a result for each type left, and 49,152 for the program
+pub sheet-limited : _≡_ {A = List ℕ} (maxSteps ∷ maxStack ∷ scratchBytes ∷ resultBytes 1 ∷ programBytes ∷ []) (64 ∷ 6 ∷ 29952 ∷ 4992 ∷ 49152 ∷ [])
 sheet-limited = refl
 
 -- what each takes and what it lays down
@@ -83,9 +88,13 @@ record3 = 0x53 ∷ 0x48 ∷ 0x01 ∷ 0xFF ∷ 0x03 ∷ 0 ∷ 0 ∷ 0 ∷ 0 ∷ 0
 abbrev record? : List ℕ
 record? = 0x53 ∷ 0x48 ∷ 0x01 ∷ 0xFF ∷ 0xFF ∷ 0xFF ∷ 0xFF ∷ 0xFF ∷ 0xFF ∷ 0xFF ∷ 0xFF ∷ 0xFF ∷ 0x53 ∷ 0x43 ∷ 0x03 ∷ []
 
-abbrev times : ℕ → Step → List Step
-times zero x = []
-times (suc n) x = x ∷ times n x
+-- put [] Num, which takes nine bytes
+abbrev putNum : Step
+putNum = put (nums [])
+
+-- six puts, two pervadings, two puts
+abbrev upAgain : List Step
+upAgain = replicate 6 putNum ++ (replicate 2 (pervading false false) ++ replicate 2 putNum)
 
 -- [?] Num
 abbrev unknownNums : Ty
@@ -127,12 +136,31 @@ examples =
     ∷ theRefusal (0x52 ∷ 0x57 ∷ []) underflow 0
     ∷ theRefusal (0x50 ∷ 0x56 ∷ 0x09 ∷ []) underflow 0
     ∷ theRefusal (0x56 ∷ 0x41 ∷ []) underflow 0
-    ∷ theRefusal (writeSteps (times 8 (put (nums []))) ++ (0x50 ∷ 0x55 ∷ [])) overflow 72
     -- 64 steps and no byte more; one byte more is step 65, whatever it is.
-    ∷ theTypes (put (nums []) ∷ times 63 row) (nums [] ∷ [])
-    ∷ theRefusal (writeSteps (put (nums []) ∷ times 63 row) ++ (0x52 ∷ [])) overflow 135
+    ∷ theTypes (put (nums []) ∷ replicate 63 row) (nums [] ∷ [])
+    ∷ theRefusal (writeSteps (put (nums []) ∷ replicate 63 row) ++ (0x52 ∷ [])) overflow 135
     -- Read to the end, a rule's refusal is passed over.
     ∷ theSteps (writeSteps (put (nums (3 ∷ [])) ∷ put (nums (4 ∷ [])) ∷ pervading false false ∷ row ∷ [])) (put (nums (3 ∷ [])) ∷ put (nums (4 ∷ [])) ∷ pervading false false ∷ row ∷ [])
+    ∷ []
+
+-- Six on the stack (document 02, 2026-04).
+unfoldable pub stackExamples : List Example
+stackExamples =
+    -- Six types may lie there, and a row, a pervading, a join and a validation may still be worked.
+    theTypes (replicate 6 putNum) (replicate 6 (nums []))
+    ∷ theTypes (replicate 6 putNum ++ (row ∷ validating (nums []) ∷ pervading false false ∷ join ∷ [])) (replicate 4 (nums []))
+    -- The put of a seventh is 12 at its mark, whether its type is whole, damaged or missing; 1 and 2 for its mark come before.
+    ∷ theRefusal (writeSteps (replicate 7 putNum)) overflow 54
+    ∷ theRefusal (writeSteps (replicate 6 putNum) ++ (0x50 ∷ 0x55 ∷ 0x53 ∷ 0x48 ∷ 0x09 ∷ [])) overflow 54
+    ∷ theRefusal (writeSteps (replicate 6 putNum) ++ (0x50 ∷ 0x55 ∷ [])) overflow 54
+    ∷ theRefusal (writeSteps (replicate 6 putNum) ++ (0x50 ∷ [])) ended 54
+    ∷ theRefusal (writeSteps (replicate 6 putNum) ++ (0x50 ∷ 0x58 ∷ [])) unmarked 54
+    -- Up to six, down and up again, and then one too many.
+    ∷ theTypes upAgain (replicate 6 (nums []))
+    ∷ theRefusal (writeSteps (upAgain ++ (putNum ∷ []))) overflow 78
+    -- Seven puts manage with six places if two are pervaded before the last; all put first they do not, on the reading alone too.
+    ∷ theTypes (replicate 6 putNum ++ (pervading false false ∷ putNum ∷ replicate 5 (pervading false false))) (nums [] ∷ [])
+    ∷ theUnread (writeSteps (replicate 7 putNum ++ replicate 6 (pervading false false))) overflow 54
     ∷ []
 
 unfoldable pub mismatchExamples : List Example
@@ -142,14 +170,15 @@ mismatchExamples =
     ∷ theRefusal (writeSteps (put (ty (shape [] none) (boxAll (shape (static 2 ∷ static 3 ∷ []) none) (plain num))) ∷ validating (ty (shape [] none) (boxAll (shape (static 2 ∷ []) none) (plain num))) ∷ [])) wrongCount 35
     ∷ []
 
-pub examples-shown : All Shown examples × All Shown mismatchExamples
-unfolding examples mismatchExamples inside below byte judged number bytesOf code kindOf writeShape writeScalar writeTy readMark readDim readDims shapeFrom readName
+pub examples-shown : All Shown examples × All Shown stackExamples × All Shown mismatchExamples
+unfolding examples stackExamples mismatchExamples inside below byte judged number bytesOf code kindOf writeShape writeScalar writeTy readMark readDim readDims shapeFrom readName
     readFields defFrom boxFrom scalarFrom readTy cmpDim larger compatible joinDim isAny rank rowShape mergeDims mergeClosing mergeFrom joinDims
     joinLonger joinEnds joinClosing joinShapes codeOf supersetCodes supersetOf union againstAbsent together walk pervadeClosing inSheetsAt
     pervadeInSheets joinTypes whollyAny rowScalar rowBy agree equalDim sizesAgree countTest namesAll mismatch shapeMismatch sidedShape checkShape keepsLimits onAll checkScalar validate
     writeSteps pervadeTypes step opcodeFrom argumentFrom stepFrom workFrom sheetMore skimMore sheetFrom skimFrom sheetRun skim writeTypes
 examples-shown = (
-  (refl, (refl, (refl, (refl, (refl, (refl, (refl, (refl, (refl, (refl, (refl, (refl, (refl, (refl, (refl, (refl, (refl, (refl, (refl, (refl, (refl, (refl, (refl, (refl, (refl, (refl, (refl, tt))))))))))))))))))))))))))),
+  (refl, (refl, (refl, (refl, (refl, (refl, (refl, (refl, (refl, (refl, (refl, (refl, (refl, (refl, (refl, (refl, (refl, (refl, (refl, (refl, (refl, (refl, (refl, (refl, (refl, (refl, tt)))))))))))))))))))))))))),
+  (refl, (refl, (refl, (refl, (refl, (refl, (refl, (refl, (refl, (refl, (refl, tt))))))))))),
   (refl, (refl, tt)),
 )
 
@@ -189,6 +218,26 @@ module _ (scratch : List ℕ) (enough : scratchBytes ≤ length scratch) where
   unfolding sheetCall sheetRun sheetFrom sheetMore workFrom stepFrom opcodeFrom argumentFrom step handOver writeTypes byte judged number bytesOf code
       kindOf writeShape writeScalar writeTy readMark readDim readDims shapeFrom scalarFrom readTy
   call-short = rw (le-ltb (length scratch) scratchBytes enough)
+
+-- ---- well-formed
+
+abbrev twoLeft : List Step
+twoLeft = putNum ∷ putNum ∷ []
+
+-- [3] and [4] pervaded: the rule refuses them, and one type is left on the reading.
+abbrev oneLeft : List Step
+oneLeft = put (nums (3 ∷ [])) ∷ put (nums (4 ∷ [])) ∷ pervading false false ∷ []
+
+-- "The scratch asked for and 4,992 result bytes for each type left", and not one fewer: of a sheet that leaves two and of one that leaves one.
+pub well-formed-lent : (result scratch : List ℕ)
+    → (((29952 ≤ length scratch) × (9984 ≤ length result)) ↔ WellFormed (writeSteps twoLeft) result scratch twoLeft)
+    × (((29952 ≤ length scratch) × (4992 ≤ length result)) ↔ WellFormed (writeSteps oneLeft) result scratch oneLeft)
+unfolding byte judged number bytesOf code kindOf writeShape writeScalar writeTy readMark readDim readDims shapeFrom scalarFrom readTy writeSteps
+    opcodeFrom argumentFrom stepFrom skimMore skimFrom skim
+well-formed-lent result scratch = (
+  (λ l. record { read = refl; scratch-holds = omega (arith, l .0); result-holds = omega (arith, l .1) }, λ w. (omega (arith, w .scratch-holds), omega (arith, w .result-holds))),
+  (λ l. record { read = refl; scratch-holds = omega (arith, l .0); result-holds = omega (arith, l .1) }, λ w. (omega (arith, w .scratch-holds), omega (arith, w .result-holds))),
+)
 
 -- ---- real shapes
 

@@ -28,7 +28,7 @@ unfilled false true h = absurd (omega arith)
 
 -- ---- the top is the first
 
--- A put has room below eight types.
+-- A put has room below `maxStack` types.
 pub step-put : (t : Ty) (st : Stack) → length st < maxStack → step (put t) st ≡ gives (t ∷ st)
 unfolding step
 step-put t st h = ap (λ b. cond b (gives (t ∷ st)) (refuses overflow)) (lt-ltb (length st) maxStack h)

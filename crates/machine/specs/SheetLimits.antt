@@ -1,5 +1,5 @@
--- The limits of a sheet (document 01, "The sheet, added"), each named once and derived from its parts where it has some. Definitions
--- and theorems cite the names and never the numbers, which Examples sets beside the names.
+-- The limits of a sheet (document 01, "The sheet, added"; the stack's by document 02, 2026-04), each named once and derived from its parts
+-- where it has some. Definitions and theorems cite the names and never the numbers, which Examples sets beside the names.
 use Prim.Native.Nat.{ℕ, _*_}
 use Rattle.model.specs.Limits.{maxBytes}
 
@@ -7,17 +7,17 @@ use Rattle.model.specs.Limits.{maxBytes}
 abbrev pub maxSteps : ℕ
 maxSteps = 64
 
--- types on the stack
+-- types on the stack: "six becomes the limit"
 abbrev pub maxStack : ℕ
-maxStack = 8
+maxStack = 6
 
 -- bytes of scratch that a call asks for and zeroes: a place for each type on the stack
 abbrev pub scratchBytes : ℕ
 scratchBytes = maxStack * maxBytes
 
--- bytes of a result that is never too short: those of as many types as can be left
-abbrev pub resultBytes : ℕ
-resultBytes = maxStack * maxBytes
+-- bytes of a result that is never too short for so many types left
+abbrev pub resultBytes : ℕ → ℕ
+resultBytes types = types * maxBytes
 
 -- bytes of a sheet that the program reads
 abbrev pub programBytes : ℕ

@@ -11,6 +11,7 @@ use Rattle.format.specs.ReaderLaws.{split}
 use Rattle.machine.specs.Steps.{Step, opcodeOf, takes, heightPast}
 use Rattle.machine.specs.Run.{Ruling, gives, refuses, following, Stack, ruleOf, State, afterStep, onStack, step, work, steps}
 use Rattle.machine.specs.Sheet.{placed, stepFrom, workFrom, sheetMore, skimMore}
+use Rattle.machine.specs.WellFormed.{heightAfter}
 use Rattle.machine.specs.SheetSteps.{placed-got, toEnd-end, toEnd-more}
 use Rattle.machine.specs.RunLaws.{following-gives}
 use Rattle.machine.specs.RuleOn.{rule-takes, lays-one, ruleOn-height}
@@ -26,6 +27,12 @@ step-height x st st₁ e = rw (rule-takes x, lays-one (opcodeOf x)) (ruleOn-heig
 pub step-takes : (x : Step) (st st₁ : Stack) → step x st ≡ gives st₁ → takes (opcodeOf x) ≤ length st
 unfolding step
 step-takes x st st₁ e = rw (rule-takes x) (ruleOn-height (ruleOf x) st st₁ e .0)
+
+-- Steps that are worked to their end leave as many types as are counted.
+pub steps-many : (xs : List Step) (st st₁ : Stack) → steps xs st ≡ gives st₁ → length st₁ ≡ heightAfter xs (length st)
+unfolding steps
+steps-many [] st st₁ e = let w : st ≡ st₁ = cc in rw (← w)
+steps-many (x ∷ xs) st st₁ e = following-gives (step x st) e λ st₂ e₁ e₂. rw (step-height x st st₂ e₁) at (steps-many xs st₂ st₁ e₂)
 
 -- ---- the same answer
 

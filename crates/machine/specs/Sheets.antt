@@ -4,6 +4,7 @@ use Prim.Native.Nat.{ℕ}
 use native.Mathlib.Omega.{arith}
 use mathlib.Core.List.{List, [], reverse, reverse-reverse}
 use mathlib.Core.Path.{_≡_, refl, sym, _∙_, ap}
+use lib.ListN.{length, length-reverse}
 use Rattle.model.specs.Types.{Ty}
 use Rattle.model.specs.Within.{All, Within}
 use Rattle.format.specs.Reader.{Bytes, Read, got, stopped}
@@ -13,9 +14,9 @@ use Rattle.machine.specs.SheetLimits.{maxSteps}
 use Rattle.machine.specs.Steps.{Step, SheetOf}
 use Rattle.machine.specs.Run.{Ruling, gives, refuses, aside, Stack, State, fresh, steps, bottomFirst}
 use Rattle.machine.specs.Sheet.{sheetMore, sheetFrom, skimFrom, outcomeOf, sheetRun, skim}
-use Rattle.machine.specs.WellFormed.{Heights}
+use Rattle.machine.specs.WellFormed.{typesLeft, Heights}
 use Rattle.machine.specs.StepsTook.{skim-took}
-use Rattle.machine.specs.SheetWorked.{SameAnswer, accepted-skims}
+use Rattle.machine.specs.SheetWorked.{SameAnswer, steps-many, accepted-skims}
 use Rattle.machine.specs.StepsReads.{written-worked, written-skims}
 use Rattle.machine.specs.StepsWithin.{steps-within}
 
@@ -55,3 +56,7 @@ left-within s xs ts h e = go (steps xs []) refl (sym (sheet-steps s xs h) ∙ ap
     go (gives st) f e =
         let w : reverse st ≡ ts = cc in
         (rw (← w, reverse-reverse st) f, rw (← w) (all-reverse Within st (steps-within xs [] st (h .within) tt f)))
+
+-- There are as many as are counted on the reading.
+pub left-many : (s : List ℕ) (xs : List Step) (ts : List Ty) → SheetOf s xs → sheetRun s ≡ accepted ts → length ts ≡ typesLeft xs
+left-many s xs ts h e = sym (length-reverse ts) ∙ steps-many xs [] (reverse ts) (left-within s xs ts h e .0)

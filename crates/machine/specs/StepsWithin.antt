@@ -1,12 +1,11 @@
 -- The types on the stack keep every limit: what is put does, and no rule leaves them. So the types left can be written, `maxBytes`
 -- suffice for each, and their bytes tell them.
-use Prim.Native.Nat.{_*_, _≤_, max}
+use Prim.Native.Nat.{_≤_, max}
 use native.Mathlib.Omega.{arith}
 use mathlib.Core.Bool.{Bool}
 use mathlib.Core.List.{List, [], _∷_, _++_, append-cancel-left}
 use mathlib.Core.Path.{_≡_, refl}
 use lib.ListN.{length, length-append}
-use Rattle.model.specs.Limits.{maxBytes}
 use Rattle.model.specs.Refusals.{unpervaded}
 use Rattle.model.specs.Types.{Ty, ty, inside, below}
 use Rattle.model.specs.Within.{All, Within}
@@ -23,6 +22,7 @@ use Rattle.rules.specs.TypesLaws.{joinTypes-within}
 use Rattle.validation.specs.CheckShape.{unsided}
 use Rattle.validation.specs.Validate.{validate}
 use Rattle.validation.specs.ValidateLaws.{validate-within}
+use Rattle.machine.specs.SheetLimits.{resultBytes}
 use Rattle.machine.specs.Steps.{Step, put, row, pervading, join, validating, StepWithin}
 use Rattle.machine.specs.Run.{gives, orRefuses, Stack, pervadeTypes, ruleOf, step, steps}
 use Rattle.machine.specs.Call.{writeTypes}
@@ -63,7 +63,7 @@ steps-within (x ∷ xs) st st₁ w h e = following-gives (step x st) e λ st₂ 
 
 -- ---- the types left, written
 
-pub writeTypes-suffices : (ts : List Ty) → All Within ts → length (writeTypes ts) ≤ maxBytes * length ts
+pub writeTypes-suffices : (ts : List Ty) → All Within ts → length (writeTypes ts) ≤ resultBytes (length ts)
 unfolding writeTypes
 writeTypes-suffices [] h = omega arith
 writeTypes-suffices (t ∷ ts) h = omega (arith, length-append (writeTy t) (writeTypes ts), suffices t (h .0), writeTypes-suffices ts (h .1))

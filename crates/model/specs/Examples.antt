@@ -7,7 +7,7 @@ use Rattle.model.specs.Limits.{maxSize, ones, maxSizes, maxName, maxFiel
 use Rattle.model.specs.Refusals.{ended, unmarked, outOfRange, oversized, tooMany, trailing, tooShort, unpervaded, wrongScalar, wrongShape, underflow, overflow, notASize, wrongCount, refusals}
 
 -- bytes end; no mark; out of range; size above 2^53; over the limits; bytes after a lone type; buffer too short; pervading, scalar and
--- shape mismatch; step lacks types; ninth type or 65th step; no size; a count that cannot fit
+-- shape mismatch; step lacks types; seventh type or 65th step; no size; a count that cannot fit
 pub refusals-numbered :
     _≡_ {A = List ℕ}
     (ended ∷ unmarked ∷ outOfRange ∷ oversized ∷ tooMany ∷ trailing ∷ tooShort ∷ unpervaded ∷ wrongScalar ∷ wrongShape ∷ underflow ∷ overflow ∷ notASize ∷ wrongCount ∷ [])

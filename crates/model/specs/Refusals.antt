@@ -44,7 +44,7 @@ wrongScalar = 9
 abbrev pub wrongShape : ℕ
 wrongShape = 10
 
--- a step that lacks types; a ninth type or a 65th step
+-- a step that lacks types; a seventh type or a 65th step
 abbrev pub underflow : ℕ
 underflow = 11
 

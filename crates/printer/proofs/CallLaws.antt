@@ -126,7 +126,7 @@ module _ {s : List ℕ} {n b : ℕ} {out lengths : List ℕ} (t : TypesLeft s n 
   pub left-inside : b ≤ length out
   left-inside = let l = t .left in omega (arith, l .bytes, ap length (l .front), length-take b out)
 
-  pub left-room : (k : ℕ) → textRoom k n (length (take b out)) ≤ textRoom k maxStack resultBytes
+  pub left-room : (k : ℕ) → textRoom k n (length (take b out)) ≤ textRoom k maxStack (resultBytes maxStack)
   left-room k =
       let l = t .left in
       let few : n ≤ maxStack = omega (arith, l .count, l .kept .few) in

@@ -11,7 +11,7 @@ use Rattle.model.specs.Refusals.{tooShort}
 use Rattle.model.specs.Types.{Ty}
 use Rattle.format.specs.Reader.{Bytes}
 use Rattle.format.specs.Outcome.{Outcome, accepted, refused}
-use Rattle.machine.specs.SheetLimits.{scratchBytes, resultBytes, programBytes}
+use Rattle.machine.specs.SheetLimits.{maxStack, scratchBytes, resultBytes, programBytes}
 use Rattle.machine.specs.Sheet.{sheetRun}
 use Rattle.machine.specs.Call.{called, writeTypes, zeroed, sheetCall}
 use Rattle.machine.specs.CallLaws.{Few, run-few}
@@ -45,7 +45,7 @@ module _ (s : List ℕ) where
 
   module _ (small : Bytes s) where
     -- With room in both buffers no refusal is for want of it.
-    roomy-run : (result scratch : ℕ) → resultBytes ≤ result → scratchBytes ≤ scratch → callOutcome s result scratch ≡ sheetRun s
+    roomy-run : (result scratch : ℕ) → resultBytes maxStack ≤ result → scratchBytes ≤ scratch → callOutcome s result scratch ≡ sheetRun s
     unfolding callOutcome
     roomy-run result scratch wide enough = rw (le-ltb scratch scratchBytes enough) (by (sheetRun s) refl)
       where
@@ -78,7 +78,7 @@ module _ (s : List ℕ) where
           left = ap (buffers result) z ∙ ap buffersOf (sym (call-long result scratch h));
         }
 
-    module _ {result₁ : List ℕ} (small : Bytes s) (wide : resultBytes ≤ length result) (enough : scratchBytes ≤ length scratch) where
+    module _ {result₁ : List ℕ} (small : Bytes s) (wide : resultBytes maxStack ≤ length result) (enough : scratchBytes ≤ length scratch) where
       pub done-run : length s ≤ programBytes → Reports lineFeed r d d₁ (callOutcome s (length result) (length scratch))
           → buffers result₁ scratch₁ ≡ buffersOf (sheetCall s result scratch) → Done r result result₁ scratch scratch₁ d d₁
       done-run h l k =

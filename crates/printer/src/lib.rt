@@ -48,7 +48,7 @@ pub fn print_input(
 ) -> Printed
     requires { ⌜ programBytes < length (now buf) ⌝ }
     requires { ⌜ ToTheEnd (read .count) (read .last) (length (now buf)) ⌝ }
-    requires { ⌜ resultBytes ≤ length (now result) ⌝ }
+    requires { ⌜ resultBytes maxStack ≤ length (now result) ⌝ }
     requires { ⌜ scratchBytes ≤ length (now scratch) ⌝ }
     requires { ⌜ printRoom ≤ length (now out) ⌝ }
     ensures { λ r. ⌜ Prints (read .last) (now (buf .entry)) (read .count) r (now (result .entry)) (now (result .exit)) (now (scratch .entry)) (now (scratch .exit)) (now (out .entry)) (now (out .exit)) ⌝ }
@@ -64,7 +64,7 @@ pub fn print_input(
 
 // The text of a sheet, to the front of `out`. Answers how many bytes it has.
 fn print_sheet(sheet: &[u8], result: &mut [u8], scratch: &mut [u8], out: &mut [u8]) -> usize
-    requires { ⌜ resultBytes ≤ length (now result) ⌝ }
+    requires { ⌜ resultBytes maxStack ≤ length (now result) ⌝ }
     requires { ⌜ scratchBytes ≤ length (now scratch) ⌝ }
     requires { ⌜ printRoom ≤ length (now out) ⌝ }
     ensures { λ r. ⌜ Laid r 0 (now (out .entry)) (now (out .exit)) (printed (now (sheet .entry))) × (r ≤ length (now (out .exit))) ⌝ }
@@ -76,7 +76,7 @@ fn print_sheet(sheet: &[u8], result: &mut [u8], scratch: &mut [u8], out: &mut [u
 
 // The same without the last line feed.
 fn put_outcome(sheet: &[u8], result: &mut [u8], scratch: &mut [u8], out: &mut [u8]) -> usize
-    requires { ⌜ resultBytes ≤ length (now result) ⌝ }
+    requires { ⌜ resultBytes maxStack ≤ length (now result) ⌝ }
     requires { ⌜ scratchBytes ≤ length (now scratch) ⌝ }
     requires { ⌜ printRoom ≤ length (now out) ⌝ }
     ensures { λ r. ⌜ Laid r 0 (now (out .entry)) (now (out .exit)) (reported lineFeed (programOutcome (now (sheet .entry)))) ⌝ }
@@ -97,7 +97,7 @@ pub fn put_call(
     between: &[u8],
     out: &mut [u8],
 ) -> usize
-    requires { ⌜ textRoom (length (now between)) maxStack resultBytes ≤ length (now out) ⌝ }
+    requires { ⌜ textRoom (length (now between)) maxStack (resultBytes maxStack) ≤ length (now out) ⌝ }
     ensures { λ r. ⌜ Laid r 0 (now (out .entry)) (now (out .exit)) (reported (now (between .entry)) (callOutcome (now (sheet .entry)) (length (now (result .entry))) (length (now (scratch .entry))))) ⌝ }
     ensures { λ r. ⌜ buffers (now (result .exit)) (now (scratch .exit)) ≡ buffersOf (sheetCall (now (sheet .entry)) (now (result .entry)) (now (scratch .entry))) ⌝ }
 {

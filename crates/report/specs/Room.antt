@@ -24,4 +24,4 @@ textRoom between types bytes = headRoom + linesRoom between types bytes
 
 -- what the program prints, a line feed after it
 abbrev pub printRoom : ℕ
-printRoom = textRoom 1 maxStack resultBytes + 1
+printRoom = textRoom 1 maxStack (resultBytes maxStack) + 1

@@ -16,7 +16,7 @@ use Rattle.machine.specs.SheetLimits.{maxSteps, scratchBytes}
 use Rattle.machine.specs.Run.{Stack, State, fresh}
 use Rattle.machine.specs.Sheet.{workFrom, sheetFrom, sheetRun}
 use Rattle.machine.specs.SheetSteps.{work-taken, sheetFrom-end, sheetFrom-over, sheetFrom-step, sheetFrom-stop}
-use Rattle.machine.specs.Call.{Called, called, tally, writeTypes, zeroed, atFront, handOver, sheetCall}
+use Rattle.machine.specs.Call.{Called, called, tally, writeTypes, firstZero, zeroed, atFront, handOver, sheetCall}
 use Rattle.stack.specs.Stack.{size, Stacked, HasStack}
 use Rattle.stack.specs.StackLaws.{stacked-sizes}
 use Rattle.run.specs.Answers.{InState, Works, Runs, calledOf}
@@ -158,5 +158,5 @@ length-again n front d h e = omega (arith, length-append front (drop n d), lengt
 
 -- what stands behind the bytes asked for is not looked at
 pub zeroed-same : (d e : List ℕ) → drop scratchBytes d ≡ drop scratchBytes e → zeroed d ≡ zeroed e
-unfolding zeroed
+unfolding zeroed firstZero
 zeroed-same d e same = ap (λ x. replicate scratchBytes 0 ++ x) same

@@ -5,15 +5,15 @@ use lent::lay;
 use limits::SCRATCH_BYTES;
 use limits::refusal::TOO_SHORT;
 ghost use mathlib.Core.Path.{_≡_};
-ghost use mathlib.Core.List.{List, _++_, reverse};
+ghost use mathlib.Core.List.{List, reverse};
 ghost use Prim.Native.Nat.{ℕ, _≤_};
-ghost use lib.ListN.{length, drop, replicate};
+ghost use lib.ListN.{length};
 ghost use Rattle.model.specs.Types.{Ty};
 ghost use Rattle.format.specs.Outcome.{accepted, deliver};
 ghost use Rattle.lent.specs.Over.{over};
 ghost use Rattle.lent.specs.Written.{delivered};
 ghost use Rattle.machine.specs.SheetLimits.{scratchBytes};
-ghost use Rattle.machine.specs.Call.{writeTypes, zeroed};
+ghost use Rattle.machine.specs.Call.{writeTypes, firstZero, zeroed};
 ghost use Rattle.stack.specs.Stack.{Stacked, HasStack};
 ghost use Rattle.stack.specs.StackBytes.{stackBytes};
 
@@ -74,7 +74,7 @@ pub fn clear(scratch: &mut [u8])
 
 fn zero_first(buffer: &mut [u8], n: usize)
     requires { ⌜ n ≤ length (now buffer) ⌝ }
-    ensures { λ _. ⌜ now (buffer .exit) ≡ replicate n 0 ++ drop n (now (buffer .entry)) ⌝ }
+    ensures { λ _. ⌜ now (buffer .exit) ≡ firstZero n (now (buffer .entry)) ⌝ }
 {
     let mut i = 0;
     while i < n {

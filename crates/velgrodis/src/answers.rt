@@ -35,7 +35,8 @@ ghost use Rattle.ty.specs.Calls.{boxesOf, foundOf, given};
 ghost use Rattle.val.specs.Answers.{maybeDim, rowDelivered};
 ghost use Rattle.validation.specs.Separate.{neither};
 ghost use Rattle.validate.specs.Answers.{inputOf, separateOf};
-ghost use Rattle.velgrodis.specs.Answers.{no, value, noneAnswer, ordered, counted, tested, sized, sizedOrNone, compared, found, handed, written, listed, rowHanded, rowed, inputNumber, whileReading, validationHanded, validationOf, returned, checked};
+ghost use Rattle.velgrodis.specs.Answers.{no, value, noneAnswer, ordered, counted, tested, sized, sizedOrNone, compared, found, handed, written, listed};
+ghost use Rattle.velgrodis.specs.Answers.{rowHanded, rowed, inputNumber, whileReading, validationHanded, validationOf, returned, checked};
 
 pub fn of_written(w: Written) -> Answer
     ensures { λ r. ⌜ ((buffer : List ℕ) → handed r buffer ≡ written (delivered w buffer)) ⌝ }

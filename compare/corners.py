@@ -10,7 +10,7 @@ import sys
 
 sys.dont_write_bytecode = True
 
-from limits import LARGEST, LENT, LINE, SCRATCH, SHEET, STACK, UNKNOWN
+from limits import LARGEST, LENT, LINE, SCRATCH, SHEET, STACK, STEPS, TYPE, UNKNOWN
 from records import boxed, full, kind, largest, named, nested, of, word
 
 BOOL, NAT, INT, NUM, COMPLEX, ASCII, CHAR, STREAM = KINDS = [kind(code) for code in range(8)]
@@ -400,7 +400,7 @@ def judged():
         yield sheet(put(three), ROW * 63, step)
         yield sheet(put(three), ROW * 62, step)
     # a mark before the stack, the stack before the bytes
-    for height in range(10):
+    for height in range(STACK + 3):
         for step in (b"X", b"XX", b"PW", b"RW", b"JN", b"PV", b"PV\0", b"PV\x03", b"PV\x04", b"PV\xff", b"PU", b"VA", *(b"PU" + a for a in broken[1:4]), *(b"VA" + a for a in broken[1:4])):
             yield sheet(put(three) * height, step)
     # bytes before the rule; places are the sheet's, and bytes after a type are the next step
@@ -434,13 +434,35 @@ def worked():
     for spec in (ty("..", ANY), num("3"), num("2 3"), ty("..", box(three)), ty("..", fields(three, name=b"n"))):
         yield from (sheet(put(a), check(spec), ROW) for a in (*boxes, num("2 3")))
     # as many types as the stack holds; taken off and laid down again
-    yield from (sheet(put(three) * height) for height in range(10))
-    yield sheet(put(three) * 8, JOIN * 7, put(four) * 7)
-    yield sheet(put(three) * 8, PERVADE * 7)
-    yield sheet(put(three) * 8, JOIN * 8)
-    yield sheet((put(unknown, three) + PERVADE + ROW) * 7)
+    yield from (sheet(put(three) * height) for height in range(STACK + 3))
+    yield sheet(put(three) * STACK, JOIN * (STACK - 1), put(four) * (STACK - 1))
+    yield sheet(put(three) * STACK, PERVADE * (STACK - 1))
+    yield sheet(put(three) * STACK, JOIN * STACK)
+    yield from (sheet((put(unknown, three) + PERVADE + ROW) * turns) for turns in (STACK - 1, STACK))
     yield sheet(put(three), (put(three) + PERVADE) * 31, ROW)
     yield sheet(put(three), (put(three) + PERVADE) * 31, ROW, ROW)
+
+
+def stacked():
+    """A full stack of types that differ in kind and length, and a put too many: 12 at its mark, before its bytes are looked at."""
+    pile = (num("3"), ty("?", fields(num("4"), ty("", CHAR), name=b"n")), num("? 3..4"), ty("", box(ty("5", INT))), ty("..", ANY), ty("3", NAT))
+    whole, more, some = put(*pile), num("3 4"), ty("..", ANY)
+    assert len(pile) == STACK
+    broken = (b"P", b"PU", b"PUS", b"PUSX", b"PUSH\x09", put(num(str(LARGEST + 1))), put(nested(8)), put(more)[:-1], put(more) + b"XX")
+    # every step on the full stack but a put; then a put, which has a place if two became one, and one that has none
+    for step in (ROW, JOIN, *(pervade(flag) for flag in range(4)), check(some), check(num("?")), check(num("4"))):
+        yield from (sheet(whole, step, put(more) * puts) for puts in (0, 1, 2))
+    for last in broken:
+        yield from (sheet(put(*pile[:-1]), last), sheet(whole, last))
+        # as the 64th step and the 65th
+        yield from (sheet(whole, ROW * rows, last) for rows in (STEPS - STACK - 1, STEPS - STACK))
+    # down by joins and by pervadings, and up again: to five types, six and seven
+    for count in range(1, STACK):
+        for down in (JOIN, pervade(0), pervade(3)):
+            yield from (sheet(put(some), put(*pile[1:]), down * count, put(more) * (count + over)) for over in (-1, 0, 1))
+            # the same over and over, with a row and a validation on top
+            turn = down * count + put(some) * count + ROW + check(some)
+            yield from (sheet(put(some) * STACK, turn * 4, last) for last in (b"", put(more), put(more)[:-1]))
 
 
 # sizes that are filled or not, and what they meet at the same index: ?, nothing in an open shape, nothing in a closed one, a static
@@ -475,26 +497,42 @@ def poured():
         # one table over and over
         for first in (twelve, unknown, some):
             yield from (sheet(put(first), (put(other) + pervade(flag)) * 31, put(first)) for other in (unknown, twelve, some, num("")))
-        # all but the last by turns: 63 steps, 64 and 65; the stack full and then down to one type, time and again
+        # all but the last by turns: 63 steps, 64 and 65
         turns = b"".join(put(tables[turn % 8]) + pervade(flag) for turn in range(31))
         yield from (sheet(put(first), turns, last) for first in tables for last in (b"", put(twelve), put(twelve) * 2))
-        pile = put(twelve, unknown, some, twelve, num(""), unknown, twelve)
+        # the stack full and then down to one type, time and again: 64 steps and 65
+        pile = (twelve, unknown, some, num(""), unknown)
+        turns = (put(*pile) + pervade(flag) * len(pile)) * 6
         for last in (b"", pervade(flag)):
-            yield from (sheet(put(first), (pile + pervade(flag) * 7) * 4, pile, last) for first in (twelve, unknown))
+            yield from (sheet(put(first), turns, put(*pile[:3]), last) for first in (twelve, unknown))
     # the flags by turns
     turns = b"".join(put(tables[turn % 8]) + pervade(1 + turn % 3) for turn in range(31))
     yield from (sheet(put(first), turns, put(first)) for first in tables)
 
 
+# of a scratch: exactly what is asked for, longer, short
+SCRATCHES = (0, 1, SCRATCH - 1, SCRATCH, SCRATCH + 1, 39936, LENT)
+
+
+def neighbours(length):
+    return {length - 1, length, length + 1} - {-1}
+
+
 def buffers():
-    """A short scratch first of all, a short result last of all."""
+    """A short scratch first of all, a short result last of all; 4,992 bytes for each type left always suffice."""
     three, good = num("3"), put(num("3"), ty("", CHAR))
-    for steps, left in ((b"", 0), (good, 22), (good + ROW, 22), (good + PERVADE, 15), (put(three) * 8, 120), (b"XX", 0), (put(three) * 9, 0), (put(three) + ROW * 64, 0)):
-        for scratch in (0, 1, SCRATCH - 1, SCRATCH, SCRATCH + 1, LENT):
-            yield from (sheet_call(scratch, result, steps) for result in (0, left - 1, left, left + 1, LENT) if result >= 0)
+    accepted = ((b"", 0, 0), (good, 2, 22), (good + ROW, 2, 22), (good + PERVADE, 1, 15), (put(three) * STACK, STACK, 15 * STACK))
+    refused = ((steps, 0, 0) for steps in (b"XX", put(three) * (STACK + 1), put(three) + ROW * STEPS))
+    for steps, count, left in (*accepted, *refused):
+        for scratch in SCRATCHES:
+            yield from (sheet_call(scratch, result, steps) for result in sorted({0, *neighbours(left), *neighbours(count * TYPE), LENT}))
     whole = put(largest()) * STACK
-    for result in (SCRATCH, SCRATCH - 1):
+    for result in (SCRATCH - 1, SCRATCH, SCRATCH + 1):
         yield sheet_call(SCRATCH, result, whole)
+    # every step on a stack full of the largest types
+    for step in (ROW, JOIN, PERVADE, check(ty("..", ANY)), check(largest()), put(three), JOIN * (STACK - 1), PERVADE * (STACK - 1)):
+        yield sheet(whole, step)
+    yield sheet(whole, JOIN, put(largest()), put(three))
     # the program's own limit
     yield sheet(bytes(SHEET + 1))
 
@@ -564,7 +602,7 @@ def lines():
 
 PARTS = (
     cases, dims, shapes, scalars, orders, rows, boxes, looked_up, joins, values, kinds, shape_checks, scalar_checks,
-    grown, counted, reading, judged, worked, met, poured, buffers, sheet_lines, table, refused, lines,
+    grown, counted, reading, judged, worked, stacked, met, poured, buffers, sheet_lines, table, refused, lines,
 )  # fmt: skip
 
 

@@ -9,7 +9,7 @@ import sys
 
 sys.dont_write_bytecode = True
 
-from limits import LARGEST, LENT, LINE, SCRATCH, SHEET, SIZES, UNKNOWN
+from limits import LARGEST, LENT, LINE, SCRATCH, SHEET, SIZES, STACK, UNKNOWN
 
 
 # ---- records, by hand: counts, codes and names may be out of range
@@ -75,14 +75,14 @@ def large():
 
 
 def full_sheet():
-    """A sheet of just SHEET bytes, which leaves eight types.
+    """A sheet of just SHEET bytes, which leaves as many types as the stack holds.
 
-    Nine of the largest types are put and two of them joined to others, so that the stack is full twice; the last put
-    makes up the length.
+    Nine of the largest types are put. Once the stack is full, a join makes room for each further put, so that it is full again and again; the
+    last put makes up the length.
     """
-    put, join = b"PU", b"JN"
-    last = of(named(b"abc", [full(NUM)] * 31))
-    sheet = (put + largest()) * 8 + join + put + largest() + join + put + last
+    put, join = b"PU" + largest(), b"JN"
+    last = b"PU" + full(named(b"sextet", [full(NUM)] * 30))
+    sheet = put * STACK + (join + put) * (9 - STACK) + join + last
     assert len(sheet) == SHEET
     return sheet
 

@@ -343,9 +343,12 @@ impl Both {
         let needed = accepted.bytes.len();
         let more = 1 + r.below(300);
         let under = r.below(SCRATCH);
+        let over = r.pick(&[SCRATCH + more, generate::LONGER, limits::LENT as usize]);
+        // A type of any size has room in 4,992 bytes.
+        let room = accepted.answer.first as usize * limits::TYPE;
         let buffers = [
             (SCRATCH, needed),
-            (SCRATCH + more, needed + more),
+            (over, r.pick(&[needed + more, room])),
             (SCRATCH, needed.saturating_sub(1)),
             (SCRATCH + 1, 0),
             (SCRATCH - 1, needed),

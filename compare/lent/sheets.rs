@@ -2,6 +2,7 @@
 
 use crate::generate::{any_step, put, sheet_bytes};
 use crate::invent::{self, Random};
+use crate::limits::PLACES;
 use crate::sheet;
 use crate::uiua::{Scalar, Type};
 
@@ -27,9 +28,9 @@ fn unjudged(r: &mut Random) -> Vec<u8> {
     (0..steps).flat_map(|_| one(r)).collect()
 }
 
-/// Seven to ten types, now and then the largest, then some rows.
+/// From one type fewer than the stack holds to two more, now and then the largest, then some rows.
 fn lone_puts(r: &mut Random) -> Vec<u8> {
-    let puts = 7 + r.below(4);
+    let puts = PLACES - 1 + r.below(4);
     let largest = r.one_in(10);
     let one = |r: &mut Random| if largest { invent::largest() } else { invent::ty(r) };
     let mut bytes: Vec<u8> = (0..puts).flat_map(|_| put(&one(r))).collect();

@@ -5,9 +5,9 @@
 use std::io::Result;
 
 use crate::bytes::{KINDS, scalar_bytes, shape_bytes, type_bytes};
-use crate::generate::{Lines, SIDES, hex_word, put, validate};
+use crate::generate::{Lines, SCRATCHES, SIDES, hex_word, put, validate};
 use crate::invent::{self, BYTES, EDGE_SIZES, NUMBERS};
-use crate::limits::{BUFFER, INPUT, LENT, LINE, PLACES};
+use crate::limits::{INPUT, LENT, LINE, PLACES, STEPS, TYPE};
 use crate::requests::{Call, REQUESTS, hex, size};
 use crate::sheet;
 use crate::uiua::{Dim, DynShape, Scalar, ScalarBox, Type};
@@ -23,6 +23,7 @@ pub fn edges(out: &mut Lines) -> Result<()> {
     values(out)?;
     sizes(out)?;
     sheets(out)?;
+    stacks(out)?;
     buffers(out)?;
     alone(out)?;
     for length in [LINE - 1, LINE, LINE + 1] {
@@ -151,7 +152,7 @@ fn sizes(out: &mut Lines) -> Result<()> {
 
 /// A sheet with every kind of step.
 fn sample_sheet() -> Vec<u8> {
-    let two = [put(&num(3)), put(&num(Dim::Dyn)), [&sheet::PERVADE[..], &[0]].concat()].concat();
+    let two = [put(&num(3)), put(&num(Dim::Dyn)), pervade(0)].concat();
     let checked = [validate(&num(DynShape::ANY)), sheet::ROW.into()].concat();
     [two, checked, put(&num(2)), sheet::JOIN.into()].concat()
 }
@@ -159,13 +160,7 @@ fn sample_sheet() -> Vec<u8> {
 /// Cut and changed sheets, flags in range and out of it, then steps, places and bytes at their limits.
 fn sheets(out: &mut Lines) -> Result<()> {
     let mut sheet = |bytes: &[u8]| out.line("sheet", format!(" {}", hex_word(bytes)));
-    let all = sample_sheet();
-    for at in 0..=all.len() {
-        sheet(&all[..at])?;
-        for byte in BYTES {
-            sheet(&[&all[..at], &[byte], all.get(at + 1..).unwrap_or(&[])].concat())?;
-        }
-    }
+    harmed(&sample_sheet()).iter().try_for_each(|bytes| sheet(bytes))?;
     let (below, top) = (num([2, 3]), num(open(vec![Dim::Dyn], vec![])));
     for flag in BYTES {
         sheet(&pervading(flag, &top, &below))?;
@@ -176,21 +171,119 @@ fn sheets(out: &mut Lines) -> Result<()> {
         sheet(&steps)?;
         sheet(&[&steps[..], b"R"].concat())?;
     }
-    for height in [0, 1, 2, 7, 8, 9] {
+    for height in [0, 1, 2, PLACES - 1, PLACES, PLACES + 1, PLACES + 2] {
         for step in [&b""[..], b"PU", b"RW", b"PV", b"PV\0", b"PV\x04", b"JN", b"VA", b"XX", b"P"] {
-            sheet(&[&put(&num(3)).repeat(height), step].concat())?;
+            sheet(&[&small(height), step].concat())?;
         }
     }
     [INPUT, INPUT + 1].iter().try_for_each(|&length| sheet(&vec![0; length]))
 }
 
+/// Bytes cut at each place, and with each of them changed or one more behind them.
+fn harmed(bytes: &[u8]) -> Vec<Vec<u8>> {
+    let mut all = Vec::new();
+    for at in 0..=bytes.len() {
+        all.push(bytes[..at].to_vec());
+        let rest = bytes.get(at + 1..).unwrap_or(&[]);
+        all.extend(BYTES.map(|byte| [&bytes[..at], &[byte], rest].concat()));
+    }
+    all
+}
+
+fn pervade(flag: u8) -> Vec<u8> {
+    [&sheet::PERVADE[..], &[flag]].concat()
+}
+
+/// Each step but a put: none lays down more than it takes, so a full stack takes them all.
+fn within() -> [Vec<u8>; 5] {
+    let any = validate(&Type::default());
+    [sheet::ROW.into(), sheet::JOIN.into(), pervade(0), pervade(3), any]
+}
+
+fn sheet_line(out: &mut Lines, steps: &[&[u8]]) -> Result<()> {
+    out.line("sheet", format!(" {}", hex_word(&steps.concat())))
+}
+
+/// So many small types.
+fn small(puts: usize) -> Vec<u8> {
+    put(&num(3)).repeat(puts)
+}
+
+/// Full stacks, and a put of one type more: 12 at its mark, whatever its bytes are and whatever
+/// follows.
+fn stacks(out: &mut Lines) -> Result<()> {
+    let full = small(PLACES);
+    // The last put that has a place, and the first that has none: only the one's type is looked at.
+    for last in harmed(&put(&invent::all(num(3)))) {
+        sheet_line(out, &[&small(PLACES - 1), &last])?;
+        sheet_line(out, &[&full, &last])?;
+    }
+    // As the 63rd step, the 64th and the 65th.
+    for rows in [STEPS - PLACES - 2, STEPS - PLACES - 1, STEPS - PLACES] {
+        for last in [&small(1)[..], b"PU", b"PUSX", b"P", b"XX"] {
+            sheet_line(out, &[&full, &sheet::ROW.repeat(rows), last])?;
+        }
+    }
+    for step in within() {
+        for puts in [0, 1, 2] {
+            sheet_line(out, &[&full, &step, &small(puts)])?;
+            sheet_line(out, &[&full, &step, &small(puts), b"XX"])?;
+        }
+    }
+    let [_, join, unfilled, ..] = within();
+    for count in 1..PLACES {
+        again(out, &join, count)?;
+        again(out, &unfilled, count)?;
+    }
+    largest_types(out)
+}
+
+/// From a full stack down by so many types and up again, over and over: as high as before, then one
+/// higher.
+fn again(out: &mut Lines, down: &[u8], count: usize) -> Result<()> {
+    let turn = [down.repeat(count), small(count)].concat();
+    for turns in [1, 2, 5] {
+        for last in [&b""[..], b"RW", b"PU"] {
+            sheet_line(out, &[&small(PLACES), &turn.repeat(turns), last])?;
+            sheet_line(out, &[&small(PLACES), &turn.repeat(turns), &small(1), last])?;
+        }
+    }
+    Ok(())
+}
+
+/// A stack full of types of the greatest size, each step on it, and one more put.
+fn largest_types(out: &mut Lines) -> Result<()> {
+    let one = put(&invent::largest());
+    let [_, join, unfilled, ..] = within();
+    let down = [join, unfilled].map(|step| step.repeat(PLACES - 1));
+    let refused = [validate(&invent::largest()), one.clone()];
+    for step in within().into_iter().chain(down).chain(refused) {
+        sheet_line(out, &[&one.repeat(PLACES), &step])?;
+        sheet_line(out, &[&one.repeat(PLACES), &step, &one])?;
+    }
+    Ok(())
+}
+
+/// Lengths of a result: none, what the types left have, 4,992 bytes for each of them, the neighbours
+/// of both, and the longest.
+fn results(left: &[Type]) -> Vec<usize> {
+    let enough = [sheet::length(left), left.len() * TYPE];
+    let around = |length: usize| [length.saturating_sub(1), length, length + 1];
+    let mut lengths = vec![0, LENT as usize];
+    lengths.extend(enough.into_iter().flat_map(around));
+    lengths.sort();
+    lengths.dedup();
+    lengths
+}
+
 /// Lent buffers of every interesting length.
 fn buffers(out: &mut Lines) -> Result<()> {
-    let full = put(&invent::largest()).repeat(PLACES);
-    let lengths = [0, BUFFER - 1, BUFFER, BUFFER + 1, LENT as usize];
-    for (scratch, result) in lengths.iter().flat_map(|a| lengths.map(|b| (a, b))) {
-        for bytes in [&full[..], &sample_sheet(), b"", b"XX"] {
-            out.line("sheet_call", format!(" {scratch} {result} {}", hex_word(bytes)))?;
+    let full = [put(&invent::largest()).repeat(PLACES), small(PLACES)];
+    let others = [small(PLACES + 1), sample_sheet(), Vec::new(), b"XX".into()];
+    for bytes in full.into_iter().chain(others) {
+        let results = results(&sheet::run(&bytes).unwrap_or_default());
+        for (result, scratch) in results.iter().flat_map(|a| SCRATCHES.map(|b| (a, b))) {
+            out.line("sheet_call", format!(" {scratch} {result} {}", hex_word(&bytes)))?;
         }
     }
     for ty in samples().into_iter().chain([invent::largest()]) {
@@ -269,7 +362,7 @@ fn shape_pair(out: &mut Lines, a: &Type, b: &Type) -> Result<()> {
 
 /// The sheet that pervades these two, the first on top.
 fn pervading(flag: u8, a: &Type, b: &Type) -> Vec<u8> {
-    [put(b), put(a), [&sheet::PERVADE[..], &[flag]].concat()].concat()
+    [put(b), put(a), pervade(flag)].concat()
 }
 
 /// All lists of at most two of the sizes 0, 1, 2 and ?.

@@ -4,12 +4,16 @@ use std::io::{BufWriter, Result, StdoutLock, Write, stdout};
 
 use crate::bytes::type_bytes;
 use crate::invent::{self, Random};
-use crate::limits::{LENT, LINE, PLACES};
+use crate::limits::{BUFFER, LENT, LINE, PLACES, TYPE};
 use crate::requests::{Call, REQUESTS, hex, size};
 use crate::uiua::{Scalar, Type};
 use crate::{edges, sheet, specs};
 
 pub const SIDES: [&str; 3] = ["none", "left", "right"];
+/// A scratch far longer than is asked for.
+pub const LONGER: usize = 39_936;
+/// Lengths of a scratch: exactly what is asked for, longer, one short, none.
+pub const SCRATCHES: [usize; 6] = [BUFFER, BUFFER + 1, LONGER, LENT as usize, BUFFER - 1, 0];
 
 pub fn generate(seed: u64, count: u64, mode: &str, words: &[String]) -> Result<()> {
     let mut out = Lines { out: BufWriter::new(stdout().lock()), left: count, words };
@@ -144,21 +148,27 @@ fn numbers(r: &mut Random) -> String {
 
 fn sheet_call(r: &mut Random) -> String {
     let bytes = sheet_bytes(r);
-    let left = sheet::run(&bytes).map_or(0, |left| sheet::length(&left));
-    let scratch = r.pick(&[39_936, 39_936, 39_936, 39_936, 39_937, 65_536, 39_935, 0]);
-    format!(" {scratch} {} {}", around(r, left), hex_word(&bytes))
+    let left = sheet::run(&bytes).unwrap_or_default();
+    let scratch = if r.one_in(2) { BUFFER } else { r.pick(&SCRATCHES) };
+    // Either what the types left have, or what is enough for so many of any size.
+    let needed = if r.one_in(3) { left.len() * TYPE } else { sheet::length(&left) };
+    format!(" {scratch} {} {}", around(r, needed), hex_word(&bytes))
 }
 
-/// A sheet of any steps, or of puts and pervadings alone; sometimes damaged.
+/// A sheet of any steps, of puts and pervadings alone, or one that fills the stack; sometimes damaged.
 pub fn sheet_bytes(r: &mut Random) -> Vec<u8> {
-    let bytes = if r.one_in(30) { pervaded(r) } else { mixed(r) };
+    let bytes = match r.below(30) {
+        0 => pervaded(r),
+        1..3 => heaped(r),
+        _ => mixed(r),
+    };
     if r.one_in(12) { invent::damaged(r, bytes) } else { bytes }
 }
 
 /// Steps, most of which suit what the steps before have left on the stack.
 fn mixed(r: &mut Random) -> Vec<u8> {
     let steps = if r.one_in(60) { r.pick(&[63, 64, 65]) } else { r.below(14) };
-    let puts = r.pick(&[0, 0, 0, 0, 0, 7]);
+    let puts = r.pick(&[0, 0, 0, 0, 0, PLACES - 1]);
     let mut bytes: Vec<u8> = (0..puts).flat_map(|_| put(&invent::ty(r))).collect();
     for _ in 0..steps {
         match sheet::run(&bytes) {
@@ -179,6 +189,24 @@ fn pervaded(r: &mut Random) -> Vec<u8> {
         let lays = height == 1 || height < PLACES && r.one_in(2);
         height = if lays { height + 1 } else { height - 1 };
         bytes.extend(if lays { put(&invent::met(r, &first)) } else { pervade(r) });
+    }
+    bytes
+}
+
+/// Up to a full stack, down and up again, a few times. Now and then comes a put too many, whole or
+/// broken: the stack is judged before the put's bytes.
+fn heaped(r: &mut Random) -> Vec<u8> {
+    let first = if r.one_in(30) { invent::largest() } else { invent::ty(r) };
+    let (mut bytes, mut height) = (Vec::new(), 0);
+    for _ in 0..1 + r.below(4) {
+        bytes.extend((height..PLACES).flat_map(|_| put(&invent::met(r, &first))));
+        if r.one_in(6) {
+            let over = put(&invent::met(r, &first));
+            bytes.extend(if r.one_in(2) { invent::damaged(r, over) } else { over });
+        }
+        let down = if r.one_in(3) { 0 } else { r.below(PLACES) };
+        bytes.extend((0..down).flat_map(|_| on_two(r)));
+        height = PLACES - down;
     }
     bytes
 }

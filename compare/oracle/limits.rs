@@ -1,4 +1,4 @@
-//! The limits of a type and of a sheet (document 01), and of the program `calls`, each once.
+//! The limits of a type and of a sheet (documents 01 and 02), and of the program `calls`, each once.
 
 pub const SIZES: usize = 8;
 pub const TYPES: usize = 32;
@@ -9,13 +9,14 @@ pub const LARGEST: usize = 1 << 53;
 pub const UNKNOWN: u64 = u64::MAX;
 
 /// Bytes of a type at most.
-const TYPE: usize = 4_992;
+pub const TYPE: usize = 4_992;
 
 pub const STEPS: usize = 64;
-pub const PLACES: usize = 8;
+/// Types on the stack at once.
+pub const PLACES: usize = 6;
 /// Bytes of a sheet that the program reads.
 pub const INPUT: usize = 49_152;
-/// Bytes of scratch, and of a result that suffice.
+/// Bytes of scratch, a type's for each place. A result of as many suffices, whatever is left.
 pub const BUFFER: usize = PLACES * TYPE;
 
 /// Bytes of a line, and of a buffer that a request asks for.

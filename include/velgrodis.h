@@ -33,13 +33,13 @@ extern "C" {
 #define VG_MAX_FIELDS 31                            /* fields of a Def; and copies that vg_as_boxes lists */
 #define VG_MAX_TYPES 32                             /* types in one type, itself counted */
 #define VG_MAX_DEPTH 8                              /* depth of a type; the outermost is at depth 1 */
-#define VG_MAX_STACK 8                              /* types on a sheet's stack */
+#define VG_MAX_STACK 6                              /* types on a sheet's stack */
 #define VG_MAX_STEPS 64                             /* steps of a sheet */
 #define VG_KIND_COUNT 10                            /* kinds of a scalar; their codes are 0 to 9 */
 #define VG_PROGRAM_SHEET_BYTES 49152                /* bytes of a sheet that the program `sheet` reads; a call has no such limit */
 
 /* Bytes that always suffice: for a type, a shape's record or a scalar's; for the list of vg_as_boxes, a name's length and a count
- * before the types; for the types that a sheet leaves. The sheet check asks for a scratch of VG_SCRATCH_BYTES at least. */
+ * before the types; for the types that a sheet leaves. The sheet check asks for a scratch of VG_SCRATCH_BYTES at least, 29,952. */
 #define VG_TYPE_BYTES 4992
 #define VG_BOXES_BYTES (2 + VG_MAX_FIELDS * VG_TYPE_BYTES)
 #define VG_SHEET_RESULT_BYTES (VG_MAX_STACK * VG_TYPE_BYTES)
@@ -86,7 +86,7 @@ enum vg_refusal {
     VG_WRONG_SCALAR = 9,  /* A spec's scalar that is no superset of the type's. */
     VG_WRONG_SHAPE = 10,  /* A type's shape that does not pass the spec's: a size differs (vg_validate says when it is 14 instead). */
     VG_UNDERFLOW = 11,    /* A step that lacks types on the stack. Place: its mark. */
-    VG_OVERFLOW = 12,     /* A ninth type on the stack, or a 65th step. Place: the step's mark. */
+    VG_OVERFLOW = 12,     /* A seventh type on the stack, or a 65th step. Place: the step's mark. */
     VG_NOT_A_SIZE = 13,   /* NaN, a negative number or a fraction where a size is wanted. Place: its index; 0 for a lone number. */
     VG_WRONG_COUNT = 14   /* A type's shape that does not pass the spec's: so many sizes cannot fit (vg_validate says when exactly). */
 };
@@ -106,10 +106,11 @@ enum vg_refusal {
  * Value: `first` types are left, `second` bytes in all were written; the result's bytes after them stay as lent.
  * Refused: 7 at 0, if the scratch is under VG_SCRATCH_BYTES. Then the first that is met, step by step, and in a step in this order:
  *   12 at the step, if it is the 65th, whatever its bytes are; 1 or 2 at the step, for its mark;
- *   11 at the step, if the stack lacks the types it takes; 12 at the step, if it puts a ninth;
+ *   11 at the step, if the stack lacks the types it takes; 12 at the step, if it puts a seventh;
  *   1 to 5 for the type that follows its mark, places in the sheet; 1 or 3 at the step, for a flag byte;
  *   8, 9, 10, 14 or 5 at the step, for its rule.
- *   At last 7 at the sheet's length, if the result is too short for the types left.
+ *   At last 7 at the sheet's length, exactly if the types left do not fit into the result. VG_TYPE_BYTES for each of them are always
+ *   enough and, since at most VG_MAX_STACK are left, VG_SHEET_RESULT_BYTES for every sheet.
  * A refusal leaves the whole result as lent. Whatever is answered, bytes 0 to VG_SCRATCH_BYTES - 1 of the scratch are then 0 and
  * later ones as lent; a scratch that is too short stays as lent. What the scratch held before makes no difference. */
 vg_answer vg_check_sheet(const uint8_t *sheet, size_t sheet_len, uint8_t *result, size_t result_len, uint8_t *scratch, size_t scratch_len);

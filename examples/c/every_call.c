@@ -74,15 +74,17 @@ static int is(vg_answer a, uint64_t kind, uint64_t number, uint64_t place, uint6
     return a.kind == kind && a.number == number && a.place == place && a.first == first && a.second == second;
 }
 
-static int as_lent(size_t from)
+static int all_are(uint8_t byte, const uint8_t *data, size_t length)
 {
-    for (size_t i = from; i < sizeof result; i++) {
-        if (result[i] != lent) {
+    for (size_t i = 0; i < length; i++) {
+        if (data[i] != byte) {
             return 0;
         }
     }
     return 1;
 }
+
+static int as_lent(size_t from) { return all_are(lent, result + from, sizeof result - from); }
 
 static int value(vg_answer a, uint64_t first) { return is(a, VG_VALUE, 0, 0, first, 0); }
 
@@ -567,17 +569,12 @@ static void validation(void)
 
 /* ---- the sheet ------------------------------------------------------------------------------------------------------------- */
 
-static uint8_t scratch[VG_SCRATCH_BYTES + 1];
+static uint8_t scratch[2 * VG_SCRATCH_BYTES];
 
-static int cleared(void)
-{
-    for (size_t i = 0; i < VG_SCRATCH_BYTES; i++) {
-        if (scratch[i] != 0) {
-            return 0;
-        }
-    }
-    return scratch[VG_SCRATCH_BYTES] == lent;
-}
+/* Whether the first bytes of the scratch are zero, so many, and all behind them as lent. */
+static int zeroed(size_t length) { return all_are(0, scratch, length) && all_are(lent, scratch + length, sizeof scratch - length); }
+
+static int cleared(void) { return zeroed(VG_SCRATCH_BYTES); }
 
 /* A scratch that holds anything is cleared, whatever is answered. */
 static vg_answer check_bytes(bytes sheet, size_t room_for_types)
@@ -629,9 +626,306 @@ static void sheets(void)
     expect("a mismatch", refused(check(PUT ONE("03") NUM PUT ONE("04") NUM PERVADE "00", room), VG_UNPERVADED, 34) && cleared());
     expect("a row first", refused(check("5257", room), VG_UNDERFLOW, 0) && cleared());
     expect("an empty sheet", is(check("", 0), VG_VALUE, 0, 0, 0, 0) && as_lent(0) && cleared());
+}
+
+/* ---- the sheet: six types at once, and what is lent ------------------------------------------------------------------------ */
+
+/* A sheet as it is made, and the types that it leaves, bottom first. There is room for two puts more than the stack has places. */
+typedef struct stretch {
+    uint8_t data[(VG_MAX_STACK + 2) * (2 + VG_TYPE_BYTES)];
+    size_t length;
+} stretch;
+
+static stretch made, types_left;
+static uint8_t long_result[VG_SHEET_RESULT_BYTES + 1];
+
+static void append(stretch *s, bytes more)
+{
+    memcpy(s->data + s->length, more.data, more.length);
+    s->length += more.length;
+}
+
+static void begin(void) { made.length = types_left.length = 0; }
+
+/* What a sheet is answered, lent enough: how many types it leaves, or its refusal. */
+typedef struct outcome {
+    uint64_t types;
+    uint64_t number;
+    uint64_t place;
+} outcome;
+
+static outcome leaves(uint64_t types) { return (outcome){types, 0, 0}; }
+
+static outcome refuses(uint64_t number, uint64_t place) { return (outcome){0, number, place}; }
+
+/* The scratch is judged first of all, the result last. */
+static outcome with_lent(outcome o, size_t result_length, size_t scratch_length)
+{
+    if (scratch_length < VG_SCRATCH_BYTES) {
+        return refuses(VG_TOO_SHORT, 0);
+    }
+    return o.number == 0 && result_length < types_left.length ? refuses(VG_TOO_SHORT, made.length) : o;
+}
+
+static int wrote_left(vg_answer a, outcome o)
+{
+    size_t length = o.number == 0 ? types_left.length : 0;
+    return is(a, o.number == 0 ? VG_VALUE : VG_REFUSED, o.number, o.place, o.types, length) && memcmp(long_result, types_left.data, length) == 0 &&
+           all_are(lent, long_result + length, sizeof long_result - length);
+}
+
+static void lend(const char *what, outcome o, size_t result_length, size_t scratch_length)
+{
+    char text[256];
+    vg_answer answer;
+    memset(long_result, lent, sizeof long_result);
     memset(scratch, lent, sizeof scratch);
+    answer = vg_check_sheet(made.data, made.length, long_result, result_length, scratch, scratch_length);
+    snprintf(text, sizeof text, "%s, a result of %zu, a scratch of %zu", what, result_length, scratch_length);
+    expect(text, wrote_left(answer, with_lent(o, result_length, scratch_length)) && zeroed(scratch_length < VG_SCRATCH_BYTES ? 0 : VG_SCRATCH_BYTES));
+}
+
+/* Checks what was made with every length at which the answer may turn. VG_TYPE_BYTES for each type left are among them. */
+static void lend_each(const char *what, outcome o)
+{
+    const size_t enough = o.types * VG_TYPE_BYTES, exact = types_left.length;
+    const size_t results[] = {0, exact - 1, exact, enough - 1, enough, sizeof long_result};
+    const size_t scratches[] = {0, 1, VG_SCRATCH_BYTES - 1, VG_SCRATCH_BYTES, VG_SCRATCH_BYTES + 1, sizeof scratch};
+    size_t untried = 0;
+    for (size_t i = 0; i < sizeof results / sizeof results[0]; i++) {
+        /* None is tried twice; and more than there is cannot be lent, nor one fewer than none. */
+        if (results[i] >= untried && results[i] <= sizeof long_result) {
+            untried = results[i] + 1;
+            for (size_t j = 0; j < sizeof scratches / sizeof scratches[0]; j++) {
+                lend(what, o, results[i], scratches[j]);
+            }
+        }
+    }
+}
+
+/* ---- the sheet: puts ------------------------------------------------------------------------------------------------------- */
+
+/* One of the 32 types in a largest one: sixteen sizes n, eight of them closing ones, and a Def with a name of sixteen letters. */
+static bytes largest_part(uint8_t n, uint8_t fields)
+{
+    bytes b = hex("53480808");
+    for (size_t i = 0; i < 2 * VG_MAX_SIZES; i++) {
+        b = followed(b, hex("0000000000000000"));
+        b.data[b.length - 8] = n;
+    }
+    b = followed(b, hex("534308425802 10 6e6e6e6e6e6e6e6e6e6e6e6e6e6e6e6e 00"));
+    b.data[b.length - 1] = fields;
+    return b;
+}
+
+static void append_largest(stretch *s, uint8_t n)
+{
+    append(s, largest_part(n, VG_MAX_FIELDS));
+    for (size_t i = 0; i < VG_MAX_FIELDS; i++) {
+        append(s, largest_part(n, 0));
+    }
+}
+
+/* Each puts a type that n tells from the others. */
+static void put_largest(uint8_t n)
+{
+    append(&made, hex(PUT));
+    append_largest(&made, n);
+    append_largest(&types_left, n);
+}
+
+static void put_small(uint8_t n)
+{
+    bytes ty = hex(ONE("00") NUM);
+    ty.data[4] = n;
+    append(&made, followed(hex(PUT), ty));
+    append(&types_left, ty);
+}
+
+static void put_either(uint8_t n) { (n % 2 == 0 ? put_largest : put_small)(n); }
+
+typedef struct putting {
+    const char *name;
+    void (*put)(uint8_t n);
+} putting;
+
+static const putting puttings[] = {{"small types", put_small}, {"largest types", put_largest}, {"types of either size", put_either}};
+static const size_t puttings_made = sizeof puttings / sizeof puttings[0];
+
+static void make_puts(const putting *p, uint8_t count)
+{
+    begin();
+    for (uint8_t n = 1; n <= count; n++) {
+        p->put(n);
+    }
+}
+
+/* None to six are left as they were put; a seventh is refused at its mark. */
+static void puts_alone(const putting *p)
+{
+    char what[64];
+    size_t place;
+    for (uint8_t count = 0; count <= VG_MAX_STACK; count++) {
+        make_puts(p, count);
+        snprintf(what, sizeof what, "%d puts of %s", count, p->name);
+        lend_each(what, leaves(count));
+    }
+    place = made.length;
+    p->put(VG_MAX_STACK + 1);
+    snprintf(what, sizeof what, "a seventh put of %s", p->name);
+    lend_each(what, refuses(VG_OVERFLOW, place));
+}
+
+/* A seventh put of these bytes, behind six good ones. */
+static void seventh(const char *how, size_t at, bytes put, uint64_t number)
+{
+    char what[64];
+    size_t place;
+    make_puts(&puttings[0], VG_MAX_STACK);
+    place = made.length;
+    append(&made, put);
+    snprintf(what, sizeof what, "a seventh put, %s byte %zu", how, at);
+    lend_each(what, refuses(number, place));
+}
+
+/* Cut off after each byte, and each byte damaged. The mark is judged before the stack, and the stack before what follows the mark. */
+static void seventh_of_any_bytes(void)
+{
+    const bytes put = hex(PUT SCALAR NUM);
+    for (size_t i = 0; i < put.length; i++) {
+        bytes cut = put, damaged = put;
+        cut.length = i + 1;
+        damaged.data[i] = 0xee;
+        seventh("cut off after", i, cut, i < 1 ? VG_ENDED : VG_OVERFLOW);
+        seventh("damaged at", i, damaged, i < 2 ? VG_UNMARKED : VG_OVERFLOW);
+    }
+}
+
+/* ---- the sheet: up, down and up again -------------------------------------------------------------------------------------- */
+
+/* Some steps more, and what is left then. */
+static void and_then(const char *what, const char *steps_made, uint64_t types, const char *left)
+{
+    append(&made, hex(steps_made));
+    types_left.length = 0;
+    append(&types_left, hex(left));
+    lend_each(what, leaves(types));
+}
+
+static void and_refused(const char *what, const char *step_made, uint64_t number)
+{
+    size_t place = made.length;
+    append(&made, hex(step_made));
+    lend_each(what, refuses(number, place));
+}
+
+#define JOIN "4a4e"
+#define ROW "5257"
+#define FOUR ONE("02") NUM ONE("03") NUM ONE("04") NUM SCALAR NUM
+#define PUT_FOUR PUT ONE("02") NUM PUT ONE("03") NUM PUT ONE("04") NUM PUT SCALAR NUM
+
+static void up_and_down(void)
+{
+    begin();
+    and_then("up to six", PUT_FOUR PUT UNKNOWN_ONE NUM PUT TWO("05", "0c") NUM, 6, FOUR UNKNOWN_ONE NUM TWO("05", "0c") NUM);
+    and_then("a row on a full stack", ROW, 6, FOUR UNKNOWN_ONE NUM ONE("0c") NUM);
+    and_then("a spec on a full stack", VALIDATION ONE("0c") NUM, 6, FOUR UNKNOWN_ONE NUM ONE("0c") NUM);
+    and_then("down to five", PERVADE "00", 5, FOUR ONE("0c") NUM);
+    and_then("up to six from five", PUT ONE("07") NUM, 6, FOUR ONE("0c") NUM ONE("07") NUM);
+    and_then("down to four", JOIN PERVADE "00", 4, ONE("02") NUM ONE("03") NUM ONE("04") NUM UNKNOWN_ONE NUM);
+    and_then("up to six from four", PUT SCALAR CHAR PUT SCALAR INT, 6, ONE("02") NUM ONE("03") NUM ONE("04") NUM UNKNOWN_ONE NUM SCALAR CHAR SCALAR INT);
+    and_refused("a seventh after up and down", PUT SCALAR NUM, VG_OVERFLOW);
+}
+
+/* Six largest types, of which the upper two are joined: equal sizes stay, but the first closing one is unknown. A sixth fits again. */
+static void largest_joined(void)
+{
+    size_t joined;
+    make_puts(&puttings[1], VG_MAX_STACK - 1);
+    put_largest(VG_MAX_STACK - 1);
+    append(&made, hex(JOIN));
+    types_left.length -= VG_TYPE_BYTES;
+    joined = types_left.length - VG_TYPE_BYTES;
+    /* Behind mark, counts and opening sizes. */
+    memset(types_left.data + joined + 4 + 8 * VG_MAX_SIZES, 0xff, 8);
+    lend_each("largest types joined", leaves(VG_MAX_STACK - 1));
+    put_largest(VG_MAX_STACK);
+    lend_each("largest types joined, and one more", leaves(VG_MAX_STACK));
+    and_refused("largest types joined, and two more", PUT SCALAR NUM, VG_OVERFLOW);
+}
+
+/* Six puts, and rows up to so many steps in all. The row of a small type is [], and so is the row of that. */
+static void make_steps(size_t count)
+{
+    make_puts(&puttings[0], VG_MAX_STACK);
+    for (size_t i = VG_MAX_STACK; i < count; i++) {
+        append(&made, hex(ROW));
+    }
+    types_left.length -= hex(ONE("00") NUM).length;
+    append(&types_left, hex(SCALAR NUM));
+}
+
+static void steps_on_a_full_stack(void)
+{
+    static const char *const more[] = {ROW, PUT SCALAR NUM, "52", "5858"};
+    char what[64];
+    make_steps(VG_MAX_STEPS - 1);
+    and_refused("a seventh put as the 64th step", PUT SCALAR NUM, VG_OVERFLOW);
+    make_steps(VG_MAX_STEPS);
+    lend_each("64 steps", leaves(VG_MAX_STACK));
+    for (size_t i = 0; i < sizeof more / sizeof more[0]; i++) {
+        make_steps(VG_MAX_STEPS);
+        snprintf(what, sizeof what, "a 65th step, %s", more[i]);
+        and_refused(what, more[i], VG_OVERFLOW);
+    }
+}
+
+/* ---- the sheet: every other way to be refused ------------------------------------------------------------------------------ */
+
+typedef struct refused_sheet {
+    const char *sheet;
+    uint64_t number;
+    uint64_t place;
+} refused_sheet;
+
+static const refused_sheet refused_sheets[] = {
+    {"50", VG_ENDED, 0},
+    {PUT, VG_ENDED, 2},
+    {PUT SCALAR NUM PUT SCALAR NUM PERVADE, VG_ENDED, 18},
+    {"5858", VG_UNMARKED, 0},
+    {PUT "534809", VG_OUT_OF_RANGE, 2},
+    {PUT SCALAR NUM PUT SCALAR NUM PERVADE "04", VG_OUT_OF_RANGE, 18},
+    {PUT "534801ff 0100000000002000" NUM, VG_OVERSIZED, 2},
+    {PUT TWO_BOXES TWO_BOXES TWO_BOXES TWO_BOXES, VG_TOO_MANY, 82},
+    {PUT ONE("20") ANY VALIDATION OPEN NAMED, VG_TOO_MANY, 17},
+    {PUT ONE("03") NUM PUT ONE("04") NUM PERVADE "00", VG_UNPERVADED, 34},
+    {PUT SCALAR CHAR VALIDATION SCALAR NUM, VG_WRONG_SCALAR, 9},
+    {PUT ONE("03") NUM VALIDATION ONE("02") NUM, VG_WRONG_SHAPE, 17},
+    {ROW, VG_UNDERFLOW, 0},
+    {PUT SCALAR NUM JOIN, VG_UNDERFLOW, 9},
+    {PUT ONE("03") NUM VALIDATION SCALAR NUM, VG_WRONG_COUNT, 17},
+};
+static const size_t refused_sheets_made = sizeof refused_sheets / sizeof refused_sheets[0];
+
+static void lent_to_sheets(void)
+{
+    expect("six types at once", VG_MAX_STACK == 6 && VG_SCRATCH_BYTES == 29952 && VG_SHEET_RESULT_BYTES == 29952 && VG_TYPE_BYTES == 4992);
+    begin();
+    append_largest(&types_left, 1);
     fresh();
-    expect("a short scratch", refused(vg_check_sheet(left.data, 0, result, room, scratch, VG_SCRATCH_BYTES - 1), VG_TOO_SHORT, 0) && scratch[0] == lent);
+    expect("a largest type", types_left.length == VG_TYPE_BYTES && value(vg_read(types_left.data, types_left.length), 0));
+    for (size_t i = 0; i < puttings_made; i++) {
+        puts_alone(&puttings[i]);
+    }
+    seventh_of_any_bytes();
+    up_and_down();
+    largest_joined();
+    steps_on_a_full_stack();
+    for (const refused_sheet *r = refused_sheets; r < refused_sheets + refused_sheets_made; r++) {
+        begin();
+        append(&made, hex(r->sheet));
+        lend_each(r->sheet, refuses(r->number, r->place));
+    }
 }
 
 int main(void)
@@ -646,6 +940,7 @@ int main(void)
     validation();
     steps();
     sheets();
+    lent_to_sheets();
     printf("%u calls, %u wrong\n", calls, wrong);
     return wrong == 0 ? 0 : 1;
 }

@@ -3,7 +3,7 @@
 //! `Answer` and, behind it, a `u64` that says which input was being read.
 
 /// Types on a sheet's stack, and bytes that suffice for any of them.
-const MAX_STACK: usize = 8;
+const MAX_STACK: usize = 6;
 const TYPE_BYTES: usize = 4992;
 
 /// Bytes that the sheet check asks for as a scratch.

@@ -31,7 +31,7 @@ use Rattle.machine.specs.Steps.{Step, put, row, pervading, join, validat
 use Rattle.machine.specs.Run.{pervadeTypes, step}
 use Rattle.machine.specs.Sheet.{opcodeFrom, argumentFrom, stepFrom, workFrom, sheetMore, skimMore, sheetFrom, skimFrom, sheetRun, skim}
 use Rattle.machine.specs.Call.{tally, called, writeTypes, zeroed, handOver, sheetCall}
-use Rattle.machine.specs.WellFormed.{WellFormed}
+use Rattle.machine.specs.WellFormed.{WellFormed, typesLeft}
 use Rattle.machine.specs.Real.{RealShape, fits, realPervade, theTop, theOneBelow, Feeds, realStep, realRun}
 use Rattle.machine.specs.Conditions.{Alike, PutOrPervade}
 
@@ -228,16 +228,20 @@ twoLeft = putNum ∷ putNum ∷ []
 abbrev oneLeft : List Step
 oneLeft = put (nums (3 ∷ [])) ∷ put (nums (4 ∷ [])) ∷ pervading false false ∷ []
 
--- "The scratch asked for and 4,992 result bytes for each type left", and not one fewer: of a sheet that leaves two and of one that leaves one.
-pub well-formed-lent : (result scratch : List ℕ)
-    → (((29952 ≤ length scratch) × (9984 ≤ length result)) ↔ WellFormed (writeSteps twoLeft) result scratch twoLeft)
-    × (((29952 ≤ length scratch) × (4992 ≤ length result)) ↔ WellFormed (writeSteps oneLeft) result scratch oneLeft)
-unfolding byte judged number bytesOf code kindOf writeShape writeScalar writeTy readMark readDim readDims shapeFrom scalarFrom readTy writeSteps
-    opcodeFrom argumentFrom stepFrom skimMore skimFrom skim
-well-formed-lent result scratch = (
-  (λ l. record { read = refl; scratch-holds = omega (arith, l .0); result-holds = omega (arith, l .1) }, λ w. (omega (arith, w .scratch-holds), omega (arith, w .result-holds))),
-  (λ l. record { read = refl; scratch-holds = omega (arith, l .0); result-holds = omega (arith, l .1) }, λ w. (omega (arith, w .scratch-holds), omega (arith, w .result-holds))),
-)
+module _ (result scratch : List ℕ) where
+  -- Lent so much scratch and so much of a result, and no less, steps that are read back make a well-formed sheet.
+  lent-exactly : (xs : List Step) (n : ℕ) → skim (writeSteps xs) ≡ accepted xs → resultBytes (typesLeft xs) ≡ n
+      → ((29952 ≤ length scratch) × (n ≤ length result)) ↔ WellFormed (writeSteps xs) result scratch xs
+  lent-exactly xs n read e =
+      (λ l. record { read = read; scratch-holds = omega (arith, l .0); result-holds = omega (arith, l .1) }, λ w. (omega (arith, w .scratch-holds), omega (arith, w .result-holds)))
+
+  -- "The scratch asked for and 4,992 result bytes for each type left", and not one fewer: of a sheet that leaves two and of one that leaves one.
+  pub well-formed-lent :
+      (((29952 ≤ length scratch) × (9984 ≤ length result)) ↔ WellFormed (writeSteps twoLeft) result scratch twoLeft)
+      × (((29952 ≤ length scratch) × (4992 ≤ length result)) ↔ WellFormed (writeSteps oneLeft) result scratch oneLeft)
+  unfolding byte judged number bytesOf code kindOf writeShape writeScalar writeTy readMark readDim readDims shapeFrom scalarFrom readTy writeSteps
+      opcodeFrom argumentFrom stepFrom skimMore skimFrom skim
+  well-formed-lent = (lent-exactly twoLeft 9984 refl refl, lent-exactly oneLeft 4992 refl refl)
 
 -- ---- real shapes
 

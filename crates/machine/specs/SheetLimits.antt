@@ -15,7 +15,7 @@ maxStack = 6
 abbrev pub scratchBytes : ℕ
 scratchBytes = maxStack * maxBytes
 
--- bytes of a result that is never too short for so many types left
+-- bytes of a result that is never too short for so many types: "4,992 result bytes for each type left"
 abbrev pub resultBytes : ℕ → ℕ
 resultBytes types = types * maxBytes
 

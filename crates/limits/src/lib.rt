@@ -34,8 +34,13 @@ pub const MAX_STEPS: usize = 64;
 
 pub const MAX_STACK: usize = 6;
 
-// Bytes of scratch: room of MAX_BYTES for each type on the stack.
-pub const SCRATCH_BYTES: usize = MAX_STACK * MAX_BYTES;
+// Bytes of a size as it lies in the scratch, and bytes that suffice for any type there.
+pub const PACKED_SIZE: usize = 7;
+
+pub const MAX_PACKED: usize = 4288;
+
+// Bytes of scratch: room of MAX_PACKED for each type on the stack.
+pub const SCRATCH_BYTES: usize = MAX_STACK * MAX_PACKED;
 
 // Bytes of a result that is never too short: MAX_BYTES for each type that can be left.
 pub const RESULT_BYTES: usize = MAX_STACK * MAX_BYTES;

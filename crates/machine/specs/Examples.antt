@@ -56,8 +56,8 @@ Shown (theUnread s k p) = skim s ≡ refused k p
 
 -- ---- limits, marks and flags as they stand in the paper, once
 
--- 64 steps, a stack of six, 29,952 bytes for the scratch, 4,992 of a result for each type left, and 49,152 for the program
-pub sheet-limited : _≡_ {A = List ℕ} (maxSteps ∷ maxStack ∷ scratchBytes ∷ resultBytes 1 ∷ programBytes ∷ []) (64 ∷ 6 ∷ 29952 ∷ 4992 ∷ 49152 ∷ [])
+-- 64 steps, a stack of six, 25,728 bytes for the scratch, 4,992 of a result for each type left, and 49,152 for the program
+pub sheet-limited : _≡_ {A = List ℕ} (maxSteps ∷ maxStack ∷ scratchBytes ∷ resultBytes 1 ∷ programBytes ∷ []) (64 ∷ 6 ∷ 25728 ∷ 4992 ∷ 49152 ∷ [])
 sheet-limited = refl
 
 -- what each takes and what it lays down
@@ -231,14 +231,14 @@ oneLeft = put (nums (3 ∷ [])) ∷ put (nums (4 ∷ [])) ∷ pervading false fa
 module _ (result scratch : List ℕ) where
   -- Lent so much scratch and so much of a result, and no less, steps that are read back make a well-formed sheet.
   lent-exactly : (xs : List Step) (n : ℕ) → skim (writeSteps xs) ≡ accepted xs → resultBytes (typesLeft xs) ≡ n
-      → ((29952 ≤ length scratch) × (n ≤ length result)) ↔ WellFormed (writeSteps xs) result scratch xs
+      → ((25728 ≤ length scratch) × (n ≤ length result)) ↔ WellFormed (writeSteps xs) result scratch xs
   lent-exactly xs n read e =
       (λ l. record { read = read; scratch-holds = omega (arith, l .0); result-holds = omega (arith, l .1) }, λ w. (omega (arith, w .scratch-holds), omega (arith, w .result-holds)))
 
   -- "The scratch asked for and 4,992 result bytes for each type left", and not one fewer: of a sheet that leaves two and of one that leaves one.
   pub well-formed-lent :
-      (((29952 ≤ length scratch) × (9984 ≤ length result)) ↔ WellFormed (writeSteps twoLeft) result scratch twoLeft)
-      × (((29952 ≤ length scratch) × (4992 ≤ length result)) ↔ WellFormed (writeSteps oneLeft) result scratch oneLeft)
+      (((25728 ≤ length scratch) × (9984 ≤ length result)) ↔ WellFormed (writeSteps twoLeft) result scratch twoLeft)
+      × (((25728 ≤ length scratch) × (4992 ≤ length result)) ↔ WellFormed (writeSteps oneLeft) result scratch oneLeft)
   unfolding byte judged number bytesOf code kindOf writeShape writeScalar writeTy readMark readDim readDims shapeFrom scalarFrom readTy writeSteps
       opcodeFrom argumentFrom stepFrom skimMore skimFrom skim
   well-formed-lent = (lent-exactly twoLeft 9984 refl refl, lent-exactly oneLeft 4992 refl refl)

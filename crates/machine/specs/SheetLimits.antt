@@ -1,4 +1,4 @@
--- The limits of a sheet (document 01, "The sheet, added"; the stack's by document 02, 2026-04), each named once and derived from its parts
+-- The limits of a sheet (document 01, "The sheet, added"; document 02, 2026-04 and 2026-05), each named once and derived from its parts
 -- where it has some. Definitions and theorems cite the names and never the numbers, which Examples sets beside the names.
 use Prim.Native.Nat.{ℕ, _*_}
 use Rattle.model.specs.Limits.{maxBytes}
@@ -11,9 +11,13 @@ maxSteps = 64
 abbrev pub maxStack : ℕ
 maxStack = 6
 
--- bytes of scratch that a call asks for and zeroes: a place for each type on the stack
+-- bytes of scratch that suffice for any type there; its parts are `packing`'s (PackedLaws)
+abbrev pub maxPacked : ℕ
+maxPacked = 4288
+
+-- bytes of scratch that a call asks for and zeroes: "a scratch of 25,728 a sheet", for each type on the stack as many
 abbrev pub scratchBytes : ℕ
-scratchBytes = maxStack * maxBytes
+scratchBytes = maxStack * maxPacked
 
 -- bytes of a result that is never too short for so many types: "4,992 result bytes for each type left"
 abbrev pub resultBytes : ℕ → ℕ

@@ -3,6 +3,7 @@ use Prim.Native.Nat.{ℕ, _+_, _≤_, _<_}
 use native.Mathlib.Omega.{arith}
 use mathlib.Core.Bool.{Bool, true, false, cond}
 use mathlib.Core.List.{List, [], _++_, map, reverse}
+use mathlib.Core.Logic.{_⊎_, ⊎-elim}
 use mathlib.Core.Path.{_≡_, refl, sym, _∙_, ap}
 use lib.ListN.{length, take, drop, replicate, length-append, length-drop}
 use lib.Seq.{length-take-le}
@@ -17,9 +18,9 @@ use Rattle.machine.specs.Run.{Stack, State, fresh}
 use Rattle.machine.specs.Sheet.{workFrom, sheetFrom, sheetRun}
 use Rattle.machine.specs.SheetSteps.{work-taken, sheetFrom-end, sheetFrom-over, sheetFrom-step, sheetFrom-stop}
 use Rattle.machine.specs.Call.{Called, called, tally, writeTypes, firstZero, zeroed, atFront, handOver, sheetCall}
-use Rattle.stack.specs.Stack.{size, Stacked, HasStack}
+use Rattle.stack.specs.Stack.{Memory, fullTrays, size, Stacked, HasStack}
 use Rattle.stack.specs.StackLaws.{stacked-sizes}
-use Rattle.run.specs.Answers.{InState, Works, Runs, calledOf}
+use Rattle.run.specs.Answers.{InState, Works, ReadOn, Runs, calledOf}
 use Rattle.run.specs.declared.Worked.{Worked}
 use Rattle.run.specs.declared.Ran.{Ran}
 use Rattle.run.specs.declared.Reached.the-variants.{At, Refused}
@@ -28,60 +29,74 @@ use Rattle.run.specs.declared.SheetAnswer.the-variants.{Accepted, Refuse
 
 -- ---- all steps
 
--- The scratch has a state from which the rest of the sheet is read, as far as all of it was to be read.
-pub record Going (s : List ℕ) (whole : Read (State Stack)) (lengths : List ℕ) (count : ℕ) (d : List ℕ) (taken at : ℕ) : Type 0 where
+-- The stack is that of a state from which the rest of the sheet is read, as far as all of it was to be read.
+pub record Going (whole : Read (State Stack)) (m : Memory) (count taken at : ℕ) : Type 0 where
   pub state : State Stack
-  pub here : InState lengths count d taken state
-  pub same : whole ≡ sheetFrom s state at
+  pub here : InState m count taken state
+  pub same : whole ≡ sheetFrom (m .sheet) state at
 
-module _ (s : List ℕ) (whole : Read (State Stack)) {lengths : List ℕ} {count : ℕ} {d : List ℕ} {taken at : ℕ} (g : Going s whole lengths count d taken at) where
-  pub going-over : maxSteps ≤ taken → at < length s → whole ≡ stopped overflow at
-  going-over l h = g .same ∙ sheetFrom-over s (g .state) at (omega (arith, g .here .steps)) h
+module _ (whole : Read (State Stack)) {m : Memory} {count taken at : ℕ} (g : Going whole m count taken at) where
+  pub going-over : maxSteps ≤ taken → at < length (m .sheet) → whole ≡ stopped overflow at
+  going-over l h = g .same ∙ sheetFrom-over (m .sheet) (g .state) at (omega (arith, g .here .steps)) h
 
-  pub going-end : length s ≤ at → Runs (At at) count taken lengths d whole
-  going-end h = (g .state, g .same ∙ sheetFrom-end s (g .state) at h, g .here)
+  pub going-rest : (length (m .sheet) ≤ at) ⊎ (length (m .trays) < fullTrays) → ReadOn m count taken at whole
+  going-rest rest = record { state = g .state; here = g .here; same = g .same; rest = rest }
 
   -- one step more
-  module _ (few : taken < maxSteps) (more : at < length s) (r : Worked) (lengths₁ d₁ : List ℕ) (works : Works (r .answer) lengths₁ (r .count) d₁ (workFrom s (g .state) at at)) where
-    pub going-step : {n : ℕ} → r .answer ≡ At n → Going s whole lengths₁ (r .count) d₁ (taken + 1) n
+  module _ (few : taken < maxSteps) (more : at < length (m .sheet)) (r : Worked) (m₁ : Memory) (kept : m₁ .sheet ≡ m .sheet) (works : Works (r .answer) m₁ (r .count) (workFrom (m .sheet) (g .state) at at)) where
+    pub going-step : {n : ℕ} → r .answer ≡ At n → Going whole m₁ (r .count) (taken + 1) n
     going-step {n} is = go (rw is at works)
       where
-        go : Works (At n) lengths₁ (r .count) d₁ (workFrom s (g .state) at at) → Going s whole lengths₁ (r .count) d₁ (taken + 1) n
+        go : Works (At n) m₁ (r .count) (workFrom (m .sheet) (g .state) at at) → Going whole m₁ (r .count) (taken + 1) n
         go (st, e, stacked) = record {
           state = st;
-          here = record { stacked = stacked; steps = omega (arith, work-taken s (g .state) st at at n e, g .here .steps) };
-          same = g .same ∙ sheetFrom-step s (g .state) at st n (omega (arith, g .here .steps)) more e;
+          here = record { stacked = stacked; steps = omega (arith, work-taken (m .sheet) (g .state) st at at n e, g .here .steps) };
+          same = rw kept (g .same ∙ sheetFrom-step (m .sheet) (g .state) at st n (omega (arith, g .here .steps)) more e);
         }
 
     pub going-stop : {k p : ℕ} → r .answer ≡ Refused k p → whole ≡ stopped k p
-    going-stop {k} {p} is = g .same ∙ sheetFrom-stop s (g .state) at k p (omega (arith, g .here .steps)) more (rw is at works)
+    going-stop {k} {p} is = g .same ∙ sheetFrom-stop (m .sheet) (g .state) at k p (omega (arith, g .here .steps)) more (rw is at works)
 
--- The same from whatever state the scratch had the stack of.
-abbrev pub GoingFrom : List ℕ → List ℕ → ℕ → List ℕ → ℕ → List ℕ → ℕ → List ℕ → ℕ → ℕ → Type 0
-GoingFrom s lengths₀ count₀ d₀ taken₀ lengths count d taken at =
-    (st : State Stack) → InState lengths₀ count₀ d₀ taken₀ st → Going s (sheetFrom s st 0) lengths count d taken at
+-- The same from whatever state the stack was of.
+abbrev pub GoingFrom : Memory → ℕ → ℕ → ℕ → Memory → ℕ → ℕ → ℕ → Type 0
+GoingFrom m₀ count₀ taken₀ start m count taken at =
+    (st : State Stack) → InState m₀ count₀ taken₀ st → Going (sheetFrom (m₀ .sheet) st start) m count taken at
 
-pub going-has : (s lengths₀ : List ℕ) (count₀ : ℕ) (d₀ : List ℕ) (taken₀ : ℕ) {lengths : List ℕ} {count : ℕ} {d : List ℕ} {taken at : ℕ}
-    → HasStack lengths₀ count₀ d₀ → GoingFrom s lengths₀ count₀ d₀ taken₀ lengths count d taken at → HasStack lengths count d
-going-has s lengths₀ count₀ d₀ taken₀ has from =
+pub going-has : (m₀ : Memory) (count₀ taken₀ start : ℕ) {m : Memory} {count taken at : ℕ} → HasStack m₀ count₀ → GoingFrom m₀ count₀ taken₀ start m count taken at → HasStack m count
+going-has m₀ count₀ taken₀ start has from =
     let g = from (record { stack = has .types; taken = taken₀ }) (record { stacked = has .stacked; steps = refl }) in
     record { types = g .state .stack; stacked = g .here .stacked }
 
 -- ---- what they come to
 
-module _ (s : List ℕ) (r : Ran) (lengths d : List ℕ) (runs : Runs (r .answer) (r .count) (r .taken) lengths d (sheetFrom s (fresh []) 0)) where
-  pub run-left : {C : Type 0} {n : ℕ} → r .answer ≡ At n → ((ts : Stack) → Stacked lengths (r .count) d ts → sheetRun s ≡ accepted (reverse ts) → C) → C
-  unfolding sheetRun
-  run-left {C} {n} is f = go (rw is at runs)
-    where
-      go : Runs (At n) (r .count) (r .taken) lengths d (sheetFrom s (fresh []) 0) → C
-      go (st, e, here) = f (st .stack) (here .stacked) (rw e)
+-- the types left where no steps are
+pub run-left : (s : List ℕ) (st : State Stack) (at : ℕ) → length s ≤ at → sheetFrom s (fresh []) 0 ≡ sheetFrom s st at → sheetRun s ≡ accepted (reverse (st .stack))
+unfolding sheetRun
+run-left s st at h e = rw (e ∙ sheetFrom-end s st at h)
 
-  pub run-refused : {k p : ℕ} → r .answer ≡ Refused k p → (size : ℕ) (result x : List ℕ) → called (refused k p) result x ≡ handOver size (sheetRun s) result x
-  unfolding sheetRun handOver
-  run-refused {k} {p} is size result x =
-      let e : sheetFrom s (fresh []) 0 ≡ stopped k p = rw is at runs in
-      rw e
+module _ (r : Ran) (m : Memory) (whole : Read (State Stack)) (runs : Runs (r .answer) m (r .count) (r .taken) whole) where
+  pub run-stopped : {n : ℕ} → r .answer ≡ At n → ReadOn m (r .count) (r .taken) n whole
+  run-stopped is = rw is at runs
+
+  pub stopped-has : {n : ℕ} → r .answer ≡ At n → HasStack m (r .count)
+  stopped-has is = let stop = run-stopped is in record { types = stop .state .stack; stacked = stop .here .stacked }
+
+  -- of a whole sheet
+  module _ (all : sheetFrom (m .sheet) (fresh []) 0 ≡ whole) where
+    pub run-finished : {C : Type 0} {n : ℕ} → r .answer ≡ At n → fullTrays ≤ length (m .trays)
+        → ((ts : Stack) → Stacked m (r .count) ts → sheetRun (m .sheet) ≡ accepted (reverse ts) → C) → C
+    run-finished {C} {n} is room f =
+        let stop = run-stopped is in
+        ⊎-elim
+        (λ end. f (stop .state .stack) (stop .here .stacked) (run-left (m .sheet) (stop .state) n end (all ∙ stop .same)))
+        (λ short. absurd (omega arith))
+        (stop .rest)
+
+    pub run-refused : {k p : ℕ} → r .answer ≡ Refused k p → (result : List ℕ) → called (refused k p) result [] ≡ handOver (length (m .sheet)) (sheetRun (m .sheet)) result []
+    unfolding sheetRun handOver
+    run-refused {k} {p} is result =
+        let e : whole ≡ stopped k p = rw is at runs in
+        rw (all ∙ e)
 
 -- ---- the types left
 
@@ -117,9 +132,8 @@ module _ (size : ℕ) (us : List Ty) (result out x : List ℕ) where
           rw (a, b)
 
 -- how long each of them is
-pub handed-sizes : (lengths : List ℕ) (count : ℕ) (d : List ℕ) {ts : Stack} → Stacked lengths count d ts
-    → (us : List Ty) → accepted (reverse ts) ≡ accepted us → take count lengths ≡ map size us
-handed-sizes lengths count d {ts} h us e = let x : reverse ts ≡ us = cc in rw (← x) (stacked-sizes lengths count d h)
+pub handed-sizes : (m : Memory) (count : ℕ) {ts : Stack} → Stacked m count ts → (us : List Ty) → accepted (reverse ts) ≡ accepted us → take count (m .lengths) ≡ map size us
+handed-sizes m count {ts} h us e = let x : reverse ts ≡ us = cc in rw (← x) (stacked-sizes m count h)
 
 -- ---- both buffers
 

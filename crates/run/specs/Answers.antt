@@ -1,6 +1,7 @@
 -- What the answers of this crate say, in the terms of the definitions: for each case of each, the paper's number and values.
 use Prim.Native.Nat.{ℕ, _-_, _≤_, _<_}
-use mathlib.Core.List.{List, _∷_, map}
+use mathlib.Core.List.{List, [], _∷_, map}
+use mathlib.Core.Logic.{_⊎_}
 use mathlib.Core.Path.{_≡_}
 use lib.ListN.{length, take, drop}
 use Rattle.model.specs.Limits.{maxBytes}
@@ -15,9 +16,9 @@ use Rattle.machine.specs.SheetLimits.{maxStack}
 use Rattle.machine.specs.Steps.{Step}
 use Rattle.machine.specs.Run as rules
 use Rattle.machine.specs.Run.{gives, refuses, following, aside, Stack, State, afterStep, onto, work}
-use Rattle.machine.specs.Sheet.{placed}
-use Rattle.machine.specs.Call.{Called, called, tally}
-use Rattle.stack.specs.Stack.{size, Stacked, HasStack}
+use Rattle.machine.specs.Sheet.{placed, sheetFrom, sheetRun}
+use Rattle.machine.specs.Call.{Called, called, tally, handOver}
+use Rattle.stack.specs.Stack.{Memory, fullTrays, size, Stacked, HasStack, Unpacked, FitTrays}
 use Rattle.run.specs.declared.Reached.{Reached}
 use Rattle.run.specs.declared.Reached.the-variants.{At, Refused}
 use Rattle.run.specs.declared.Worked.{Worked}
@@ -36,31 +37,53 @@ abbrev pub Measures : SheetAnswer → List ℕ → Outcome (List Ty) → Type 0
 Measures (Accepted types bytes) lengths o = (ts : List Ty) → o ≡ accepted ts → take types lengths ≡ map size ts
 Measures (Refuses k p) lengths o = Unit {0}
 
+-- Both, of a call that hands over what the sheet leaves, beside a scratch that is left open.
+pub record Answers (r : SheetAnswer) (out lengths s result : List ℕ) : Type 0 where
+  pub called : calledOf r out [] ≡ handOver (length s) (sheetRun s) result []
+  pub measured : Measures r lengths (sheetRun s)
+
 -- ---- one step, and all
 
--- The scratch has the stack of a state in which so many steps were taken.
-pub record InState (lengths : List ℕ) (count : ℕ) (d : List ℕ) (taken : ℕ) (st : State Stack) : Type 0 where
-  pub stacked : Stacked lengths count d (st .stack)
+-- The stack is that of a state in which so many steps were taken.
+pub record InState (m : Memory) (count taken : ℕ) (st : State Stack) : Type 0 where
+  pub stacked : Stacked m count (st .stack)
   pub steps : st .taken ≡ taken
 
--- One step: the place reached, where the scratch has the stack of the state that was read, or the refusal.
-abbrev pub Works : Reached → List ℕ → ℕ → List ℕ → Read (State Stack) → Type 0
-Works (At n) lengths count d o = (st : State Stack) × (o ≡ got st n) × Stacked lengths count d (st .stack)
-Works (Refused k p) lengths count d o = o ≡ stopped k p
+-- One step: the place reached, where the stack is that of the state that was read, or the refusal.
+abbrev pub Works : Reached → Memory → ℕ → Read (State Stack) → Type 0
+Works (At n) m count o = (st : State Stack) × (o ≡ got st n) × Stacked m count (st .stack)
+Works (Refused k p) m count o = o ≡ stopped k p
 
--- All steps: the same, and how many were taken.
-abbrev pub Runs : Reached → ℕ → ℕ → List ℕ → List ℕ → Read (State Stack) → Type 0
-Runs (At n) count taken lengths d o = (st : State Stack) × (o ≡ got st n) × InState lengths count d taken st
-Runs (Refused k p) count taken lengths d o = o ≡ stopped k p
+-- All steps: a state from which the rest of the sheet is read, and how many were taken; the rest is none, unless the
+-- trays have not room for every type.
+pub record ReadOn (m : Memory) (count taken at : ℕ) (o : Read (State Stack)) : Type 0 where
+  pub state : State Stack
+  pub here : InState m count taken state
+  pub same : o ≡ sheetFrom (m .sheet) state at
+  pub rest : (length (m .sheet) ≤ at) ⊎ (length (m .trays) < fullTrays)
 
--- So many types on the stack at least, and a buffer with room for any type.
-abbrev pub Ready : ℕ → List ℕ → ℕ → List ℕ → List ℕ → Type 0
-Ready few lengths count d out = (few ≤ count) × (maxBytes ≤ length out) × HasStack lengths count d
+abbrev pub Runs : Reached → Memory → ℕ → ℕ → Read (State Stack) → Type 0
+Runs (At n) m count taken o = ReadOn m count taken n o
+Runs (Refused k p) m count taken o = o ≡ stopped k p
 
--- A step's rule, worked from any state whose stack the scratch has: its mark stands at `at`, its bytes end at `next`.
-abbrev pub StepWorks : Step → ℕ → ℕ → List ℕ → ℕ → List ℕ → Worked → List ℕ → List ℕ → Type 0
-StepWorks x at next lengths count d r lengths₁ d₁ =
-    (st : State Stack) → Stacked lengths count d (st .stack) → Works (r .answer) lengths₁ (r .count) d₁ (placed (work x st) at next)
+-- So many types on the stack at least, a buffer with room for any type, and trays for those on top.
+pub record Ready (few : ℕ) (m : Memory) (count : ℕ) (out : List ℕ) : Type 0 where
+  pub enough : few ≤ count
+  pub room : maxBytes ≤ length out
+  pub has : HasStack m count
+  pub fit : FitTrays m count
+
+-- The same, where none of so many on top lies packed.
+pub record Workable (few : ℕ) (m : Memory) (count : ℕ) (out : List ℕ) : Type 0 where
+  pub enough : few ≤ count
+  pub room : maxBytes ≤ length out
+  pub has : HasStack m count
+  pub unpacked : Unpacked few (m .ends) count
+
+-- A step's rule, worked from any state whose stack it is: its mark stands at `at`, its bytes end at `next`.
+abbrev pub StepWorks : Step → ℕ → ℕ → Memory → ℕ → Worked → Memory → Type 0
+StepWorks x at next m count r m₁ =
+    (st : State Stack) → Stacked m count (st .stack) → Works (r .answer) m₁ (r .count) (placed (work x st) at next)
 
 -- ---- a rule
 
@@ -70,11 +93,11 @@ atStart (gives a) = accepted a
 atStart (refuses k) = refused k 0
 
 -- What a rule makes of the top, or of the top and the one below, stands at the front of a buffer.
-abbrev pub OfTop : (Ty → Outcome Ty) → List ℕ → ℕ → List ℕ → Written → List ℕ → Type 0
-OfTop f lengths count d w out = (t : Ty) (ts : Stack) → Stacked lengths count d (t ∷ ts) → Puts w out (mapped writeTy (f t))
+abbrev pub OfTop : (Ty → Outcome Ty) → Memory → ℕ → Written → List ℕ → Type 0
+OfTop f m count w out = (t : Ty) (ts : Stack) → Stacked m count (t ∷ ts) → Puts w out (mapped writeTy (f t))
 
-abbrev pub OfTwo : (Ty → Ty → Outcome Ty) → List ℕ → ℕ → List ℕ → Written → List ℕ → Type 0
-OfTwo f lengths count d w out = (t u : Ty) (ts : Stack) → Stacked lengths count d (t ∷ u ∷ ts) → Puts w out (mapped writeTy (f t u))
+abbrev pub OfTwo : (Ty → Ty → Outcome Ty) → Memory → ℕ → Written → List ℕ → Type 0
+OfTwo f m count w out = (t u : Ty) (ts : Stack) → Stacked m count (t ∷ u ∷ ts) → Puts w out (mapped writeTy (f t u))
 
 -- A rule's outcome for the types above the k lowest of so many stands at the front of a buffer.
 pub record Ruled (count k : ℕ) (w : Written) (out : List ℕ) (o : Outcome Ty) : Type 0 where
@@ -87,8 +110,8 @@ pub record Ruled (count k : ℕ) (w : Written) (out : List ℕ) (o : Outcome Ty)
 abbrev pub afterRule : State Stack → ℕ → Outcome Ty → rules.Ruling (State Stack)
 afterRule st few o = following (onto (drop few (st .stack)) (aside o)) λ a. gives (afterStep st a)
 
--- It takes their place, whatever state the scratch has the stack of.
-abbrev pub LaysDown : List ℕ → ℕ → List ℕ → ℕ → Written → List ℕ → ℕ → ℕ → Worked → List ℕ → List ℕ → Type 0
-LaysDown lengths count d k w out at next r lengths₁ d₁ =
-    (st : State Stack) (o : Outcome Ty) → Stacked lengths count d (st .stack) → Ruled count k w out o
-    → Works (r .answer) lengths₁ (r .count) d₁ (placed (afterRule st (count - k) o) at next)
+-- It takes their place, whatever state the stack is of.
+abbrev pub LaysDown : Memory → ℕ → ℕ → Written → List ℕ → ℕ → ℕ → Worked → Memory → Type 0
+LaysDown m count k w out at next r m₁ =
+    (st : State Stack) (o : Outcome Ty) → Stacked m count (st .stack) → Ruled count k w out o
+    → Works (r .answer) m₁ (r .count) (placed (afterRule st (count - k) o) at next)

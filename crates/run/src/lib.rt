@@ -1,4 +1,4 @@
-// The sheet check: steps on a stack of types in a lent scratch, one call for a sheet of any bytes.
+// The sheet check: steps on a stack of types, one call for a sheet of any bytes.
 mod sheet;
 mod steps;
 mod tops;
@@ -24,7 +24,7 @@ pub struct Worked {
     pub count: usize,
 }
 
-// The same of all steps, and how many were taken.
+// The same of the steps worked, and how many were taken.
 pub struct Ran {
     pub answer: Reached,
     pub count: usize,

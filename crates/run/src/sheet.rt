@@ -10,20 +10,24 @@ use limits::MAX_STEPS;
 use limits::SCRATCH_BYTES;
 use limits::refusal::OVERFLOW;
 use limits::refusal::TOO_SHORT;
+use stack::SMALL_TRAYS;
+use stack::TRAYS_BYTES;
 use stack::clear;
+use stack::empty_trays;
+use stack::wants_trays;
 use stack::write_types;
 ghost use mathlib.Core.Path.{_≡_};
-ghost use mathlib.Core.List.{[], reverse};
-ghost use Prim.Native.Nat.{_≤_};
+ghost use mathlib.Core.List.{List, [], reverse};
+ghost use Prim.Native.Nat.{ℕ, _≤_};
 ghost use lib.ListN.{length};
 ghost use Rattle.model.specs.Limits.{maxBytes};
 ghost use Rattle.format.specs.Outcome.{accepted};
 ghost use Rattle.machine.specs.SheetLimits.{maxStack, scratchBytes};
-ghost use Rattle.machine.specs.Run.{Stack, State};
+ghost use Rattle.machine.specs.Run.{Stack, State, fresh};
 ghost use Rattle.machine.specs.Sheet.{sheetFrom, sheetRun};
-ghost use Rattle.machine.specs.Call.{handOver, sheetCall};
-ghost use Rattle.stack.specs.Stack.{Stacked, HasStack};
-ghost use Rattle.run.specs.Answers.{InState, Runs, Measures, calledOf};
+ghost use Rattle.machine.specs.Call.{sheetCall};
+ghost use Rattle.stack.specs.Stack.{memory, Stacked, HasStack, NoneInTray};
+ghost use Rattle.run.specs.Answers.{InState, Runs, Measures, Answers, calledOf};
 
 // Checks a sheet. The types left go to the result, bottom first; the scratch is zero afterwards, as far as it was asked for.
 pub fn check_sheet(sheet: &[u8], result: &mut [u8], scratch: &mut [u8]) -> SheetAnswer
@@ -68,36 +72,152 @@ fn run_sheet(
     lengths: &mut [usize],
 ) -> SheetAnswer
     requires { ⌜ (maxStack ≤ length (now lengths)) × (scratchBytes ≤ length (now scratch)) ⌝ }
-    ensures { λ r. ⌜ calledOf r (now (result .exit)) [] ≡ handOver (length (now (sheet .entry))) (sheetRun (now (sheet .entry))) (now (result .entry)) [] ⌝ }
-    ensures { λ r. ⌜ Measures r (now (lengths .exit)) (sheetRun (now (sheet .entry))) ⌝ }
+    ensures { λ r. ⌜ Answers r (now (result .exit)) (now (lengths .exit)) (now (sheet .entry)) (now (result .entry)) ⌝ }
 {
-    let mut work = [0u8; MAX_BYTES];
-    let ran = run_steps(sheet, 0, 0, &mut *lengths, &mut *scratch, &mut work);
+    let mut ends = [0usize; MAX_STACK];
+    let mut out = [0u8; MAX_BYTES];
+    let mut trays = [0u8; SMALL_TRAYS];
+    let ran = run_steps(
+        sheet,
+        0,
+        0,
+        0,
+        &mut ends,
+        &mut *lengths,
+        &mut trays,
+        &mut *scratch,
+        &mut out,
+    );
     let answer = ran.answer;
     let count = ran.count;
+    let taken = ran.taken;
     match answer {
-        Reached::At(_) => hand_over(sheet.len(), count, &*lengths, &*scratch, &mut *result),
+        Reached::At(at) => run_rest(
+            sheet,
+            at,
+            count,
+            taken,
+            &mut ends,
+            &mut *lengths,
+            &trays,
+            &mut *scratch,
+            &mut out,
+            &mut *result,
+        ),
         Reached::Refused { number, place } => SheetAnswer::Refused { number, place },
     }
 }
 
-// The steps one after the other, each from the state that the one before left, and the first from any state: so many types on the
-// stack, so many steps taken.
-fn run_steps(
-    s: &[u8],
+// The rest of a sheet, from the place that was reached with small trays. If that is not its end, a type was too long for them.
+fn run_rest<'a>(
+    sheet: &'a [u8],
+    at: usize,
     count: usize,
     taken: usize,
+    ends: &mut [usize],
+    lengths: &mut [usize],
+    small: &'a [u8],
+    scratch: &mut [u8],
+    out: &mut [u8],
+    result: &mut [u8],
+) -> SheetAnswer
+    requires { ⌜ (maxBytes ≤ length (now out)) × HasStack (memory (now ends) (now lengths) (now sheet) (now small) (now scratch)) count ⌝ }
+    ensures { λ r. ⌜ ((st : State Stack) → InState (memory (now (ends .entry)) (now (lengths .entry)) (now (sheet .entry)) (now (small .entry)) (now (scratch .entry))) count taken st
+        → sheetFrom (now (sheet .entry)) (fresh []) 0 ≡ sheetFrom (now (sheet .entry)) st at
+        → Answers r (now (result .exit)) (now (lengths .exit)) (now (sheet .entry)) (now (result .entry))) ⌝ }
+{
+    if sheet.len() <= at {
+        return hand_over(
+            count,
+            &*ends,
+            &*lengths,
+            sheet,
+            small,
+            &*scratch,
+            &mut *result,
+        );
+    }
+    empty_trays(count, &mut *ends, &*lengths, small, &mut *scratch);
+    run_large(
+        sheet,
+        at,
+        count,
+        taken,
+        &mut *ends,
+        &mut *lengths,
+        &mut *scratch,
+        &mut *out,
+        &mut *result,
+    )
+}
+
+// The rest of a sheet with trays that have room for any type and are empty.
+fn run_large(
+    sheet: &[u8],
+    at: usize,
+    count: usize,
+    taken: usize,
+    ends: &mut [usize],
     lengths: &mut [usize],
     scratch: &mut [u8],
-    work: &mut [u8],
+    out: &mut [u8],
+    result: &mut [u8],
+) -> SheetAnswer
+    requires { ⌜ (maxBytes ≤ length (now out)) × ((h : List ℕ) × HasStack (memory (now ends) (now lengths) (now sheet) h (now scratch)) count)
+        × NoneInTray (now ends) count ⌝ }
+    ensures { λ r. ⌜ ((h : List ℕ) (st : State Stack) → InState (memory (now (ends .entry)) (now (lengths .entry)) (now (sheet .entry)) h (now (scratch .entry))) count taken st
+        → sheetFrom (now (sheet .entry)) (fresh []) 0 ≡ sheetFrom (now (sheet .entry)) st at
+        → Answers r (now (result .exit)) (now (lengths .exit)) (now (sheet .entry)) (now (result .entry))) ⌝ }
+{
+    let mut trays = [0u8; TRAYS_BYTES];
+    let ran = run_steps(
+        sheet,
+        at,
+        count,
+        taken,
+        &mut *ends,
+        &mut *lengths,
+        &mut trays,
+        &mut *scratch,
+        &mut *out,
+    );
+    let answer = ran.answer;
+    let left = ran.count;
+    match answer {
+        Reached::At(_) => hand_over(
+            left,
+            &*ends,
+            &*lengths,
+            sheet,
+            &trays,
+            &*scratch,
+            &mut *result,
+        ),
+        Reached::Refused { number, place } => SheetAnswer::Refused { number, place },
+    }
+}
+
+// The steps from a place on, one after the other, each from the state that the one before left, and the first from any state: so many
+// types on the stack, so many steps taken. They stop early where a type that may be worked on next is too long
+// for the trays.
+fn run_steps(
+    s: &[u8],
+    start: usize,
+    count: usize,
+    taken: usize,
+    ends: &mut [usize],
+    lengths: &mut [usize],
+    trays: &mut [u8],
+    scratch: &mut [u8],
+    out: &mut [u8],
 ) -> Ran
-    requires { ⌜ (maxBytes ≤ length (now work)) × HasStack (now lengths) count (now scratch) ⌝ }
-    ensures { λ r. ⌜ ((st : State Stack) → InState (now (lengths .entry)) count (now (scratch .entry)) taken st
-        → Runs (r .answer) (r .count) (r .taken) (now (lengths .exit)) (now (scratch .exit)) (sheetFrom (now (s .entry)) st 0)) ⌝ }
+    requires { ⌜ (maxBytes ≤ length (now out)) × HasStack (memory (now ends) (now lengths) (now s) (now trays) (now scratch)) count ⌝ }
+    ensures { λ r. ⌜ ((st : State Stack) → InState (memory (now (ends .entry)) (now (lengths .entry)) (now (s .entry)) (now (trays .entry)) (now (scratch .entry))) count taken st
+        → Runs (r .answer) (memory (now (ends .exit)) (now (lengths .exit)) (now (s .entry)) (now (trays .exit)) (now (scratch .exit))) (r .count) (r .taken) (sheetFrom (now (s .entry)) st start)) ⌝ }
 {
     let mut height = count;
     let mut steps = taken;
-    let mut at = 0;
+    let mut at = start;
     while at < s.len() {
         if MAX_STEPS <= steps {
             return Ran {
@@ -109,7 +229,25 @@ fn run_steps(
                 taken: steps,
             };
         }
-        let worked = work_step(s, at, height, &mut *lengths, &mut *scratch, &mut *work);
+        if wants_trays(height, &*lengths, &*trays) {
+            // not the end, which is told by the place
+            let stopped = Reached::At(at);
+            return Ran {
+                answer: stopped,
+                count: height,
+                taken: steps,
+            };
+        }
+        let worked = work_step(
+            s,
+            at,
+            height,
+            &mut *ends,
+            &mut *lengths,
+            &mut *trays,
+            &mut *scratch,
+            &mut *out,
+        );
         let answer = worked.answer;
         let Reached::At(next) = answer else {
             return Ran {
@@ -130,25 +268,27 @@ fn run_steps(
 }
 
 // The types left; a result too short for them is found last, at the sheet's length.
-fn hand_over(
-    size: usize,
+fn hand_over<'a>(
     count: usize,
+    ends: &[usize],
     lengths: &[usize],
+    s: &'a [u8],
+    trays: &'a [u8],
     scratch: &[u8],
     result: &mut [u8],
 ) -> SheetAnswer
-    requires { ⌜ HasStack (now lengths) count (now scratch) ⌝ }
-    ensures { λ r. ⌜ ((ts : Stack) → Stacked (now (lengths .entry)) count (now (scratch .entry)) ts
-        → (calledOf r (now (result .exit)) [] ≡ handOver size (accepted (reverse ts)) (now (result .entry)) []) × Measures r (now (lengths .entry)) (accepted (reverse ts))) ⌝ }
+    requires { ⌜ HasStack (memory (now ends) (now lengths) (now s) (now trays) (now scratch)) count ⌝ }
+    ensures { λ r. ⌜ ((ts : Stack) → Stacked (memory (now (ends .entry)) (now (lengths .entry)) (now (s .entry)) (now (trays .entry)) (now (scratch .entry))) count ts → sheetRun (now (s .entry)) ≡ accepted (reverse ts)
+        → Answers r (now (result .exit)) (now (lengths .entry)) (now (s .entry)) (now (result .entry))) ⌝ }
 {
-    match write_types(count, lengths, scratch, &mut *result) {
+    match write_types(count, ends, lengths, s, trays, scratch, &mut *result) {
         Written::Wrote(n) => SheetAnswer::Accepted {
             types: count,
             bytes: n,
         },
         Written::Refused { number, place: _ } => SheetAnswer::Refused {
             number,
-            place: size,
+            place: s.len(),
         },
     }
 }

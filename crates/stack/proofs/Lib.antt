@@ -1,1 +1,1 @@
-mod StackBytesLaws
+mod OutLaws

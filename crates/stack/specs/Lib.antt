@@ -1,3 +1,2 @@
 pub mod Stack
 pub mod StackLaws
-pub mod StackBytes

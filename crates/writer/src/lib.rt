@@ -101,7 +101,7 @@ pub fn shape_length(shape: DynShape) -> usize
     start + 8 * size_count(suffix)
 }
 
-fn put_head(out: &mut [u8], at: usize, opening: u8, closing: u8)
+pub fn put_head(out: &mut [u8], at: usize, opening: u8, closing: u8)
     requires { ⌜ at + 4 ≤ length (now out) ⌝ }
     ensures { λ _. ⌜ now (out .exit) ≡ over (now (out .entry)) at (markBytes shapeMark ++ (opening ∷ closing ∷ [])) ⌝ }
 {
@@ -131,7 +131,7 @@ pub fn put_shape(out: &mut [u8], at: usize, shape: DynShape) -> usize
 const PLAIN_BYTES: usize = 3;
 
 // A plain scalar's record, by the code of its kind, from `at` on. Answers the place after it.
-fn put_plain(out: &mut [u8], at: usize, kind: u8) -> usize
+pub fn put_plain(out: &mut [u8], at: usize, kind: u8) -> usize
     requires { ⌜ at + 3 ≤ length (now out) ⌝ }
     ensures { λ r. ⌜ (r ≡ at + 3) × (now (out .exit) ≡ over (now (out .entry)) at (kindRecord kind)) ⌝ }
 {

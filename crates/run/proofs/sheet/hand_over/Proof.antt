@@ -1,8 +1,9 @@
-use Prim.{tt}
-use mathlib.Core.Path.{_≡_, sym, _∙_, ap}
+use Prim.Native.Nat.{_-_}
 use mathlib.Core.List.{[], reverse}
+use mathlib.Core.Path.{_≡_, sym, _∙_, ap}
 use lib.ListN.{length, length-reverse}
 use Rattle.lent.specs.Written.{delivered}
+use Rattle.stack.specs.Stack.{memory}
 use Rattle.stack.specs.StackLaws.{stacked-count}
 use Rattle.run.proofs.SheetLaws.{handed-count, not-handed, handed-sizes}
 use borrow.Author.Needs.{needs}
@@ -26,27 +27,31 @@ same-length c = search needs
 
 returns : tie.Need-returns
 returns c =
-    let entry = c .before .before .before .before .before .before .before .before .before .before in
     let at-write-types = c .before .before .before .before .before in
+    let entry = c .before .before .before .before .before .before .before .before .before .before .before .before .before in
+    let at-n = c .before in
     let args = entry .args in
-    λ ts h.
-    let wrote = at-write-types .write-types in
-    let out = wrote .last .1 .1 .1 .0 in
-    let many : length (reverse ts) ≡ args .count = length-reverse ts ∙ stacked-count (args .lengths .now) (args .count) (args .scratch .now) h in
-    (handed-count (args .size) (reverse ts) (args .result .now) out [] many (sym (ap (λ r. delivered r out) (c .before .n .given .1)) ∙ wrote .ensures ts h), handed-sizes (args .lengths .now) (args .count) (args .scratch .now) h)
+    let m = memory (args .ends .now) (args .lengths .now) (args .s .now) (args .trays .now) (args .scratch .now) in
+    λ ts h e.
+    let out = at-write-types .write-types .last .1 .1 .1 .1 .1 .1 .0 in
+    let many : length (reverse ts) ≡ args .count = length-reverse ts ∙ stacked-count m (args .count) h in
+    record {
+      called = rw e (handed-count (length (args .s .now)) (reverse ts) (args .result .now) out [] many (sym (ap (λ r. delivered r out) (at-n .n .given .1)) ∙ at-write-types .write-types .ensures ts h));
+      measured = λ us is. handed-sizes m (args .count) h us (sym e ∙ is);
+    }
 
 same-length-2 : tie.Need-same-length-2
 same-length-2 c = search needs
 
 returns-2 : tie.Need-returns-2
 returns-2 c =
-    let entry = c .before .before .before .before .before .before .before .before .before .before in
     let at-write-types = c .before .before .before .before .before in
+    let entry = c .before .before .before .before .before .before .before .before .before .before .before .before .before in
+    let at-number = c .before in
     let args = entry .args in
-    λ ts h.
-    let wrote = at-write-types .write-types in
-    let out = wrote .last .1 .1 .1 .0 in
-    (not-handed (args .size) (reverse ts) (args .result .now) out [] (sym (ap (λ r. delivered r out) (c .before .number .given .1)) ∙ wrote .ensures ts h), tt)
+    λ ts h e.
+    let out = at-write-types .write-types .last .1 .1 .1 .1 .1 .1 .0 in
+    record { called = rw e (not-handed (length (args .s .now)) (reverse ts) (args .result .now) out [] (sym (ap (λ r. delivered r out) (at-number .number .given .1)) ∙ at-write-types .write-types .ensures ts h)); measured = tt }
 
 pub hand-over-spec : {M : Type 1} → statement M
 hand-over-spec =

@@ -1,6 +1,6 @@
-use Prim.{tt}
-use mathlib.Core.Path.{sym, _∙_}
+use Prim.Native.Nat.{_-_}
 use native.Mathlib.Omega.{arith}
+use mathlib.Core.Path.{sym, _∙_}
 use lib.ListN.{drop}
 use lib.Seq.{length-take-le, drop-at}
 use Rattle.machine.specs.SheetLimits.{scratchBytes}
@@ -38,9 +38,9 @@ run-sheet-requires c κs =
 
 clear-requires : tie.Need-clear-requires
 clear-requires c κs =
+    let at-run-sheet = c .before .before .before .before .before .before .before in
     let entry = c .before .before .before .before .before .before .before .before .before .before .before .before .before .before .before .before in
     let at-if1 = c .before .before .before .before .before .before .before .before .before .before .before in
-    let at-run-sheet = c .before .before .before .before .before .before .before in
     let args = entry .args in
     let again = length-again scratchBytes (at-run-sheet .run-sheet .last .1 .1 .0) (args .scratch .now) (at-if1 .if1 .left) (at-run-sheet .run-sheet .kept .1 .1 .0) in
     omega (arith, again, at-if1 .if1 .left)
@@ -50,10 +50,10 @@ same-length c = search needs
 
 same-length-2 : tie.Need-same-length-2
 same-length-2 c =
+    let at-clear = c .before .before in
+    let at-run-sheet = c .before .before .before .before .before .before .before .before .before .before in
     let entry = c .before .before .before .before .before .before .before .before .before .before .before .before .before .before .before .before .before .before .before in
     let at-if1 = c .before .before .before .before .before .before .before .before .before .before .before .before .before .before in
-    let at-run-sheet = c .before .before .before .before .before .before .before .before .before .before in
-    let at-clear = c .before .before in
     let args = entry .args in
     at-clear .clear .kept .0 ∙ length-again scratchBytes (at-run-sheet .run-sheet .last .1 .1 .0) (args .scratch .now) (at-if1 .if1 .left) (at-run-sheet .run-sheet .kept .1 .1 .0)
 
@@ -62,15 +62,18 @@ same-length-3 c = search needs
 
 returns-2 : tie.Need-returns-2
 returns-2 c =
+    let at-run-sheet = c .before .before .before .before .before .before .before .before .before .before in
     let entry = c .before .before .before .before .before .before .before .before .before .before .before .before .before .before .before .before .before .before .before in
     let at-if1 = c .before .before .before .before .before .before .before .before .before .before .before .before .before .before in
-    let at-run-sheet = c .before .before .before .before .before .before .before .before .before .before in
     let at-clear = c .before .before in
     let args = entry .args in
     let after = at-run-sheet .run-sheet .last .1 .1 .0 in
     let front = at-run-sheet .run-sheet .kept .1 .1 .0 ∙ length-take-le scratchBytes (args .scratch .now) (at-if1 .if1 .left) in
-    let cleared = zeroed-same _ (args .scratch .now) (drop-at after (drop scratchBytes (args .scratch .now)) scratchBytes front) in
-    (call-runs (args .sheet .now) (args .result .now) (args .scratch .now) (at-run-sheet .run-sheet .result) _ (at-if1 .if1 .left) (at-run-sheet .run-sheet .ensures .0) (at-clear .clear .ensures ∙ cleared), at-run-sheet .run-sheet .ensures .1)
+    let cleared = zeroed-same _ (args .scratch .now) (drop-at after (drop scratchBytes (args .scratch .now)) scratchBytes front) in (
+      call-runs (args .sheet .now) (args .result .now) (args .scratch .now) (at-run-sheet .run-sheet .result) _ (at-if1 .if1 .left) (at-run-sheet .run-sheet .ensures .called)
+          (at-clear .clear .ensures ∙ cleared),
+      at-run-sheet .run-sheet .ensures .measured,
+    )
 
 pub measure-sheet-spec : {M : Type 1} → statement M
 measure-sheet-spec =

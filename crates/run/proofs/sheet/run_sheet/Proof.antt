@@ -1,43 +1,63 @@
-use Prim.{tt}
+use Prim.Native.Nat.{ℕ, _-_, _≤_}
+use native.Mathlib.Omega.{arith}
 use mathlib.Core.List.{[]}
 use mathlib.Core.Path.{refl}
+use lib.ListN.{length, length-replicate, replicate}
 use Rattle.machine.specs.Run.{fresh}
+use Rattle.machine.specs.SheetLimits.{maxStack}
+use Rattle.stack.specs.Stack.{memory}
 use Rattle.stack.specs.StackLaws.{stacked-none}
-use Rattle.run.proofs.SheetLaws.{run-left, run-refused}
+use Rattle.run.proofs.SheetLaws.{run-stopped, stopped-has, run-refused}
 use borrow.Author.Needs.{needs}
 use Rattle.run.proofs.sheet.run_sheet.Statement.{statement}
 use Rattle.run.proofs.sheet.run_sheet.Tie as tie
 use Rattle.run.proofs.sheet.run_sheet.Reads as reads
 use Rattle.run.proofs.sheet.run_sheet.Lts as lts
-use Rattle.run.proofs.sheet.hand_over.Reads as hand-over-reads
+use Rattle.run.proofs.sheet.run_rest.Reads as run-rest-reads
 use Rattle.run.proofs.sheet.run_steps.Reads as run-steps-reads
 
 slice-aggregate-run-steps : tie.Need-slice-aggregate-run-steps
 slice-aggregate-run-steps c = search needs
 
+slice-aggregate-run-steps-2 : tie.Need-slice-aggregate-run-steps-2
+slice-aggregate-run-steps-2 c = search needs
+
+slice-aggregate-run-steps-3 : tie.Need-slice-aggregate-run-steps-3
+slice-aggregate-run-steps-3 c = search needs
+
 run-steps-requires : tie.Need-run-steps-requires
 run-steps-requires c κs =
-    let entry = c .before .before .before .before .before .before .before in
+    let entry = c .before .before .before .before .before .before .before .before .before in
     let args = entry .args in
-    let none = stacked-none (args .lengths .now) (args .scratch .now) (entry .pre .0) (entry .pre .1) in
-    (search needs, record { types = []; stacked = none })
-
-enum-told : tie.Need-enum-told
-enum-told c = search needs
-
-hand-over-requires : tie.Need-hand-over-requires
-hand-over-requires c κs =
-    let entry = c .before .before .before .before .before .before .before .before .before .before .before .before .before .before .before .before .before .before in
-    let at-run-steps = c .before .before .before .before .before .before .before .before .before .before in
-    let at-enum-told = c .before .before .before in
-    let args = entry .args in
-    let none = stacked-none (args .lengths .now) (args .scratch .now) (entry .pre .0) (entry .pre .1) in
-    let runs = at-run-steps .run-steps .ensures (fresh []) (record { stacked = none; steps = refl }) in
-    run-left (args .sheet .now) (at-run-steps .run-steps .result) _ _ runs (at-enum-told .enum-told .given .1) λ ts h e.
-    record { types = ts; stacked = h }
+    let m = memory (replicate {A = ℕ} maxStack 0) (args .lengths .now) (args .sheet .now) (replicate {A = ℕ} 1024 0) (args .scratch .now) in
+    let six : maxStack ≤ length (replicate {A = ℕ} maxStack 0) = omega (arith, length-replicate {A = ℕ} maxStack 0) in
+    (search needs, record { types = []; stacked = stacked-none m (entry .pre .1) six (entry .pre .0) })
 
 enum-known-answer : tie.Need-enum-known-answer
 enum-known-answer c = search needs
+
+slice-aggregate-run-rest : tie.Need-slice-aggregate-run-rest
+slice-aggregate-run-rest c = search needs
+
+slice-aggregate-run-rest-2 : tie.Need-slice-aggregate-run-rest-2
+slice-aggregate-run-rest-2 c = search needs
+
+slice-aggregate-run-rest-3 : tie.Need-slice-aggregate-run-rest-3
+slice-aggregate-run-rest-3 c = search needs
+
+run-rest-requires : tie.Need-run-rest-requires
+run-rest-requires c κs =
+    let entry = c .before .before .before .before .before .before .before .before .before .before .before .before .before .before .before .before .before .before .before .before .before .before .before .before .before .before in
+    let at-run-steps = c .before .before .before .before .before .before .before .before .before .before .before .before .before .before .before .before in
+    let at-answer = c .before .before .before .before .before .before .before in
+    let args = entry .args in
+    let six : maxStack ≤ length (replicate {A = ℕ} maxStack 0) = omega (arith, length-replicate {A = ℕ} maxStack 0) in
+    let none = stacked-none (memory (replicate {A = ℕ} maxStack 0) (args .lengths .now) (args .sheet .now) (replicate {A = ℕ} 1024 0) (args .scratch .now)) (entry .pre .1) six (entry .pre .0) in
+    let runs = at-run-steps .run-steps .ensures (fresh []) (record { stacked = none; steps = refl }) in
+    (search needs, stopped-has (at-run-steps .run-steps .result) _ _ runs (at-answer .answer .given .1))
+
+enum-known-answer-2 : tie.Need-enum-known-answer-2
+enum-known-answer-2 c = search needs
 
 same-length : tie.Need-same-length
 same-length c = search needs
@@ -50,15 +70,17 @@ same-length-3 c = search needs
 
 returns : tie.Need-returns
 returns c =
-    let entry = c .before .before .before .before .before .before .before .before .before .before .before .before .before .before .before .before .before .before .before .before .before in
-    let at-run-steps = c .before .before .before .before .before .before .before .before .before .before .before .before .before in
-    let at-enum-told = c .before .before .before .before .before .before in
-    let at-hand-over = c .before .before in
+    let entry = c .before .before .before .before .before .before .before .before .before .before .before .before .before .before .before .before .before .before .before .before
+    .before .before .before .before .before .before .before .before .before .before .before .before .before .before .before in
+    let at-run-steps = c .before .before .before .before .before .before .before .before .before .before .before .before .before .before .before .before .before .before .before .before .before .before .before .before .before in
+    let at-answer = c .before .before .before .before .before .before .before .before .before .before .before .before .before .before .before .before in
+    let at-run-rest = c .before .before .before .before .before .before .before .before in
     let args = entry .args in
-    let none = stacked-none (args .lengths .now) (args .scratch .now) (entry .pre .0) (entry .pre .1) in
+    let six : maxStack ≤ length (replicate {A = ℕ} maxStack 0) = omega (arith, length-replicate {A = ℕ} maxStack 0) in
+    let none = stacked-none (memory (replicate {A = ℕ} maxStack 0) (args .lengths .now) (args .sheet .now) (replicate {A = ℕ} 1024 0) (args .scratch .now)) (entry .pre .1) six (entry .pre .0) in
     let runs = at-run-steps .run-steps .ensures (fresh []) (record { stacked = none; steps = refl }) in
-    run-left (args .sheet .now) (at-run-steps .run-steps .result) _ _ runs (at-enum-told .enum-told .given .1) λ ts h e.
-    rw e (at-hand-over .hand-over .ensures ts h)
+    let stop = run-stopped (at-run-steps .run-steps .result) _ _ runs (at-answer .answer .given .1) in
+    at-run-rest .run-rest .ensures (stop .state) (stop .here) (stop .same)
 
 same-length-4 : tie.Need-same-length-4
 same-length-4 c = search needs
@@ -68,22 +90,29 @@ same-length-5 c = search needs
 
 returns-2 : tie.Need-returns-2
 returns-2 c =
-    let entry = c .before .before .before .before .before .before .before .before .before .before .before .before .before .before .before .before in
-    let at-run-steps = c .before .before .before .before .before .before .before .before in
+    let entry = c .before .before .before .before .before .before .before .before .before .before .before .before .before .before .before .before .before .before .before .before in
+    let at-run-steps = c .before .before .before .before .before .before .before .before .before .before in
+    let at-answer2 = c .before in
     let args = entry .args in
-    let none = stacked-none (args .lengths .now) (args .scratch .now) (entry .pre .0) (entry .pre .1) in
+    let six : maxStack ≤ length (replicate {A = ℕ} maxStack 0) = omega (arith, length-replicate {A = ℕ} maxStack 0) in
+    let none = stacked-none (memory (replicate {A = ℕ} maxStack 0) (args .lengths .now) (args .sheet .now) (replicate {A = ℕ} 1024 0) (args .scratch .now)) (entry .pre .1) six (entry .pre .0) in
     let runs = at-run-steps .run-steps .ensures (fresh []) (record { stacked = none; steps = refl }) in
-    (run-refused (args .sheet .now) (at-run-steps .run-steps .result) _ _ runs (c .before .answer .given .1) _ _ _, tt)
+    record { called = run-refused (at-run-steps .run-steps .result) _ _ runs refl (at-answer2 .answer2 .given .1) _; measured = tt }
 
 pub run-sheet-spec : {M : Type 1} → statement M
 run-sheet-spec =
     tie.close
     (tie.spec
     slice-aggregate-run-steps
+    slice-aggregate-run-steps-2
+    slice-aggregate-run-steps-3
     run-steps-requires
-    enum-told
-    hand-over-requires
     enum-known-answer
+    slice-aggregate-run-rest
+    slice-aggregate-run-rest-2
+    slice-aggregate-run-rest-3
+    run-rest-requires
+    enum-known-answer-2
     same-length
     same-length-2
     same-length-3

@@ -1,7 +1,9 @@
+use Prim.Native.Nat.{_-_}
 use Rattle.format.specs.Outcome.{accepted}
 use Rattle.rules.specs.Types.{intoRow}
 use Rattle.machine.specs.Steps.{row}
-use Rattle.run.proofs.StepLaws.{row-step, row-within, ruled-one, works-one}
+use Rattle.stack.specs.Stack.{memory}
+use Rattle.run.proofs.StepLaws.{has-kept, works-kept, ruled-one, works-one, row-step, row-within}
 use borrow.Author.Needs.{needs}
 use Rattle.run.proofs.steps.row.Statement.{statement}
 use Rattle.run.proofs.steps.row.Tie as tie
@@ -9,19 +11,35 @@ use Rattle.run.proofs.steps.row.Reads as reads
 use Rattle.run.proofs.steps.row.Lts as lts
 use Rattle.run.proofs.steps.lay_down.Reads as lay-down-reads
 use Rattle.run.proofs.tops.row_top.Reads as row-top-reads
+use Rattle.stack.proofs.unpack_top.Reads as unpack-top-reads
+
+unpack-top-requires : tie.Need-unpack-top-requires
+unpack-top-requires c κs = search needs
 
 row-top-requires : tie.Need-row-top-requires
-row-top-requires c κs = search needs
+row-top-requires c κs =
+    let at-unpack-top = c .before .before .before .before .before .before .before .before .before .before in
+    let entry = c .before .before .before .before .before .before .before .before .before .before .before .before .before .before .before .before .before .before .before .before .before in
+    let args = entry .args in
+    let m = memory (args .ends .now) (args .lengths .now) (args .s .now) (args .trays .now) (args .scratch .now) in
+    let m₁ = memory (at-unpack-top .unpack-top .last .1 .0) (args .lengths .now) (args .s .now) (at-unpack-top .unpack-top .last .1 .1 .1 .0) (at-unpack-top .unpack-top .last .1 .1 .1 .1 .0) in
+    let has = has-kept m m₁ (args .count) (at-unpack-top .unpack-top .ensures .0 (args .s .now)) (entry .pre .has) in
+    (at-unpack-top .unpack-top .last .1 .1 .1 .1 .0, record { enough = entry .pre .enough; room = entry .pre .room; has = has; unpacked = at-unpack-top .unpack-top .ensures .1 })
 
 sub-lay-down : tie.Need-sub-lay-down
 sub-lay-down c = search needs
 
 lay-down-requires : tie.Need-lay-down-requires
 lay-down-requires c κs =
-    let entry = c .before .before .before .before .before .before .before .before .before .before .before .before in
-    let at-row-top = c .before .before .before .before .before in
+    let at-unpack-top = c .before .before .before .before .before .before .before .before .before .before .before .before .before .before .before .before .before .before in
+    let entry = c .before .before .before .before .before .before .before .before .before .before .before .before .before .before .before .before .before .before .before .before
+    .before .before .before .before .before .before .before .before .before in
+    let at-row-top = c .before .before .before .before .before .before .before in
     let args = entry .args in
-    (entry .pre .2, ruled-one (args .lengths .now) (args .count) (args .scratch .now) (at-row-top .row-top .result) _ (λ t. accepted (intoRow t)) row-within (entry .pre .0) (at-row-top .row-top .ensures) (entry .pre .2))
+    let m = memory (args .ends .now) (args .lengths .now) (args .s .now) (args .trays .now) (args .scratch .now) in
+    let m₁ = memory (at-unpack-top .unpack-top .last .1 .0) (args .lengths .now) (args .s .now) (at-unpack-top .unpack-top .last .1 .1 .1 .0) (at-unpack-top .unpack-top .last .1 .1 .1 .1 .0) in
+    let has = has-kept m m₁ (args .count) (at-unpack-top .unpack-top .ensures .0 (args .s .now)) (entry .pre .has) in
+    ((args .s .now, has), ruled-one m₁ (args .count) (at-row-top .row-top .result) _ (λ t. accepted (intoRow t)) row-within (entry .pre .enough) (at-row-top .row-top .ensures (m₁ .scratch)) has)
 
 same-length : tie.Need-same-length
 same-length c = search needs
@@ -32,23 +50,37 @@ same-length-2 c = search needs
 same-length-3 : tie.Need-same-length-3
 same-length-3 c = search needs
 
+same-length-4 : tie.Need-same-length-4
+same-length-4 c = search needs
+
+same-length-5 : tie.Need-same-length-5
+same-length-5 c = search needs
+
 returns : tie.Need-returns
 returns c =
-    let entry = c .before .before .before .before .before .before .before .before .before .before .before .before .before .before .before .before .before in
-    let at-row-top = c .before .before .before .before .before .before .before .before .before .before in
-    let at-lay-down = c .before .before .before .before in
+    let at-unpack-top = c .before .before .before .before .before .before .before .before .before .before .before .before .before .before .before .before .before .before .before .before .before .before .before .before .before .before .before in
+    let entry = c .before .before .before .before .before .before .before .before .before .before .before .before .before .before .before .before .before .before .before .before
+    .before .before .before .before .before .before .before .before .before .before .before .before .before .before .before .before .before .before in
+    let at-lay-down = c .before .before .before .before .before .before .before .before in
+    let at-row-top = c .before .before .before .before .before .before .before .before .before .before .before .before .before .before .before .before in
     let args = entry .args in
-    works-one (args .lengths .now) (args .count) (args .scratch .now) (at-row-top .row-top .result) _ (λ t. accepted (intoRow t)) row-within (entry .pre .0) (at-row-top .row-top .ensures)
-    row row-step (args .at) (args .next) (at-lay-down .lay-down .result) _ _ (at-lay-down .lay-down .ensures)
+    let m = memory (args .ends .now) (args .lengths .now) (args .s .now) (args .trays .now) (args .scratch .now) in
+    let m₁ = memory (at-unpack-top .unpack-top .last .1 .0) (args .lengths .now) (args .s .now) (at-unpack-top .unpack-top .last .1 .1 .1 .0) (at-unpack-top .unpack-top .last .1 .1 .1 .1 .0) in
+    works-kept row (args .at) (args .next) m m₁ _ (args .count) (at-lay-down .lay-down .result) (at-unpack-top .unpack-top .ensures .0 (args .s .now))
+    (works-one m₁ (args .count) (at-row-top .row-top .result) _ (λ t. accepted (intoRow t)) row-within (entry .pre .enough) (at-row-top .row-top .ensures (m₁ .scratch)) row row-step (args .at)
+    (args .next) (at-lay-down .lay-down .result) _ (at-lay-down .lay-down .ensures (args .s .now)))
 
 pub row-spec : {M : Type 1} → statement M
 row-spec =
     tie.close
     (tie.spec
+    unpack-top-requires
     row-top-requires
     sub-lay-down
     lay-down-requires
     same-length
     same-length-2
     same-length-3
+    same-length-4
+    same-length-5
     returns)

@@ -1,76 +1,75 @@
-use Prim.Native.Nat.{_+_, _-_, _≤_}
+use Prim.Native.Nat.{_+_, _-_, _≤_, _<_}
 use native.Mathlib.Omega.{arith}
-use mathlib.Core.Path.{_≡_, sym, _∙_, ap}
-use lib.ListN.{length}
+use mathlib.Core.List.{List}
+use mathlib.Core.Path.{_≡_, refl, sym, _∙_, ap}
+use lib.ListN.{length, getD}
+use Rattle.model.specs.Types.{Ty}
 use Rattle.lent.specs.Over.{over}
-use Rattle.stack.specs.StackBytes.{stackBytes}
-use Rattle.stack.proofs.StackBytesLaws.{stack-none, stack-start, stack-next, lay-fits, lay-adds, lay-stays}
+use Rattle.stack.specs.Stack.{memory, Stacked}
+use Rattle.stack.proofs.OutLaws.{lowestBytes, bytes-none, bytes-all, size-next, bytes-within, next-fits, laid-next, laid-none}
 use borrow.Author.Needs.{needs}
 use Rattle.stack.proofs.out.lay_types.Statement.{statement}
 use Rattle.stack.proofs.out.lay_types.Tie as tie
 use Rattle.stack.proofs.out.lay_types.Reads as reads
 use Rattle.stack.proofs.out.lay_types.Lts as lts
-use Rattle.lent.proofs.lay.Reads as lay-reads
-use Rattle.stack.proofs.load.Reads as load-reads
+use Rattle.stack.proofs.out.lay_type.Reads as lay-type-reads
 
 abbrev Inv-loop : tie.InvT-loop
-Inv-loop count lengths scratch result₀ at₀ k₀ result at k =
-    (k ≤ count) × (length result ≡ length result₀) × (at ≡ length (stackBytes lengths scratch k)) × (result ≡ over result₀ 0 (stackBytes lengths scratch k))
+Inv-loop count ends lengths s trays scratch result₀ at₀ k₀ result at k =
+    (k ≤ count) × (length result ≡ length result₀)
+    × ((ts : List Ty) → Stacked (memory ends lengths s trays scratch) count ts → (at ≡ length (lowestBytes count k ts)) × (result ≡ over result₀ 0 (lowestBytes count k ts)))
 
 abbrev μ-loop : tie.MeasureT-loop
-μ-loop count lengths scratch result₀ at₀ k₀ result at k = count - k
+μ-loop count ends lengths s trays scratch result₀ at₀ k₀ result at k = count - k
 
 loop-holds : tie.Need-loop-holds Inv-loop μ-loop
 loop-holds c =
-    let entry = c .before .before .before in
-    let args = entry .args in
-    (search needs, search needs, sym (stack-none (args .lengths .now) (args .scratch .now)), stack-start (args .lengths .now) (args .scratch .now) (args .result .now))
-
-load-requires : tie.Need-load-requires Inv-loop μ-loop
-load-requires c κs =
-    let entry = c .before .before .before .before .before in
-    let args = entry .args in
-    (args .count, args .scratch .now, c .loop-test .taken, entry .pre .0)
-
-sub-lay : tie.Need-sub-lay Inv-loop μ-loop
-sub-lay c = c .load .ensures .0 .0
-
-part-lay-start : tie.Need-part-lay-start Inv-loop μ-loop
-part-lay-start c = c .load .ensures .0 .0
-
-part-lay-end : tie.Need-part-lay-end Inv-loop μ-loop
-part-lay-end c =
     let entry = c .before .before .before .before .before .before in
-    let e : c .load .result .end ≤ length (entry .args .scratch .now) = omega (arith, c .load .ensures .0 .1, entry .pre .0 .stacked .room) in
-    e
+    let args = entry .args in (
+      search needs,
+      refl,
+      λ ts st.
+          let none = bytes-none (memory (args .ends .now) (args .lengths .now) (args .s .now) (args .trays .now) (args .scratch .now)) (args .count) ts st in
+          (sym (ap length none), laid-none (args .result .now) (lowestBytes (args .count) 0 ts) none),
+    )
 
-lay-requires : tie.Need-lay-requires Inv-loop μ-loop
-lay-requires c κs =
-    let entry = c .before .before .before .before .before .before .before .before in
-    let at-loop = c .before .before .before .before in
-    let at-loop-test = c .before .before .before in
-    let at-load = c .before .before in
+lay-type-requires : tie.Need-lay-type-requires Inv-loop μ-loop
+lay-type-requires c κs =
+    let entry = c .before .before .before .before .before .before .before .before .before in
+    let at-loop = c .before .before in
+    let at-loop-test = c .before in
     let args = entry .args in
-    let fits = lay-fits (args .lengths .now) (args .count) (args .scratch .now) (entry .pre .0) (at-loop .loop .k) (at-loop-test .loop-test .taken) (at-loop .loop .inv .2) (entry .pre .1) in
-    rw (at-load .load .ensures .1 (args .scratch .now)) (omega (arith, fits, at-loop .loop .inv .1))
+    let st = entry .pre .1 in
+    let fits = next-fits _ (args .count) (entry .pre .0) st (at-loop .loop .k) (at-loop-test .loop-test .taken) (at-loop .loop .at) (length (args .result .now)) (at-loop .loop .inv .2 (entry .pre .0) st .0) (entry .pre .2) in
+    ((fits .0, fits .1, rw (at-loop .loop .inv .1) (fits .2)), omega (arith, st .few), st .slotted, st .measured)
 
-sub-at : tie.Need-sub-at Inv-loop μ-loop
-sub-at c =
-    let at-load = c .before .before .before .before .before in
-    at-load .load .ensures .0 .0
+mul-at : tie.Need-mul-at Inv-loop μ-loop
+mul-at c = search needs
+
+shared-slice-read-at : tie.Need-shared-slice-read-at Inv-loop μ-loop
+shared-slice-read-at c =
+    let at-loop = c .before .before .before .before .before .before in
+    let entry = c .before .before .before .before .before .before .before .before .before .before .before .before .before in
+    let args = entry .args in
+    let b : at-loop .loop .k < length (args .lengths .now) = omega (arith, entry .pre .1 .few, entry .pre .1 .measured) in
+    search needs
 
 add-at : tie.Need-add-at Inv-loop μ-loop
 add-at c =
-    let entry = c .before .before .before .before .before .before .before .before .before .before .before in
-    let at-loop = c .before .before .before .before .before .before .before in
-    let at-loop-test = c .before .before .before .before .before .before in
-    let at-load = c .before .before .before .before .before in
+    let entry = c .before .before .before .before .before .before .before .before .before .before .before .before .before in
+    let at-loop = c .before .before .before .before .before .before in
+    let at-loop-test = c .before .before .before .before .before in
     let args = entry .args in
-    let from = at-load .load .result in
-    let found = at-load .load .ensures in
-    let e : at-loop .loop .at + (from .end - from .start) ≤ length (args .result .now) =
-    lay-stays (args .lengths .now) (args .count) (args .scratch .now) (entry .pre .0) (at-loop .loop .k) (at-loop-test .loop-test .taken)
-    (from .start) (from .end) (at-loop .loop .inv .2) (found .0 .0) (found .0 .1) (found .1 (args .scratch .now)) (entry .pre .1) in
+    let st = entry .pre .1 in
+    let b : at-loop .loop .at + getD (args .lengths .now) (at-loop .loop .k) 0 ≤ length (args .result .now) =
+    omega (
+      arith,
+      at-loop .loop .inv .2 (entry .pre .0) st .0,
+      size-next _ (args .count) (entry .pre .0) st (at-loop .loop .k) (at-loop-test .loop-test .taken),
+      bytes-within _ (args .count)
+          (entry .pre .0) st (at-loop .loop .k) (at-loop-test .loop-test .taken),
+      entry .pre .2,
+    ) in
     search needs
 
 add-k : tie.Need-add-k Inv-loop μ-loop
@@ -81,31 +80,43 @@ loop-less c = search needs
 
 loop-again : tie.Need-loop-again Inv-loop μ-loop
 loop-again c =
-    let entry = c .before .before .before .before .before .before .before .before .before .before .before in
-    let at-loop = c .before .before .before .before .before .before .before in
-    let at-loop-test = c .before .before .before .before .before .before in
-    let at-load = c .before .before .before .before .before in
-    let at-lay = c .before .before in
+    let entry = c .before .before .before .before .before .before .before .before .before .before .before .before .before in
+    let at-loop = c .before .before .before .before .before .before in
+    let at-loop-test = c .before .before .before .before .before in
+    let at-lay-type = c .before .before .before in
     let args = entry .args in
-    let (before, all, reached, front) = at-loop .loop .inv in
-    let less = at-loop-test .loop-test .taken in
-    let from = at-load .load .result in
-    let found = at-load .load .ensures in
-    let here = found .1 (args .scratch .now) in
-    let adds = lay-adds (args .lengths .now) (args .count) (args .scratch .now) (entry .pre .0) (at-loop .loop .k) less (from .start) (from .end) reached (found .0 .0) (found .0 .1) here in
-    let fits = lay-fits (args .lengths .now) (args .count) (args .scratch .now) (entry .pre .0) (at-loop .loop .k) less reached (entry .pre .1) in
-    let next = stack-next (args .lengths .now) (args .scratch .now) (args .result .now) (at-loop .loop .result) (at-loop .loop .at) (at-loop .loop .k) front reached (omega (arith, fits)) in
-    (omega arith, at-lay .lay .kept .1 .0 ∙ all, adds, at-lay .lay .ensures ∙ rw here next)
+    let st₀ = entry .pre .1 in
+    let fits : at-loop .loop .at ≤ length (args .result .now) =
+    omega (
+      arith,
+      at-loop .loop .inv .2 (entry .pre .0) st₀ .0,
+      size-next _ (args .count) (entry .pre .0) st₀ (at-loop .loop .k) (at-loop-test .loop-test .taken),
+      bytes-within _ (args .count)
+          (entry .pre .0) st₀ (at-loop .loop .k) (at-loop-test .loop-test .taken),
+      entry .pre .2,
+    )
+    in (
+      omega arith,
+      at-lay-type .lay-type .kept .1 .1 .1 .1 .1 .1 .0 ∙ at-loop .loop .inv .1,
+      λ ts st.
+          let reached = at-loop .loop .inv .2 ts st in (
+            omega (arith, reached .0, size-next _ (args .count) ts st (at-loop .loop .k) (at-loop-test .loop-test .taken)),
+            laid-next _ (args .count) ts st (at-loop .loop .k) (at-loop-test .loop-test .taken) (args .result .now) (at-loop .loop .result) _ (at-loop .loop .at) (reached .0) (reached .1) fits (at-lay-type .lay-type .ensures),
+          ),
+    )
 
 same-length : tie.Need-same-length Inv-loop μ-loop
-same-length c = c .before .loop .inv .1
+same-length c =
+    let at-loop = c .before in
+    at-loop .loop .inv .1
 
 returns : tie.Need-returns Inv-loop μ-loop
 returns c =
-    let entry = c .before .before .before .before .before in
+    let at-loop = c .before in
+    let entry = c .before .before .before .before .before .before .before .before in
     let args = entry .args in
-    let e : c .before .loop .k ≡ args .count = omega arith in
-    c .before .loop .inv .3 ∙ ap (λ k. over (args .result .now) 0 (stackBytes (args .lengths .now) (args .scratch .now) k)) e
+    let all : at-loop .loop .k ≡ args .count = omega arith in
+    λ ts st. at-loop .loop .inv .2 ts st .1 ∙ ap (over (args .result .now) 0) (bytes-all _ (args .count) ts st all)
 
 pub lay-types-spec : {M : Type 1} → statement M
 lay-types-spec =
@@ -114,12 +125,9 @@ lay-types-spec =
     Inv-loop
     μ-loop
     loop-holds
-    load-requires
-    sub-lay
-    part-lay-start
-    part-lay-end
-    lay-requires
-    sub-at
+    lay-type-requires
+    mul-at
+    shared-slice-read-at
     add-at
     add-k
     loop-less

@@ -1,0 +1,7 @@
+mod Stores
+mod Halfway
+mod SizeLaws
+mod ShapeLaws
+mod PackHeadLaws
+mod UnpackHeadLaws
+mod TypeLaws

@@ -1,0 +1,123 @@
+use Prim.Native.Nat.{ℕ, _-_, _≤_}
+use native.Mathlib.Omega.{arith}
+use mathlib.Core.Path.{refl}
+use lib.ListN.{length, length-replicate}
+use Rattle.machine.specs.Run.{Stack, State}
+use Rattle.stack.specs.Stack.{fullTrays}
+use Rattle.stack.specs.StackLaws.{trays-keep}
+use Rattle.run.proofs.SheetLaws.{stopped-has, run-finished, run-refused}
+use borrow.Author.Needs.{needs}
+use Rattle.run.proofs.sheet.run_large.Statement.{statement}
+use Rattle.run.proofs.sheet.run_large.Tie as tie
+use Rattle.run.proofs.sheet.run_large.Reads as reads
+use Rattle.run.proofs.sheet.run_large.Lts as lts
+use Rattle.run.proofs.sheet.hand_over.Reads as hand-over-reads
+use Rattle.run.proofs.sheet.run_steps.Reads as run-steps-reads
+
+slice-aggregate-run-steps : tie.Need-slice-aggregate-run-steps
+slice-aggregate-run-steps c = search needs
+
+run-steps-requires : tie.Need-run-steps-requires
+run-steps-requires c κs =
+    let entry = c .before .before .before .before .before .before .before .before .before .before .before in
+    let args = entry .args in (
+      entry .pre .0,
+      record {
+        types = entry .pre .1 .1 .types;
+        stacked = trays-keep (args .ends .now) (args .lengths .now) (args .sheet .now) (entry .pre .1 .0) _ (args .scratch .now)
+            (args .count) (entry .pre .2) (entry .pre .1 .1 .types) (entry .pre .1 .1 .stacked);
+      },
+    )
+
+enum-told : tie.Need-enum-told
+enum-told c = search needs
+
+slice-aggregate-hand-over : tie.Need-slice-aggregate-hand-over
+slice-aggregate-hand-over c = search needs
+
+hand-over-requires : tie.Need-hand-over-requires
+hand-over-requires c κs =
+    let entry = c .before .before .before .before .before .before .before .before .before .before .before .before .before .before .before .before .before .before .before .before .before .before .before .before .before .before .before .before in
+    let at-run-steps = c .before .before .before .before .before .before .before .before .before .before .before .before .before .before .before .before in
+    let at-enum-told = c .before .before .before .before .before in
+    let args = entry .args in
+    let st : State Stack = record { stack = entry .pre .1 .1 .types; taken = args .taken } in
+    let stacked = trays-keep (args .ends .now) (args .lengths .now) (args .sheet .now) (entry .pre .1 .0) _ (args .scratch .now) (args .count) (entry .pre .2) (entry .pre .1 .1 .types) (entry .pre .1 .1 .stacked) in
+    stopped-has (at-run-steps .run-steps .result) _ _ (at-run-steps .run-steps .ensures st (record { stacked = stacked; steps = refl })) (at-enum-told .enum-told .given .1)
+
+enum-known-answer : tie.Need-enum-known-answer
+enum-known-answer c = search needs
+
+same-length : tie.Need-same-length
+same-length c = search needs
+
+same-length-2 : tie.Need-same-length-2
+same-length-2 c = search needs
+
+same-length-3 : tie.Need-same-length-3
+same-length-3 c = search needs
+
+same-length-4 : tie.Need-same-length-4
+same-length-4 c = search needs
+
+same-length-5 : tie.Need-same-length-5
+same-length-5 c = search needs
+
+returns : tie.Need-returns
+returns c =
+    let entry = c .before .before .before .before .before .before .before .before .before .before .before .before .before .before .before .before .before .before .before .before
+    .before .before .before .before .before .before .before .before .before .before .before in
+    let at-run-steps = c .before .before .before .before .before .before .before .before .before .before .before .before .before .before .before .before .before .before .before in
+    let at-enum-told = c .before .before .before .before .before .before .before .before in
+    let at-hand-over = c .before .before in
+    let args = entry .args in
+    λ small st h same.
+    let stacked = trays-keep (args .ends .now) (args .lengths .now) (args .sheet .now) small _ (args .scratch .now) (args .count) (entry .pre .2) (st .stack) (h .stacked) in
+    let runs = at-run-steps .run-steps .ensures st (record { stacked = stacked; steps = h .steps }) in
+    let room : fullTrays ≤ length (at-run-steps .run-steps .last .1 .1 .1 .1 .1 .1 .0) = omega (arith, at-run-steps .run-steps .kept .1 .1 .1 .1 .1 .1 .0, length-replicate {A = ℕ} fullTrays 0) in
+    run-finished (at-run-steps .run-steps .result) _ _ runs same (at-enum-told .enum-told .given .1) room λ ts left e. at-hand-over .hand-over .ensures ts left e
+
+same-length-6 : tie.Need-same-length-6
+same-length-6 c = search needs
+
+same-length-7 : tie.Need-same-length-7
+same-length-7 c = search needs
+
+same-length-8 : tie.Need-same-length-8
+same-length-8 c = search needs
+
+same-length-9 : tie.Need-same-length-9
+same-length-9 c = search needs
+
+returns-2 : tie.Need-returns-2
+returns-2 c =
+    let entry = c .before .before .before .before .before .before .before .before .before .before .before .before .before .before .before .before .before .before .before .before .before .before .before .before in
+    let at-run-steps = c .before .before .before .before .before .before .before .before .before .before .before .before in
+    let at-answer = c .before in
+    let args = entry .args in
+    λ small st h same.
+    let stacked = trays-keep (args .ends .now) (args .lengths .now) (args .sheet .now) small _ (args .scratch .now) (args .count) (entry .pre .2) (st .stack) (h .stacked) in
+    let runs = at-run-steps .run-steps .ensures st (record { stacked = stacked; steps = h .steps }) in
+    record { called = run-refused (at-run-steps .run-steps .result) _ _ runs same (at-answer .answer .given .1) _; measured = tt }
+
+pub run-large-spec : {M : Type 1} → statement M
+run-large-spec =
+    tie.close
+    (tie.spec
+    slice-aggregate-run-steps
+    run-steps-requires
+    enum-told
+    slice-aggregate-hand-over
+    hand-over-requires
+    enum-known-answer
+    same-length
+    same-length-2
+    same-length-3
+    same-length-4
+    same-length-5
+    returns
+    same-length-6
+    same-length-7
+    same-length-8
+    same-length-9
+    returns-2)

@@ -1,0 +1,92 @@
+use Prim.Native.Nat.{ℕ, _+_, _-_, _≤_, _<_}
+use native.Mathlib.Omega.{arith}
+use native.Mathlib.Nat.{eq-or-lt-of-le}
+use mathlib.Core.List.{List}
+use mathlib.Core.Logic.{⊎-elim}
+use mathlib.Core.Path.{_≡_, refl, sym, _∙_}
+use lib.ListN.{length, getD}
+use Rattle.stack.specs.Stack.{memory, trayEnd, Keeps}
+use borrow.Author.Needs.{needs}
+use Rattle.stack.proofs.trays.empty_trays.Statement.{statement}
+use Rattle.stack.proofs.trays.empty_trays.Tie as tie
+use Rattle.stack.proofs.trays.empty_trays.Reads as reads
+use Rattle.stack.proofs.trays.empty_trays.Lts as lts
+use Rattle.stack.proofs.trays.put_aside.Reads as put-aside-reads
+
+le-here : {j i : ℕ} → j < i + 1 → j ≤ i
+le-here less = omega arith
+
+abbrev Inv-loop : tie.InvT-loop
+Inv-loop count ends₀ lengths trays scratch₀ i₀ ends scratch i =
+    (i ≤ count) × (length ends ≡ length ends₀) × (length scratch ≡ length scratch₀)
+    × ((s : List ℕ) → Keeps (memory ends₀ lengths s trays scratch₀) count (memory ends lengths s trays scratch))
+    × ((j : ℕ) → j < i → getD ends j 0 ≡ trayEnd → ⊥)
+
+abbrev μ-loop : tie.MeasureT-loop
+μ-loop count ends₀ lengths trays scratch₀ i₀ ends scratch i = count - i
+
+loop-holds : tie.Need-loop-holds Inv-loop μ-loop
+loop-holds c = (search needs, refl, refl, λ s ts h. h, λ j less. absurd (omega arith))
+
+put-aside-requires : tie.Need-put-aside-requires Inv-loop μ-loop
+put-aside-requires c κs =
+    let entry = c .before .before .before .before .before .before .before .before in
+    let at-loop-test = c .before .before in
+    let at-loop = c .before .before .before in
+    let args = entry .args in
+    (entry .pre .0, args .count, at-loop-test .loop-test .taken, record { types = entry .pre .1 .types; stacked = at-loop .loop .inv .3 (entry .pre .0) (entry .pre .1 .types) (entry .pre .1 .stacked) })
+
+add-i : tie.Need-add-i Inv-loop μ-loop
+add-i c = search needs
+
+loop-less : tie.Need-loop-less Inv-loop μ-loop
+loop-less c = search needs
+
+loop-again : tie.Need-loop-again Inv-loop μ-loop
+loop-again c =
+    let at-loop = c .before .before .before .before .before .before .before .before in
+    let at-put-aside = c .before .before .before .before in
+    let entry = c .before .before .before .before .before .before .before .before .before .before .before .before .before in
+    let at-loop-test = c .before .before .before .before .before .before .before in
+    let args = entry .args in
+    let (before, first, second, kept, free) = at-loop .loop .inv in
+    let (now-free, others) = at-put-aside .put-aside .ensures .1 in (
+      omega arith,
+      at-put-aside .put-aside .kept .1 .1 .0 ∙ first,
+      at-put-aside .put-aside .kept .1 .1 .1 .1 .1 .0 ∙ second,
+      λ s ts h. at-put-aside .put-aside .ensures .0 s (args .count) (at-loop-test .loop-test .taken) ts (kept s ts h),
+      λ j less held. ⊎-elim (λ is. now-free refl (rw (← is) held)) (λ lower. free j lower (sym (others j (λ x. omega arith)) ∙ held)) (eq-or-lt-of-le (le-here less)),
+    )
+
+same-length : tie.Need-same-length Inv-loop μ-loop
+same-length c =
+    let at-loop = c .before in
+    at-loop .loop .inv .1
+
+same-length-2 : tie.Need-same-length-2 Inv-loop μ-loop
+same-length-2 c =
+    let at-loop = c .before in
+    at-loop .loop .inv .2
+
+returns : tie.Need-returns Inv-loop μ-loop
+returns c =
+    let at-loop = c .before in
+    let entry = c .before .before .before .before .before .before in
+    let args = entry .args in
+    let all : at-loop .loop .i ≡ args .count = omega arith in
+    (at-loop .loop .inv .3, λ j less. at-loop .loop .inv .4 j (omega arith))
+
+pub empty-trays-spec : {M : Type 1} → statement M
+empty-trays-spec =
+    tie.close
+    (tie.spec
+    Inv-loop
+    μ-loop
+    loop-holds
+    put-aside-requires
+    add-i
+    loop-less
+    loop-again
+    same-length
+    same-length-2
+    returns)

@@ -5,12 +5,13 @@ The paper's cases (a) to (m) come first, then each rule's corners, then those of
 Bytes are built from the paper's notation: `num("2 ?..3")` is [2 ?..3] Num.
 """
 
+import itertools
 import struct
 import sys
 
 sys.dont_write_bytecode = True
 
-from limits import LARGEST, LENT, LINE, SCRATCH, SHEET, STACK, STEPS, TYPE, UNKNOWN
+from limits import LARGEST, LENT, LINE, NAME, RESULT, SCRATCH, SHEET, STACK, STEPS, TYPE, TYPES, UNKNOWN
 from records import boxed, full, kind, largest, named, nested, of, word
 
 BOOL, NAT, INT, NUM, COMPLEX, ASCII, CHAR, STREAM = KINDS = [kind(code) for code in range(8)]
@@ -390,6 +391,11 @@ def sheet_call(scratch, result, *steps):
     return ask("sheet_call", scratch, result, b"".join(steps))
 
 
+def sheet_lent(*steps):
+    """With a scratch just long enough and a result that suffices."""
+    return sheet_call(SCRATCH, RESULT, *steps)
+
+
 def judged():
     """Whether it is the 65th, the mark, the stack, the bytes, the rule: what comes first of two things wrong."""
     three, four, char = num("3"), num("4"), ty("3", CHAR)
@@ -510,8 +516,88 @@ def poured():
     yield from (sheet(put(first), turns, put(first)) for first in tables)
 
 
-# of a scratch: exactly what is asked for, longer, short
-SCRATCHES = (0, 1, SCRATCH - 1, SCRATCH, SCRATCH + 1, 39936, LENT)
+# sizes about the borders of a byte, the smallest and the largest, and ?
+BORDERS = ("0", "1", "255", "256", f"{2**48 - 1}", f"{2**48}", f"{2**52}", f"{LARGEST}", "?")
+LOW, HIGH = " ".join(BORDERS[:8]), " ".join(BORDERS[1:])
+
+
+def kept():
+    """Types of every sort: what is kept of them while others are worked on above must be all of it."""
+    yield from (num(shape) for size in BORDERS for shape in (f"{size} 3", f"3..{size}", f"..{size}"))
+    for shape in ("", "..", LOW, f"{HIGH}..", f"..{HIGH}", f"{LOW}..{HIGH}"):
+        yield from (num(shape), ty("3", box(num(shape))), ty("2 3", fields(num("2"), num(shape))))
+    yield from (ty("..", fields(num("3"), name=name)) for name in (None, b"", b" ", b"n", b"~" * NAME))
+    yield from (ty("..4", fields(*(num(f"{count}") for count in range(many)), name=b"many")) for many in (0, 1, TYPES - 1))
+    yield from (ty("2..", box(around(levels, num("2 3..4")))) for levels in (0, 3, 6))
+    yield from (ty("3", scalar) for scalar in (*KINDS, BOX, ANY))
+
+
+def works(a):
+    """The type put and worked on by each step, so that most of it is left."""
+    beside = ty("", a[a.index(b"SC"):])
+    return (put(a) + check(ty("..", ANY)), put(a) + ROW, put(beside, a) + PERVADE, put(a, a) + JOIN)
+
+
+def told_apart(n, before=""):
+    """The n-th has its size at an index of its own, after ones; of two boxes the union is the later, now the top's, now the other."""
+    own = ("256", f"{2**52}", "255", f"{LARGEST}", f"{2**48 - 1}", "0")[n]
+    closing = (f"{LARGEST}", "5", f"{2**48}", "255", "256", f"{LARGEST - 1}")[n]
+    return ty(before + "1 " * n + own, box(num(f"..{closing}")))
+
+
+def buried():
+    """Types that are worked on, lie under one to five others that are put or worked on, and are dug up and worked on again."""
+    some = check(ty("..", ANY))
+    over = (put(num("6"), num("?")) + PERVADE, put(num("3")), put(ty("2", CHAR)) + some, put(ty("..", ANY)), put(num("4 5")) + ROW)
+    for a in kept():
+        beside = put(ty("", a[a.index(b"SC"):]))
+        for first in works(a):
+            yield sheet_lent(first, *over)
+            yield sheet_lent(first, beside, some, beside, PERVADE * 2)
+    # put or worked on, each with each; left so, and dug up by each step on two, with a row after it or not
+    both = [(put(told_apart(n)), put(told_apart(n, "1 ")) + ROW if n % 2 else put(told_apart(n)) + some) for n in range(STACK)]
+    for height in range(2, STACK + 1):
+        for above in itertools.product(*both[1:height]):
+            yield sheet_lent(both[0][1], *above)
+            yield from (sheet_lent(both[0][1], *above, dig * (height - 1)) for dig in (JOIN, PERVADE, pervade(3), JOIN + ROW, PERVADE + some))
+    # as many as the stack holds, all worked on; down to each height, worked on there, and up again
+    whole = [steps for _, steps in both]
+    for count in range(STACK):
+        for down in (JOIN, PERVADE, pervade(3) + ROW):
+            yield sheet_lent(*whole, down * count)
+            yield sheet_lent(*whole, down * count, some, *whole[STACK - count:])
+            yield sheet_lent(*whole, (down * count + b"".join(whole[STACK - count:])) * 2, ROW, JOIN)
+
+
+def largest_with(letter, fields=None):
+    """A type of 4,992 bytes, eight deep or of so many fields, with its letter for all names, and sizes 0, 1, 2^53 and ? by turns."""
+    name, turns = letter * NAME, (0, 1, LARGEST, UNKNOWN) * 2
+
+    def wide(inside):
+        return of(inside, turns, turns[1:] + turns[:1])
+
+    a = largest(name, wide) if fields is None else wide(named(name, [wide(named(name))] * fields))
+    assert len(a) == TYPE
+    return a
+
+
+def largest_types():
+    """As many of the largest types as the stack holds, worked on by each step, with a scratch one byte short, just long enough and one longer."""
+    pile = [largest_with(letter, fields) for letter, fields in zip((b"a", b"b", b"c", b"d", b"e", b"f"), (None, TYPES - 1) * 3)]
+    some, whole = check(ty("..", ANY)), put(*pile)
+    for step in (ROW, PERVADE, JOIN, some):
+        yield from (sheet_call(scratch, RESULT, whole, step) for scratch in (SCRATCH - 1, SCRATCH, SCRATCH + 1))
+    # each of them worked on before the next is put: in its place, or with another type, for which a full stack has none
+    validated = b"".join(put(a) + some for a in pile)
+    yield from (sheet_call(scratch, RESULT, validated) for scratch in (SCRATCH - 1, SCRATCH, SCRATCH + 1))
+    yield sheet_lent(*(put(a) + ROW for a in pile))
+    yield sheet_lent(*(put(ty("", BOX), a) + PERVADE for a in pile[1:]), put(pile[0]), some)
+    yield sheet_lent(*(put(a, a) + JOIN for a in pile[1:]), put(pile[0]), some)
+    yield from (sheet_lent(validated, down * (STACK - 1)) for down in (JOIN, PERVADE))
+
+
+# of a scratch: exactly what is asked for, longer (also as long as was asked for before), short
+SCRATCHES = (0, 1, SCRATCH - 1, SCRATCH, SCRATCH + 1, 29951, 29952, 39936, LENT)
 
 
 def neighbours(length):
@@ -527,10 +613,10 @@ def buffers():
         for scratch in SCRATCHES:
             yield from (sheet_call(scratch, result, steps) for result in sorted({0, *neighbours(left), *neighbours(count * TYPE), LENT}))
     whole = put(largest()) * STACK
-    for result in (SCRATCH - 1, SCRATCH, SCRATCH + 1):
+    for result in sorted(neighbours(RESULT)):
         yield sheet_call(SCRATCH, result, whole)
-    # every step on a stack full of the largest types
-    for step in (ROW, JOIN, PERVADE, check(ty("..", ANY)), check(largest()), put(three), JOIN * (STACK - 1), PERVADE * (STACK - 1)):
+    # more on a stack full of the largest types, with the program's own buffers
+    for step in (check(largest()), put(three), JOIN * (STACK - 1), PERVADE * (STACK - 1)):
         yield sheet(whole, step)
     yield sheet(whole, JOIN, put(largest()), put(three))
     # the program's own limit
@@ -602,7 +688,7 @@ def lines():
 
 PARTS = (
     cases, dims, shapes, scalars, orders, rows, boxes, looked_up, joins, values, kinds, shape_checks, scalar_checks,
-    grown, counted, reading, judged, worked, stacked, met, poured, buffers, sheet_lines, table, refused, lines,
+    grown, counted, reading, judged, worked, stacked, met, poured, buried, largest_types, buffers, sheet_lines, table, refused, lines,
 )  # fmt: skip
 
 

@@ -9,7 +9,7 @@ import sys
 
 sys.dont_write_bytecode = True
 
-from limits import LARGEST, LENT, LINE, SCRATCH, SHEET, SIZES, STACK, UNKNOWN
+from limits import LARGEST, LENT, LINE, RESULT, SCRATCH, SHEET, SIZES, STACK, UNKNOWN
 
 
 # ---- records, by hand: counts, codes and names may be out of range
@@ -59,12 +59,12 @@ def full(inside):
     return of(inside, [LARGEST] * SIZES, [UNKNOWN] * SIZES)
 
 
-def largest():
+def largest(name=b"sixteen letters!", full=full):
     """32 types, eight deep, each with the longest shape and the longest name: 4,992 bytes."""
-    leaf = ty = full(named(b"sixteen letters!"))
+    leaf = ty = full(named(name))
     for _ in range(6):
-        ty = full(named(b"sixteen letters!", [ty]))
-    return full(named(b"sixteen letters!", [ty] + [leaf] * 24))
+        ty = full(named(name, [ty]))
+    return full(named(name, [ty] + [leaf] * 24))
 
 
 def large():
@@ -197,7 +197,7 @@ def sheets():
     """The longest sheet that the program reads, and one byte more, which only the program refuses for its length."""
     for sheet in (full_sheet(), full_sheet() + b"R"):
         yield "sheet " + word(sheet)
-        yield f"sheet_call {SCRATCH} {SCRATCH} {word(sheet)}"
+        yield f"sheet_call {SCRATCH} {RESULT} {word(sheet)}"
 
 
 def lines():

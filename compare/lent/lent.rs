@@ -5,6 +5,8 @@
 #![allow(dead_code)]
 
 mod buffers;
+#[path = "../oracle/buried.rs"]
+mod buried;
 #[path = "../oracle/bytes.rs"]
 mod bytes;
 #[path = "../oracle/counts.rs"]
@@ -41,7 +43,8 @@ use buffers::{Lent, Pattern};
 use expected::{Expected, refusal, unhex};
 use generate::{SIDES, hex_word};
 use invent::Random;
-use library::{CALLS, Call, SCRATCH, Validation};
+use library::{CALLS, Call, Validation};
+use limits::SCRATCH;
 use std::process::ExitCode;
 use uiua::{Dim, Scalar, ScalarBox, Type};
 
@@ -324,7 +327,7 @@ impl Both {
 
     /// A sheet, and now and then each of its beginnings.
     fn sheets(&mut self, r: &mut Random, turned: fn(&str) -> Expected) {
-        let sheet = sheets::any(r);
+        let sheet = sheets::any(r, generate::sheet_bytes);
         if sheet.len() < 2_000 && r.one_in(300) {
             for end in 0..sheet.len() {
                 self.sheet(r, &sheet[..end], turned);
@@ -343,7 +346,7 @@ impl Both {
         let needed = accepted.bytes.len();
         let more = 1 + r.below(300);
         let under = r.below(SCRATCH);
-        let over = r.pick(&[SCRATCH + more, generate::LONGER, limits::LENT as usize]);
+        let over = if r.one_in(4) { SCRATCH + more } else { r.pick(&generate::LONGER) };
         // A type of any size has room in 4,992 bytes.
         let room = accepted.answer.first as usize * limits::TYPE;
         let buffers = [

@@ -1,10 +1,6 @@
 //! The calls of libvelgrodis.a, as include/velgrodis.h declares them, one table of them by what they take.
 
 use crate::expected::{self, Expected};
-use crate::limits::BUFFER;
-
-/// Bytes that the sheet check asks for as a scratch.
-pub const SCRATCH: usize = BUFFER;
 
 /// The answer of every call, of the three separate validations within theirs. The kind is 0 for a refusal, 1 for a value, 2 for none.
 #[repr(C)]

@@ -1,19 +1,22 @@
 //! Sheets: as the requests have them, and such that go wrong at a place of their own.
 
-use crate::generate::{any_step, put, sheet_bytes};
+use crate::generate::{any_step, put};
 use crate::invent::{self, Random};
 use crate::limits::PLACES;
 use crate::sheet;
 use crate::uiua::{Scalar, Type};
 
-pub fn any(r: &mut Random) -> Vec<u8> {
+/// How sheets are drawn that are as the requests have them.
+type Draw = fn(&mut Random) -> Vec<u8>;
+
+pub fn any(r: &mut Random, draw: Draw) -> Vec<u8> {
     match r.below(12) {
         0 => unjudged(r),
         1 => lone_puts(r),
         2 => of_length(r),
-        3 => broken(r, |r| vec![r.next() as u8, r.next() as u8]),
-        4 => broken(r, |r| [&sheet::PERVADE[..], &[r.next() as u8]].concat()),
-        _ => sheet_bytes(r),
+        3 => broken(r, draw, |r| vec![r.next() as u8, r.next() as u8]),
+        4 => broken(r, draw, |r| [&sheet::PERVADE[..], &[r.next() as u8]].concat()),
+        _ => draw(r),
     }
 }
 
@@ -54,7 +57,7 @@ fn of_length(r: &mut Random) -> Vec<u8> {
 }
 
 /// A sheet with something in between, at the end of one of its steps.
-fn broken(r: &mut Random, what: impl Fn(&mut Random) -> Vec<u8>) -> Vec<u8> {
-    let (before, after) = (sheet_bytes(r), sheet_bytes(r));
+fn broken(r: &mut Random, draw: Draw, what: impl Fn(&mut Random) -> Vec<u8>) -> Vec<u8> {
+    let (before, after) = (draw(r), draw(r));
     [put(&small(r)), put(&small(r)), before, what(r), after].concat()
 }

@@ -1,6 +1,6 @@
 //! Requests that need no seed. `edges`: every limit with its neighbours, every cut of a few types
-//! and sheets, all numbers at borders. `pairs`: all pairs of small shapes and of scalars, and specs of
-//! three sizes on small shapes.
+//! and sheets, all numbers at borders, types that lie under others (buried.rs). `pairs`: all pairs of
+//! small shapes and of scalars, and specs of three sizes on small shapes.
 
 use std::io::Result;
 
@@ -9,8 +9,8 @@ use crate::generate::{Lines, SCRATCHES, SIDES, hex_word, put, validate};
 use crate::invent::{self, BYTES, EDGE_SIZES, NUMBERS};
 use crate::limits::{INPUT, LENT, LINE, PLACES, STEPS, TYPE};
 use crate::requests::{Call, REQUESTS, hex, size};
-use crate::sheet;
 use crate::uiua::{Dim, DynShape, Scalar, ScalarBox, Type};
+use crate::{buried, sheet};
 
 pub fn edges(out: &mut Lines) -> Result<()> {
     samples().iter().try_for_each(|ty| damaged(out, &type_bytes(ty)))?;
@@ -24,6 +24,7 @@ pub fn edges(out: &mut Lines) -> Result<()> {
     sizes(out)?;
     sheets(out)?;
     stacks(out)?;
+    buried::edges(out)?;
     buffers(out)?;
     alone(out)?;
     for length in [LINE - 1, LINE, LINE + 1] {
@@ -180,7 +181,7 @@ fn sheets(out: &mut Lines) -> Result<()> {
 }
 
 /// Bytes cut at each place, and with each of them changed or one more behind them.
-fn harmed(bytes: &[u8]) -> Vec<Vec<u8>> {
+pub fn harmed(bytes: &[u8]) -> Vec<Vec<u8>> {
     let mut all = Vec::new();
     for at in 0..=bytes.len() {
         all.push(bytes[..at].to_vec());
@@ -251,7 +252,7 @@ fn again(out: &mut Lines, down: &[u8], count: usize) -> Result<()> {
     Ok(())
 }
 
-/// A stack full of types of the greatest size, each step on it, and one more put.
+/// A stack full of the largest types, each step on it, and one more put.
 fn largest_types(out: &mut Lines) -> Result<()> {
     let one = put(&invent::largest());
     let [_, join, unfilled, ..] = within();

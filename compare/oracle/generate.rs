@@ -4,16 +4,20 @@ use std::io::{BufWriter, Result, StdoutLock, Write, stdout};
 
 use crate::bytes::type_bytes;
 use crate::invent::{self, Random};
-use crate::limits::{BUFFER, LENT, LINE, PLACES, TYPE};
+use crate::limits::{LENT, LINE, PLACES, SCRATCH, TYPE};
 use crate::requests::{Call, REQUESTS, hex, size};
 use crate::uiua::{Scalar, Type};
-use crate::{edges, sheet, specs};
+use crate::{buried, edges, sheet, specs};
 
 pub const SIDES: [&str; 3] = ["none", "left", "right"];
-/// A scratch far longer than is asked for.
-pub const LONGER: usize = 39_936;
-/// Lengths of a scratch: exactly what is asked for, longer, one short, none.
-pub const SCRATCHES: [usize; 6] = [BUFFER, BUFFER + 1, LONGER, LENT as usize, BUFFER - 1, 0];
+/// Scratches longer than is asked for: by one byte, as long as was asked for before (2026-04, and one
+/// byte less; document 01), and the longest that a request can have.
+pub const LONGER: [usize; 5] = [SCRATCH + 1, 29_951, 29_952, 39_936, LENT as usize];
+/// Lengths of a scratch: exactly what is asked for, longer, one short, far too short.
+pub const SCRATCHES: [usize; 9] = {
+    let [one, before, asked, more, most] = LONGER;
+    [SCRATCH, one, before, asked, more, most, SCRATCH - 1, 1, 0]
+};
 
 pub fn generate(seed: u64, count: u64, mode: &str, words: &[String]) -> Result<()> {
     let mut out = Lines { out: BufWriter::new(stdout().lock()), left: count, words };
@@ -149,14 +153,23 @@ fn numbers(r: &mut Random) -> String {
 fn sheet_call(r: &mut Random) -> String {
     let bytes = sheet_bytes(r);
     let left = sheet::run(&bytes).unwrap_or_default();
-    let scratch = if r.one_in(2) { BUFFER } else { r.pick(&SCRATCHES) };
+    let scratch = if r.one_in(2) { SCRATCH } else { r.pick(&SCRATCHES) };
     // Either what the types left have, or what is enough for so many of any size.
     let needed = if r.one_in(3) { left.len() * TYPE } else { sheet::length(&left) };
     format!(" {scratch} {} {}", around(r, needed), hex_word(&bytes))
 }
 
-/// A sheet of any steps, of puts and pervadings alone, or one that fills the stack; sometimes damaged.
+/// Every third is a sheet whose types lie under others and are dug up again.
 pub fn sheet_bytes(r: &mut Random) -> Vec<u8> {
+    if !r.one_in(3) {
+        return steps_bytes(r);
+    }
+    let bytes = buried::drawn(r);
+    if r.one_in(24) { invent::damaged(r, bytes) } else { bytes }
+}
+
+/// A sheet of any steps, of puts and pervadings alone, or one that fills the stack; sometimes damaged.
+pub fn steps_bytes(r: &mut Random) -> Vec<u8> {
     let bytes = match r.below(30) {
         0 => pervaded(r),
         1..3 => heaped(r),
@@ -241,11 +254,11 @@ pub fn validate(spec: &Type) -> Vec<u8> {
     [&sheet::VALIDATE[..], &type_bytes(spec)].concat()
 }
 
-fn on_two(r: &mut Random) -> Vec<u8> {
+pub fn on_two(r: &mut Random) -> Vec<u8> {
     if r.one_in(3) { sheet::JOIN.into() } else { pervade(r) }
 }
 
-fn pervade(r: &mut Random) -> Vec<u8> {
+pub fn pervade(r: &mut Random) -> Vec<u8> {
     let flag = r.pick(&[0, 0, 1, 1, 2, 2, 3]);
     [&sheet::PERVADE[..], &[flag]].concat()
 }

@@ -63,7 +63,7 @@ pub fn name(r: &mut Random) -> Option<String> {
     r.pick(&names).map(Into::into)
 }
 
-const LONG_NAME: &str = "sixteen letters!";
+pub const LONG_NAME: &str = "sixteen letters!";
 
 pub fn ty(r: &mut Random) -> Type {
     let mut left = r.pick(&[0, 0, 1, 1, 2, 3, 5, 9, 15, TYPES - 1]);
@@ -111,7 +111,7 @@ pub fn largest() -> Type {
     with(vec![with(Vec::new()); COPIES])
 }
 
-fn inside(ty: &mut Type) -> &mut [Type] {
+pub fn inside(ty: &mut Type) -> &mut [Type] {
     match &mut ty.scalar {
         Scalar::Box(ScalarBox::All(ty)) => std::slice::from_mut(ty),
         Scalar::Box(ScalarBox::Def(_, fields)) => fields,

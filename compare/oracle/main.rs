@@ -6,6 +6,7 @@
 //!     oracle kinds                                prints the table of kinds, one number to a line
 
 mod beside;
+mod buried;
 mod bytes;
 mod counts;
 mod edges;

@@ -1,7 +1,7 @@
 //! The sheet: steps on a stack of types (document 01, "The sheet, added").
 
 use crate::bytes::{No, Reader, no, type_bytes};
-use crate::limits::{BUFFER, INPUT, PLACES, STEPS};
+use crate::limits::{INPUT, PLACES, RESULT, SCRATCH, STEPS};
 use crate::uiua::Type;
 use crate::{filled, rules};
 
@@ -13,12 +13,12 @@ pub const VALIDATE: [u8; 2] = *b"VA";
 
 /// The sheet program: limits its input, and lends two buffers that suffice.
 pub fn program(sheet: &[u8]) -> Result<Vec<Type>, No> {
-    if sheet.len() > INPUT { no(7, 0) } else { call(BUFFER, BUFFER, sheet) }
+    if sheet.len() > INPUT { no(7, 0) } else { call(SCRATCH, RESULT, sheet) }
 }
 
 /// The sheet check with buffers of these lengths.
 pub fn call(scratch: usize, result: usize, sheet: &[u8]) -> Result<Vec<Type>, No> {
-    if scratch < BUFFER {
+    if scratch < SCRATCH {
         return no(7, 0);
     }
     let left = run(sheet)?;

@@ -1,9 +1,13 @@
 /* velgrodis.h: the checker of partial array types, for hosts written in C or another language that calls C.
  *
- * Link with libvelgrodis.a (rt staticlib velgrodis; x86-64 Linux). The library holds no state, allocates nothing, and calls
- * nothing of the host's but memcpy, memmove and memset. Every call ends, for every input that a host can hand in, and is proved to
- * answer what its contract says (crates/velgrodis/src), which is put in words here; the bytes of records and sheets are in
- * docs/FORMAT.md. Not proved but measured: a call on types eight deep took less than 40 kB of stack.
+ * Link with libvelgrodis.a (rt staticlib velgrodis; x86-64 Linux). The library keeps nothing between calls, allocates nothing, and
+ * calls nothing of the host's but memcpy, memmove and memset. Every call ends, for every input that a host can hand in, and is proved
+ * to answer what its contract says (crates/velgrodis/src), which is put in words here; the bytes of records and sheets are in
+ * docs/FORMAT.md.
+ *
+ * Beside what it is lent, a call uses the stack of the thread that makes it, and no other memory. A sheet check keeps there what its rules
+ * make, in buffers of 16,000 bytes at most: room for three types and for two small ones. Nothing of that is taken from the scratch or the
+ * result. Not proved but measured: with these a call on types eight deep took less than 40 kB of stack.
  *
  * What the host guarantees, since no proof can:
  * - A length is true: the pointer before it points to as many elements, initialised, readable, and writable where it is not const.
@@ -11,8 +15,9 @@
  *   as one to a byte or a number of the host's own; nothing is read or written there.
  * - What is lent to be written (result, scratch, number, sizes) overlaps nothing else that is lent to the same call. What is only
  *   read may overlap: one type may be handed in twice.
- * - Nobody else writes what is lent while a call runs, nor reads what is lent to be written. Calls on memory of their own may run
- *   side by side.
+ * - Nobody else writes what is lent while a call runs, nor reads what is lent to be written. So two calls may run at the same time, in
+ *   two threads, if what is lent to the one to be written is apart from all that is lent to the other; what both only read, as one
+ *   sheet or one spec, they may share. Parts of one block are apart if they do not overlap (examples/c/two_sheets.c).
  */
 #ifndef VELGRODIS_H
 #define VELGRODIS_H
@@ -39,11 +44,15 @@ extern "C" {
 #define VG_PROGRAM_SHEET_BYTES 49152                /* bytes of a sheet that the program `sheet` reads; a call has no such limit */
 
 /* Bytes that always suffice: for a type, a shape's record or a scalar's; for the list of vg_as_boxes, a name's length and a count
- * before the types; for the types that a sheet leaves. The sheet check asks for a scratch of VG_SCRATCH_BYTES at least, 29,952. */
+ * before the types; for the types that a sheet leaves, 29,952. */
 #define VG_TYPE_BYTES 4992
 #define VG_BOXES_BYTES (2 + VG_MAX_FIELDS * VG_TYPE_BYTES)
 #define VG_SHEET_RESULT_BYTES (VG_MAX_STACK * VG_TYPE_BYTES)
-#define VG_SCRATCH_BYTES (VG_MAX_STACK * VG_TYPE_BYTES)
+
+/* The scratch that the sheet check asks for at least, 25,728 bytes: room for as many types as the stack has places, each of them
+ * packed. How they lie there is the library's affair: a host only lends the bytes. */
+#define VG_PACKED_BYTES 4288
+#define VG_SCRATCH_BYTES (VG_MAX_STACK * VG_PACKED_BYTES)
 
 /* Bytes of the table of kinds, 300, one for each number; and its mark where the boxes' contents decide, which is no kind's code. */
 #define VG_KIND_TABLE_BYTES (3 * VG_KIND_COUNT * VG_KIND_COUNT)
@@ -112,7 +121,10 @@ enum vg_refusal {
  *   At last 7 at the sheet's length, exactly if the types left do not fit into the result. VG_TYPE_BYTES for each of them are always
  *   enough and, since at most VG_MAX_STACK are left, VG_SHEET_RESULT_BYTES for every sheet.
  * A refusal leaves the whole result as lent. Whatever is answered, bytes 0 to VG_SCRATCH_BYTES - 1 of the scratch are then 0 and
- * later ones as lent; a scratch that is too short stays as lent. What the scratch held before makes no difference. */
+ * later ones as lent; a scratch that is too short stays as lent. What the scratch held before makes no difference, and a longer one
+ * changes no answer.
+ * With a result of VG_TYPE_BYTES, room for any one type and for several that have no more bytes together, a check is lent 30,720 bytes
+ * to write to: two such checks may run side by side in a block of 65,536. */
 vg_answer vg_check_sheet(const uint8_t *sheet, size_t sheet_len, uint8_t *result, size_t result_len, uint8_t *scratch, size_t scratch_len);
 
 /* ---- types ----------------------------------------------------------------------------------------------------------------- */

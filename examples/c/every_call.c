@@ -2,44 +2,9 @@
 #include <math.h>
 #include <stdio.h>
 #include <string.h>
-#include "velgrodis.h"
+#include "expect.h"
 
 /* ---- what is handed in ----------------------------------------------------------------------------------------------------- */
-
-typedef struct bytes {
-    uint8_t data[320];
-    size_t length;
-} bytes;
-
-static bytes hex(const char *text)
-{
-    bytes b = {{0}, 0};
-    unsigned byte;
-    for (; *text != 0; text += *text == ' ' ? 1 : 2) {
-        if (*text != ' ' && sscanf(text, "%2x", &byte) == 1) {
-            b.data[b.length++] = (uint8_t)byte;
-        }
-    }
-    return b;
-}
-
-#define OPEN "53480000"
-#define SCALAR "534800ff"
-#define ONE(n) "534801ff" n "00000000000000"
-#define UNKNOWN_ONE "534801ffffffffffffffffff"
-#define TWO(m, n) "534802ff" m "00000000000000" n "00000000000000"
-#define BOOL "534300"
-#define NAT "534301"
-#define INT "534302"
-#define NUM "534303"
-#define COMPLEX "534304"
-#define ASCII "534305"
-#define CHAR "534306"
-#define STREAM "534307"
-#define ANY "534309"
-#define BOX_ANY "534308425800"
-#define ALL "534308425801"
-#define DEF "534308425802016e02" /* named n, two fields */
 
 /* [2] Def n of [] Num and [3] Num. Its fields begin at 21. */
 #define FIELDS SCALAR NUM ONE("03") NUM
@@ -49,39 +14,13 @@ static bytes hex(const char *text)
 
 /* ---- what is answered ------------------------------------------------------------------------------------------------------ */
 
-static unsigned calls, wrong;
 static uint8_t result[VG_KIND_TABLE_BYTES + 20];
-static const uint8_t lent = 0xee;
 static const size_t room = sizeof result;
 
 static uint8_t *fresh(void)
 {
     memset(result, lent, sizeof result);
     return result;
-}
-
-static void expect(const char *what, int good)
-{
-    calls++;
-    if (!good) {
-        wrong++;
-        printf("wrong: %s\n", what);
-    }
-}
-
-static int is(vg_answer a, uint64_t kind, uint64_t number, uint64_t place, uint64_t first, uint64_t second)
-{
-    return a.kind == kind && a.number == number && a.place == place && a.first == first && a.second == second;
-}
-
-static int all_are(uint8_t byte, const uint8_t *data, size_t length)
-{
-    for (size_t i = 0; i < length; i++) {
-        if (data[i] != byte) {
-            return 0;
-        }
-    }
-    return 1;
 }
 
 static int as_lent(size_t from) { return all_are(lent, result + from, sizeof result - from); }
@@ -363,8 +302,6 @@ typedef struct damage {
     uint64_t place;
 } damage;
 
-#define TWO_BOXES SCALAR ALL SCALAR ALL
-
 static const damage damages[] = {
     {"", VG_ENDED, 0},
     {ONE("02"), VG_ENDED, 12},
@@ -509,13 +446,6 @@ static const held in_boxes[] = {
 };
 static const size_t boxes_made = sizeof in_boxes / sizeof in_boxes[0];
 
-static bytes followed(bytes b, bytes more)
-{
-    memcpy(b.data + b.length, more.data, more.length);
-    b.length += more.length;
-    return b;
-}
-
 /* The record of a shape whose sizes have one digit or are ?. */
 static bytes shape(const char *text)
 {
@@ -569,13 +499,6 @@ static void validation(void)
 
 /* ---- the sheet ------------------------------------------------------------------------------------------------------------- */
 
-static uint8_t scratch[2 * VG_SCRATCH_BYTES];
-
-/* Whether the first bytes of the scratch are zero, so many, and all behind them as lent. */
-static int zeroed(size_t length) { return all_are(0, scratch, length) && all_are(lent, scratch + length, sizeof scratch - length); }
-
-static int cleared(void) { return zeroed(VG_SCRATCH_BYTES); }
-
 /* A scratch that holds anything is cleared, whatever is answered. */
 static vg_answer check_bytes(bytes sheet, size_t room_for_types)
 {
@@ -585,10 +508,6 @@ static vg_answer check_bytes(bytes sheet, size_t room_for_types)
 }
 
 static vg_answer check(const char *text, size_t room_for_types) { return check_bytes(hex(text), room_for_types); }
-
-#define PUT "5055"
-#define PERVADE "5056"
-#define VALIDATION "5641"
 
 /* A step validates without side, and a mismatch is at its mark, also one inside a box. */
 static void step(const held *h, const fit *f)
@@ -628,103 +547,7 @@ static void sheets(void)
     expect("an empty sheet", is(check("", 0), VG_VALUE, 0, 0, 0, 0) && as_lent(0) && cleared());
 }
 
-/* ---- the sheet: six types at once, and what is lent ------------------------------------------------------------------------ */
-
-/* A sheet as it is made, and the types that it leaves, bottom first. There is room for two puts more than the stack has places. */
-typedef struct stretch {
-    uint8_t data[(VG_MAX_STACK + 2) * (2 + VG_TYPE_BYTES)];
-    size_t length;
-} stretch;
-
-static stretch made, types_left;
-static uint8_t long_result[VG_SHEET_RESULT_BYTES + 1];
-
-static void append(stretch *s, bytes more)
-{
-    memcpy(s->data + s->length, more.data, more.length);
-    s->length += more.length;
-}
-
-static void begin(void) { made.length = types_left.length = 0; }
-
-/* What a sheet is answered, lent enough: how many types it leaves, or its refusal. */
-typedef struct outcome {
-    uint64_t types;
-    uint64_t number;
-    uint64_t place;
-} outcome;
-
-static outcome leaves(uint64_t types) { return (outcome){types, 0, 0}; }
-
-static outcome refuses(uint64_t number, uint64_t place) { return (outcome){0, number, place}; }
-
-/* The scratch is judged first of all, the result last. */
-static outcome with_lent(outcome o, size_t result_length, size_t scratch_length)
-{
-    if (scratch_length < VG_SCRATCH_BYTES) {
-        return refuses(VG_TOO_SHORT, 0);
-    }
-    return o.number == 0 && result_length < types_left.length ? refuses(VG_TOO_SHORT, made.length) : o;
-}
-
-static int wrote_left(vg_answer a, outcome o)
-{
-    size_t length = o.number == 0 ? types_left.length : 0;
-    return is(a, o.number == 0 ? VG_VALUE : VG_REFUSED, o.number, o.place, o.types, length) && memcmp(long_result, types_left.data, length) == 0 &&
-           all_are(lent, long_result + length, sizeof long_result - length);
-}
-
-static void lend(const char *what, outcome o, size_t result_length, size_t scratch_length)
-{
-    char text[256];
-    vg_answer answer;
-    memset(long_result, lent, sizeof long_result);
-    memset(scratch, lent, sizeof scratch);
-    answer = vg_check_sheet(made.data, made.length, long_result, result_length, scratch, scratch_length);
-    snprintf(text, sizeof text, "%s, a result of %zu, a scratch of %zu", what, result_length, scratch_length);
-    expect(text, wrote_left(answer, with_lent(o, result_length, scratch_length)) && zeroed(scratch_length < VG_SCRATCH_BYTES ? 0 : VG_SCRATCH_BYTES));
-}
-
-/* Checks what was made with every length at which the answer may turn. VG_TYPE_BYTES for each type left are among them. */
-static void lend_each(const char *what, outcome o)
-{
-    const size_t enough = o.types * VG_TYPE_BYTES, exact = types_left.length;
-    const size_t results[] = {0, exact - 1, exact, enough - 1, enough, sizeof long_result};
-    const size_t scratches[] = {0, 1, VG_SCRATCH_BYTES - 1, VG_SCRATCH_BYTES, VG_SCRATCH_BYTES + 1, sizeof scratch};
-    size_t untried = 0;
-    for (size_t i = 0; i < sizeof results / sizeof results[0]; i++) {
-        /* None is tried twice; and more than there is cannot be lent, nor one fewer than none. */
-        if (results[i] >= untried && results[i] <= sizeof long_result) {
-            untried = results[i] + 1;
-            for (size_t j = 0; j < sizeof scratches / sizeof scratches[0]; j++) {
-                lend(what, o, results[i], scratches[j]);
-            }
-        }
-    }
-}
-
 /* ---- the sheet: puts ------------------------------------------------------------------------------------------------------- */
-
-/* One of the 32 types in a largest one: sixteen sizes n, eight of them closing ones, and a Def with a name of sixteen letters. */
-static bytes largest_part(uint8_t n, uint8_t fields)
-{
-    bytes b = hex("53480808");
-    for (size_t i = 0; i < 2 * VG_MAX_SIZES; i++) {
-        b = followed(b, hex("0000000000000000"));
-        b.data[b.length - 8] = n;
-    }
-    b = followed(b, hex("534308425802 10 6e6e6e6e6e6e6e6e6e6e6e6e6e6e6e6e 00"));
-    b.data[b.length - 1] = fields;
-    return b;
-}
-
-static void append_largest(stretch *s, uint8_t n)
-{
-    append(s, largest_part(n, VG_MAX_FIELDS));
-    for (size_t i = 0; i < VG_MAX_FIELDS; i++) {
-        append(s, largest_part(n, 0));
-    }
-}
 
 /* Each puts a type that n tells from the others. */
 static void put_largest(uint8_t n)
@@ -819,8 +642,6 @@ static void and_refused(const char *what, const char *step_made, uint64_t number
     lend_each(what, refuses(number, place));
 }
 
-#define JOIN "4a4e"
-#define ROW "5257"
 #define FOUR ONE("02") NUM ONE("03") NUM ONE("04") NUM SCALAR NUM
 #define PUT_FOUR PUT ONE("02") NUM PUT ONE("03") NUM PUT ONE("04") NUM PUT SCALAR NUM
 
@@ -882,12 +703,6 @@ static void steps_on_a_full_stack(void)
 
 /* ---- the sheet: every other way to be refused ------------------------------------------------------------------------------ */
 
-typedef struct refused_sheet {
-    const char *sheet;
-    uint64_t number;
-    uint64_t place;
-} refused_sheet;
-
 static const refused_sheet refused_sheets[] = {
     {"50", VG_ENDED, 0},
     {PUT, VG_ENDED, 2},
@@ -909,7 +724,9 @@ static const size_t refused_sheets_made = sizeof refused_sheets / sizeof refused
 
 static void lent_to_sheets(void)
 {
-    expect("six types at once", VG_MAX_STACK == 6 && VG_SCRATCH_BYTES == 29952 && VG_SHEET_RESULT_BYTES == 29952 && VG_TYPE_BYTES == 4992);
+    expect("six types at once", VG_MAX_STACK == 6 && VG_SHEET_RESULT_BYTES == 29952 && VG_TYPE_BYTES == 4992);
+    expect("a type in the scratch", VG_PACKED_BYTES == 4288);
+    expect("six types in the scratch", VG_SCRATCH_BYTES == 25728);
     begin();
     append_largest(&types_left, 1);
     fresh();
@@ -941,6 +758,7 @@ int main(void)
     steps();
     sheets();
     lent_to_sheets();
+    worked_types();
     printf("%u calls, %u wrong\n", calls, wrong);
     return wrong == 0 ? 0 : 1;
 }

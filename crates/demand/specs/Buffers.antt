@@ -1,5 +1,5 @@
 -- Document 01, "Thirteen ways of saying no", of each byte of both buffers after the sheet call, whatever the sheet: "Refusals write
--- nothing to the result; scratch bytes 0 to" 29,951, by document 02, 2026-04, "are zero after every call that is lent one, and later ones
+-- nothing to the result; scratch bytes 0 to" 25,727, by document 02, 2026-05, "are zero after every call that is lent one, and later ones
 -- stay; a short scratch stays as lent. Result bytes past the written length stay." Both are as long as before.
 use Prim.Native.Nat.{ℕ, _≤_, _<_}
 use native.Mathlib.Omega.{arith}
@@ -12,7 +12,7 @@ use Rattle.model.specs.Types.{Ty}
 use Rattle.format.specs.Outcome.{Outcome, accepted, refused}
 use Rattle.format.specs.DeliverLaws.{front-stays, front-length}
 use Rattle.machine.specs.SheetLimits.{scratchBytes}
-use Rattle.machine.specs.CallLaws.{Ways, shortScratch, runRefused, shortResult, typesWritten, call-ways}
+use Rattle.machine.specs.CallLaws.{Ways, shortScratch, runRefused, shortResult, typesWritten, call-refuses, call-lacks, call-writes, call-ways}
 use Rattle.machine.specs.Call.{Tally, tally, called, writeTypes, firstZero, zeroed, atFront, sheetCall}
 
 -- ---- a scratch that was zeroed
@@ -116,3 +116,17 @@ module _ (s result scratch : List ℕ) {o : Outcome Tally} {out after : List ℕ
 
   pub result-length : length out ≡ length result
   result-length = resulted (λ same u. rw (← same)) (λ w room fills u. rw (← fills) (front-length w result room))
+
+-- ---- whatever scratch
+
+-- "Every answer is as with the larger one" (document 02, 2026-05): lent as many bytes of scratch as are asked for, a call answers the same and
+-- leaves the same in the result, however many more there are and whatever they held.
+pub scratch-alike : (s result a b : List ℕ) {o : Outcome Tally} {out after : List ℕ} → scratchBytes ≤ length a → scratchBytes ≤ length b
+    → sheetCall s result a ≡ called o out after → sheetCall s result b ≡ called o out (zeroed b)
+scratch-alike s result a b {o} {out} {after} enough-a enough-b e = go (call-ways s result a)
+  where
+    go : Ways s result a → sheetCall s result b ≡ called o out (zeroed b)
+    go (shortScratch l w) = absurd (omega arith)
+    go (runRefused l k p r w) = let h = sym w ∙ e in call-refuses s result b enough-b k p r ∙ cc
+    go (shortResult l ts r m w) = let h = sym w ∙ e in call-lacks s result b enough-b ts r m ∙ cc
+    go (typesWritten l ts r room w) = let h = sym w ∙ e in call-writes s result b enough-b ts r room ∙ cc

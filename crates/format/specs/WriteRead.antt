@@ -57,13 +57,17 @@ module _ {A : Type 0} (most : ℕ) (small : most < absent) where
       go false = refl
   count-ok (some c) h = rw (le-leb (length c) most h)
 
-  optional-ok : (c : Option (List A)) → length (listOf c) ≤ most → optional (countOf c) (listOf c) ≡ c
+  pub optional-ok : (c : Option (List A)) → length (listOf c) ≤ most → optional (countOf c) (listOf c) ≡ c
   optional-ok none h = refl
   optional-ok (some c) h = rw (ne-eqb (length c) absent (λ x. omega arith))
 
   pub listCount-ok : (c : Option (List A)) → length (listOf c) ≤ most → listCount (countOf c) ≡ length (listOf c)
   listCount-ok none h = refl
   listCount-ok (some c) h = rw (ne-eqb (length c) absent (λ x. omega arith))
+
+pub closing-within : (c : Option (List Dim)) → Each DimsWithin c → DimsWithin (listOf c)
+closing-within none h = (lit≤ tt, tt)
+closing-within (some c) h = h
 
 -- ---- records
 
@@ -84,10 +88,6 @@ module _ (s : List ℕ) where
   unfolding readDims
   reads-dims p [] h = reads-give
   reads-dims p (d ∷ ds) h = reads-bind _ (reads-dim p d (h .0)) (reads-last _ (reads-dims p ds (h .1)) refl)
-
-  closing-within : (c : Option (List Dim)) → Each DimsWithin c → (length (listOf c) ≤ maxSizes) × All DimWithin (listOf c)
-  closing-within none h = (lit≤ tt, tt)
-  closing-within (some c) h = h
 
   reads-closing : (p : ℕ) (c : Option (List Dim)) → length (listOf c) ≤ maxSizes → All DimWithin (listOf c) → Reads s (readDims s (listCount (countOf c)) p) (writeDims (listOf c)) (listOf c)
   reads-closing p c few each = rw (listCount-ok maxSizes (lit< tt) c few) (reads-dims p (listOf c) each)

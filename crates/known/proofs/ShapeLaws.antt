@@ -6,7 +6,7 @@ use mathlib.Core.List.{List, [], _∷_, _++_, map, append-assoc, append-nil}
 use mathlib.Core.Option.{Option, none, some}
 use mathlib.Core.Path.{_≡_, refl, sym, _∙_, ap}
 use lib.ListN.{length, getD, take, set, length-append}
-use lib.Dec.{eqb, lit<, lit≤}
+use lib.Dec.{eqb, lit<}
 use borrow.Author.Tests.{ne-eqb}
 use Rattle.model.specs.Limits.{ones, maxSizes}
 use Rattle.model.specs.Types.{Dim, static, unknown, shape, Scalar, Ty, ty, shapeOf}
@@ -16,7 +16,7 @@ use Rattle.format.specs.ReaderLaws.{reads-number}
 use Rattle.format.specs.Records.{absent, dimOf, dimNumber, listCount, countOf, listOf, shapeMark, markBytes, writeDims, writeShape, writeScalar, writeTy}
 use Rattle.format.specs.Suffices.{length-bytesOf, length-writeDims}
 use Rattle.format.specs.Views.{Stands, stands-first, stands-second, stands-nth, stands-within}
-use Rattle.format.specs.WriteRead.{listCount-ok}
+use Rattle.format.specs.WriteRead.{closing-within, listCount-ok}
 use Rattle.record.specs.Answers.{eightBytes, dimsOf}
 use Rattle.record.specs.declared.Dims.{Dims}
 use Rattle.record.proofs.ByteLaws.{number-eight}
@@ -80,10 +80,6 @@ module _ {s : List ℕ} {count : ℕ} {ds : List Dim} {sizes : List ℕ} {i at :
       go (d ∷ r) n x = absurd (omega arith)
 
 -- ---- the record of a shape
-
-closing-within : (c : Option (List Dim)) → Each DimsWithin c → DimsWithin (listOf c)
-closing-within none h = (lit≤ tt, tt)
-closing-within (some c) h = h
 
 is-closed : (c : Option (List Dim)) → Each DimsWithin c → countOf c ≡ absent → c ≡ none
 is-closed none h e = refl

@@ -1,6 +1,6 @@
 // Bytes that are known to be a type: what stands where in them, and one kind put for another. Nothing is judged here. Beside `record`,
-// which judges, `writer`, which writes, and the constant records of `limits`, this crate alone knows where marks stand in a record and
-// how many bytes a size has.
+// which judges, `writer`, which writes, `packing`, which packs and unpacks, and the constant records of `limits`, this crate alone knows
+// where marks stand in a record and how many bytes a size has.
 mod names;
 mod scalars;
 mod shapes;

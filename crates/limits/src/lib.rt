@@ -34,8 +34,10 @@ pub const MAX_STEPS: usize = 64;
 
 pub const MAX_STACK: usize = 6;
 
-// Bytes of a size as it lies in the scratch, and bytes that suffice for any type there.
+// Bytes of a size as it lies in the scratch, the number that stands for an unknown one there, and bytes that suffice for any type.
 pub const PACKED_SIZE: usize = 7;
+
+pub const PACKED_UNKNOWN: u64 = 72057594037927935;
 
 pub const MAX_PACKED: usize = 4288;
 

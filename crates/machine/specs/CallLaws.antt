@@ -8,7 +8,7 @@ use mathlib.Core.Path.{_≡_, refl, _∙_}
 use lib.ListN.{length, take, drop, length-reverse}
 use lib.Seq.{take-append-seam}
 use lib.Dec.{leb, ltb}
-use borrow.Author.Tests.{le-leb, le-ltb, leb-true, leb-false, ltb-true, ltb-false}
+use borrow.Author.Tests.{le-leb, lt-leb, le-ltb, leb-true, leb-false, ltb-true, ltb-false}
 use Rattle.model.specs.Refusals.{tooShort}
 use Rattle.model.specs.Types.{Ty}
 use Rattle.model.specs.Within.{All, Within}
@@ -54,13 +54,18 @@ module _ (s result scratch : List ℕ) where
   unfolding handOver
   call-refuses enough k p run = call-hands-over enough ∙ rw run
 
+  pub call-lacks : scratchBytes ≤ length scratch → (ts : List Ty) → sheetRun s ≡ accepted ts → length result < length (writeTypes ts)
+      → sheetCall s result scratch ≡ called (refused tooShort (length s)) result (zeroed scratch)
+  unfolding handOver
+  call-lacks enough ts run short = call-hands-over enough ∙ rw (run, lt-leb (length (writeTypes ts)) (length result) short)
+
   pub call-ways : Ways
   unfolding sheetCall handOver
   call-ways = go (ltb (length scratch) scratchBytes) refl
     where
       left : scratchBytes ≤ length scratch → (ts : List Ty) → sheetRun s ≡ accepted ts → (b : Bool) → leb (length (writeTypes ts)) (length result) ≡ b → Ways
       left enough ts run true e = let room = leb-true (length (writeTypes ts)) (length result) e in typesWritten enough ts run room (call-writes enough ts run room)
-      left enough ts run false e = shortResult enough ts run (leb-false (length (writeTypes ts)) (length result) e) (call-hands-over enough ∙ rw (run, e))
+      left enough ts run false e = let short = leb-false (length (writeTypes ts)) (length result) e in shortResult enough ts run short (call-lacks enough ts run short)
 
       ran : scratchBytes ≤ length scratch → (o : Outcome (List Ty)) → sheetRun s ≡ o → Ways
       ran enough (refused k p) run = runRefused enough k p run (call-refuses enough k p run)

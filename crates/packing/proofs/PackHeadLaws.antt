@@ -2,39 +2,28 @@
 use Prim.Native.Nat.{ℕ, _+_, _-_, _≤_, _<_}
 use native.Mathlib.Omega.{arith}
 use mathlib.Core.Bool.{Bool}
-use mathlib.Core.List.{List, [], _∷_, _++_, append-assoc}
-use mathlib.Core.Option.{Option}
+use mathlib.Core.List.{List, [], _∷_, _++_}
 use mathlib.Core.Path.{_≡_, refl, sym, _∙_, ap, subst}
 use lib.ListN.{length, take, drop, length-append}
 use Rattle.model.specs.Limits.{maxDepth}
-use Rattle.model.specs.Types.{Kind, bool, nat, int, num, complex, ascii, char, stream, any, Scalar, boxDef, Fields, fieldCount}
-use Rattle.format.specs.Records.{code, countOf, listOf, boxStart, writeScalar, writeFields}
-use Rattle.format.specs.Views.{Stands, stands-first, stands-second, stands-part, stands-within}
+use Rattle.model.specs.Types.{Kind, Scalar, plain, boxDef, fieldCount}
+use Rattle.format.specs.Records.{code, listOf, boxStart, writeScalar}
+use Rattle.format.specs.Views.{Stands, stands-second, stands-part, stands-within}
 use Rattle.known.specs.Known.{ScalarAt, HasScalar, Seen, SeenDef}
 use Rattle.known.specs.declared.View.{View}
 use Rattle.known.specs.declared.View.the-variants.{Plain, BoxAny, BoxAll, BoxDef}
 use Rattle.lent.specs.Over.{over}
-use Rattle.packing.specs.Heads.{held}
+use Rattle.rules.specs.KindTableLaws.{coded-below}
+use Rattle.rules.specs.Order.{codeOf}
+use Rattle.packing.specs.HeadLaws.{head-stands}
+use Rattle.packing.specs.Heads.{heldCount}
 use Rattle.packing.specs.Layouts.{asRecord, asPacked, formIn, defHead, headIn}
 use Rattle.packing.specs.Parts.{ScalarThere, HasHead, After}
 use Rattle.packing.proofs.Halfway.{after-then}
 
 code-small : (k : Kind) → code k < 256
-unfolding code
-code-small bool = omega arith
-code-small nat = omega arith
-code-small int = omega arith
-code-small num = omega arith
-code-small complex = omega arith
-code-small ascii = omega arith
-code-small char = omega arith
-code-small stream = omega arith
-code-small any = omega arith
-
--- a Def's record in three parts
-write-def : (n : Option (List ℕ)) (f : Fields) → writeScalar (boxDef n f) ≡ boxStart 2 ++ (defHead n (fieldCount f) ++ writeFields f)
-unfolding writeScalar
-write-def n f = ap (λ x. boxStart 2 ++ (countOf n ∷ x)) (sym (append-assoc (listOf n) (fieldCount f ∷ []) (writeFields f)))
+unfolding codeOf
+code-small k = omega (arith, coded-below (plain k) {c = code k} refl)
 
 module _ (s : List ℕ) (from : ℕ) where
   known : (k : Scalar) → ScalarThere asRecord s from k → ScalarAt s from maxDepth k
@@ -57,7 +46,7 @@ module _ (s : List ℕ) (from : ℕ) where
         unfolding headIn
         plain-room h = let x = seen e (h .scalar) (h .there) in rw (x .is) at (h .room)
 
-        pub plain-done : {one : List ℕ} → one ≡ over out to (c ∷ []) → (k : Scalar) → ScalarThere asRecord s from k → After from (headIn asRecord k) out to (headIn asPacked k) one end (to + 1) × (_≡_ {A = ℕ} 0 (held k))
+        pub plain-done : {one : List ℕ} → one ≡ over out to (c ∷ []) → (k : Scalar) → ScalarThere asRecord s from k → After from (headIn asRecord k) out to (headIn asPacked k) one end (to + 1) × (_≡_ {A = ℕ} 0 (heldCount k))
         unfolding headIn writeScalar
         plain-done laid k h =
             let x = seen e k h in
@@ -70,7 +59,7 @@ module _ (s : List ℕ) (from : ℕ) where
         unfolding headIn
         any-room h = let x = seen e (h .scalar) (h .there) in rw (x .is) at (h .room)
 
-        pub any-done : {one : List ℕ} → one ≡ over out to (formIn asPacked 0) → (k : Scalar) → ScalarThere asRecord s from k → After from (headIn asRecord k) out to (headIn asPacked k) one end (to + 2) × (_≡_ {A = ℕ} 0 (held k))
+        pub any-done : {one : List ℕ} → one ≡ over out to (formIn asPacked 0) → (k : Scalar) → ScalarThere asRecord s from k → After from (headIn asRecord k) out to (headIn asPacked k) one end (to + 2) × (_≡_ {A = ℕ} 0 (heldCount k))
         unfolding headIn writeScalar
         any-done laid k h =
             let x = seen e k h in
@@ -83,7 +72,7 @@ module _ (s : List ℕ) (from : ℕ) where
         unfolding headIn
         all-room h = let x = seen e (h .scalar) (h .there) in rw (x .is) at (h .room)
 
-        pub all-done : {one : List ℕ} → one ≡ over out to (formIn asPacked 1) → (k : Scalar) → ScalarThere asRecord s from k → After from (headIn asRecord k) out to (headIn asPacked k) one content (to + 2) × (_≡_ {A = ℕ} 1 (held k))
+        pub all-done : {one : List ℕ} → one ≡ over out to (formIn asPacked 1) → (k : Scalar) → ScalarThere asRecord s from k → After from (headIn asRecord k) out to (headIn asPacked k) one content (to + 2) × (_≡_ {A = ℕ} 1 (heldCount k))
         unfolding headIn
         all-done laid k h = let x = seen e k h in rw (x .is) (record { read = x .place; wrote = refl; laid = laid }, refl)
 
@@ -98,10 +87,10 @@ module _ (s : List ℕ) (from : ℕ) where
           title = defHead (x .label) (fieldCount (x .held))
 
           title-stands : Stands s name title
+          unfolding headIn
           title-stands =
-              let parts : Stands s from (boxStart 2 ++ (title ++ writeFields (x .held))) = subst (Stands s from) (ap writeScalar (x .is) ∙ write-def (x .label) (x .held)) (h .stands) in
-              let behind = stands-first s (from + length (boxStart 2)) title (writeFields (x .held)) (stands-second s from (boxStart 2) (title ++ writeFields (x .held)) parts) in
-              subst (λ p. Stands s p title) (sym (x .place)) behind
+              let parts : Stands s from (boxStart 2 ++ title) = subst (λ l. Stands s from (headIn asRecord l)) (x .is) (head-stands asRecord s from k h) in
+              subst (λ p. Stands s p title) (sym (x .place)) (stands-second s from (boxStart 2) title parts)
 
           title-long : fields ≡ name + length title
           title-long = omega (arith, x .behind, length-append (listOf (x .label)) (fieldCount (x .held) ∷ []))
@@ -127,7 +116,7 @@ module _ (s : List ℕ) (from : ℕ) where
             two ≡ over one (to + 2) (take (fields - name) (drop name s)) →
             (k : Scalar) →
             ScalarThere asRecord s from k →
-            After from (headIn asRecord k) out to (headIn asPacked k) two fields (to + 2 + (fields - name)) × (count ≡ held k)
+            After from (headIn asRecord k) out to (headIn asPacked k) two fields (to + 2 + (fields - name)) × (count ≡ heldCount k)
         unfolding headIn
         def-done {one} {two} room started laid k h =
             let y : SeenDef s from maxDepth k name named fields count = seen e k h in

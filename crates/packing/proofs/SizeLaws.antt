@@ -1,22 +1,26 @@
 -- Sizes, one after the other, from one layout to the other.
 use Prim.Native.Nat.{ℕ, _+_, _-_, _≤_, _<_}
+use native.Mathlib.Nat.{add-zero}
 use native.Mathlib.Omega.{arith}
 use mathlib.Core.List.{List, [], _∷_, _++_}
 use mathlib.Core.Path.{_≡_, refl, sym, _∙_, ap, subst}
-use lib.ListN.{length, getD, set, take, drop}
+use lib.ListN.{length}
 use lib.Dec.{lit<}
 use Rattle.model.specs.Types.{Dim}
 use Rattle.model.specs.Within.{All, DimWithin}
-use Rattle.format.specs.Views.{Stands, stands-first, stands-nth, stands-within, stands-part}
-use Rattle.lent.specs.Over.{over, length-over, over-over}
-use Rattle.packing.specs.Layouts.{Layout, asRecord, asPacked, sizeLength, sizeIn, sizesIn}
+use Rattle.format.specs.Reader.{got, number, bytesOf}
+use Rattle.format.specs.ReaderLaws.{reads-number}
+use Rattle.format.specs.Views.{stands-within}
+use Rattle.lent.specs.Over.{over}
+use Rattle.record.proofs.ByteLaws.{low, number-there, number-eight}
+use Rattle.record.specs.Answers.{eightBytes}
+use Rattle.packing.specs.Layouts.{Layout, asRecord, asPacked, sizeLength, sizeNumber, sizeIn, sizesIn}
 use Rattle.packing.specs.Packed.{packedSize}
-use Rattle.packing.specs.PackedOnce.{sizes-once-at}
-use Rattle.packing.specs.PackedSizes.{eighthOf, eighthBy, size-split, eighth-by}
+use Rattle.packing.specs.PackedOnce.{number-small, sizes-once-at}
+use Rattle.packing.specs.PackedSizes.{sevenBytes, unpackedNumber, low-seven, unpacked-number}
 use Rattle.packing.specs.Parts.{SizesThere, HasSizes, After}
 use Rattle.packing.specs.ShapeLaws.{length-sizeIn, sizesIn-none, sizesIn-first}
 use Rattle.packing.proofs.Halfway.{Before, before-first, Halfway, halfway-none, halfway-length, halfway-before, halfway-more, halfway-all}
-use Rattle.packing.proofs.Stores.{one-store}
 
 -- ---- one size
 
@@ -31,55 +35,54 @@ module _ (v w : Layout) (s : List ℕ) (from : ℕ) (out : List ℕ) (to : ℕ) 
   size-room : to + sizeLength w ≤ length out
   size-room = omega (arith, length-sizeIn w d, b .room)
 
+-- Read as a number, it is the number that stands for it.
+abbrev numberAt : Layout → List ℕ → ℕ → ℕ
+numberAt asRecord s at = eightBytes s at
+numberAt asPacked s at = sevenBytes s at
+
+number-at : (v : Layout) (s : List ℕ) (at : ℕ) → at + sizeLength v ≤ length s → number s (sizeLength v) 0 at ≡ got (numberAt v s at) (at + sizeLength v)
+unfolding low
+number-at asRecord s at h = number-eight s 0 at (eightBytes s at) refl h
+number-at asPacked s at h = ap (number s packedSize 0) (sym (add-zero at)) ∙ number-there s 0 at packedSize 0 h ∙ ap (λ n. got n (at + packedSize)) (rw add-zero (omega arith))
+
+module _ (v w : Layout) (s : List ℕ) (from : ℕ) (out : List ℕ) (to : ℕ) (d : Dim) (within : DimWithin d) (b : Before s from (sizeIn v d) out to (sizeIn w d)) where
+  number-is : numberAt v s from ≡ sizeNumber v d
+  number-is =
+      let read = number-at v s from (size-reads v w s from out to d b) in
+      let told = reads-number (sizeLength v) 0 (sizeNumber v d) (number-small v d within) .run from _ (b .stands .is) in
+      cc
+
+  -- Written as the number that stands for it in the other layout, it is done.
+  size-done : {one : List ℕ} → one ≡ over out to (sizeIn w d) → After from (sizeIn v d) out to (sizeIn w d) one (from + sizeLength v) (to + sizeLength w)
+  size-done laid = record { read = omega (arith, length-sizeIn v d); wrote = omega (arith, length-sizeIn w d); laid = laid }
+
 module _ (s : List ℕ) (from : ℕ) (out : List ℕ) (to : ℕ) where
-  -- The first seven bytes of its record are the size, packed.
   pub size-packed :
-      {one : List ℕ} →
-      one ≡ over out to (take packedSize (drop from s)) →
+      {one : List ℕ}
+      {n : ℕ} →
+      n ≡ eightBytes s from →
+      one ≡ over out to (bytesOf packedSize n) →
       (d : Dim) →
       DimWithin d →
       Before s from (sizeIn asRecord d) out to (sizeIn asPacked d) →
       After from (sizeIn asRecord d) out to (sizeIn asPacked d) one (from + 8) (to + packedSize)
-  size-packed laid d within b =
-      let front : Stands s from (sizeIn asPacked d) = stands-first s from (sizeIn asPacked d) (eighthOf d ∷ []) (rw (size-split d within) at (b .stands)) in
-      let bytes : take packedSize (drop from s) ≡ sizeIn asPacked d = rw (length-sizeIn asPacked d) at (stands-part s from (sizeIn asPacked d) front) in
-      record {
-        read = omega (arith, length-sizeIn asRecord d);
-        wrote = omega (arith, length-sizeIn asPacked d);
-        laid = laid ∙ ap (over out to) bytes;
-      }
+  size-packed is laid d within b =
+      let number = is ∙ number-is asRecord asPacked s from out to d within b in
+      size-done asRecord asPacked s from out to d within b (laid ∙ ap (λ n. over out to (bytesOf packedSize n)) number ∙ ap (over out to) (low-seven d))
 
-  -- With an eighth byte by its seventh, they are its record.
   pub size-unpacked :
-      {one two : List ℕ}
-      {x : ℕ} →
-      one ≡ over out to (take packedSize (drop from s)) →
-      x ≡ eighthBy (getD s (from + 6) 0) →
-      two ≡ set one (to + packedSize) x →
+      {one : List ℕ}
+      {m n : ℕ} →
+      m ≡ sevenBytes s from →
+      n ≡ unpackedNumber m →
+      one ≡ over out to (bytesOf 8 n) →
       (d : Dim) →
       DimWithin d →
       Before s from (sizeIn asPacked d) out to (sizeIn asRecord d) →
-      After from (sizeIn asPacked d) out to (sizeIn asRecord d) two (from + packedSize) (to + 8)
-  size-unpacked {one} {two} {x} laid e stored d within b =
-      let seven : List ℕ = sizeIn asPacked d in
-      let long : length seven ≡ packedSize = length-sizeIn asPacked d in
-      let bytes : take packedSize (drop from s) ≡ seven = rw long at (stands-part s from seven (b .stands)) in
-      let last : x ≡ eighthOf d = e ∙ ap eighthBy (stands-nth s from seven 6 (omega (arith, long)) (b .stands)) ∙ eighth-by d within in
-      let fits : to + length seven ≤ length out = omega (arith, long, length-sizeIn asRecord d, b .room) in
-      let one-is : one ≡ over out to seven = laid ∙ ap (over out to) bytes in
-      let room : to + packedSize + 1 ≤ length one = omega (arith, length-sizeIn asRecord d, b .room, ap length one-is, length-over out to seven fits) in
-      record {
-        read = omega (arith, long);
-        wrote = omega (arith, length-sizeIn asRecord d);
-        laid =
-            stored
-            ∙ one-store one (to + packedSize) x room
-            ∙ ap (λ o. over o (to + packedSize) (x ∷ [])) one-is
-            ∙ ap (λ n. over (over out to seven) (to + n) (x ∷ [])) (sym long)
-            ∙ over-over out to seven fits (x ∷ [])
-            ∙ ap (λ y. over out to (seven ++ (y ∷ []))) last
-            ∙ ap (over out to) (sym (size-split d within));
-      }
+      After from (sizeIn asPacked d) out to (sizeIn asRecord d) one (from + packedSize) (to + 8)
+  size-unpacked is told laid d within b =
+      let number = told ∙ ap unpackedNumber (is ∙ number-is asPacked asRecord s from out to d within b) ∙ unpacked-number d within in
+      size-done asPacked asRecord s from out to d within b (laid ∙ ap (λ n. over out to (bytesOf 8 n)) number)
 
 -- ---- so many
 

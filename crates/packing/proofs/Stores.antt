@@ -14,3 +14,12 @@ pub two-stores : (out : List ℕ) (at a b : ℕ) → at + 2 ≤ length out → s
 two-stores out at a b fits =
     let stores : set (set out at a) (at + 1) b ≡ sets out at (a ∷ b ∷ []) = simp unary-clauses in
     stores ∙ sets-eq (a ∷ b ∷ []) out at fits
+
+module _ (out : List ℕ) (at a b c d e f g : ℕ) where
+  abbrev stored : List ℕ
+  stored = set (set (set (set (set (set (set out at a) (at + 1) b) (at + 2) c) (at + 3) d) (at + 4) e) (at + 5) f) (at + 6) g
+
+  pub seven-stores : at + 7 ≤ length out → stored ≡ over out at (a ∷ b ∷ c ∷ d ∷ e ∷ f ∷ g ∷ [])
+  seven-stores fits =
+      let stores : stored ≡ sets out at (a ∷ b ∷ c ∷ d ∷ e ∷ f ∷ g ∷ []) = simp unary-clauses in
+      stores ∙ sets-eq (a ∷ b ∷ c ∷ d ∷ e ∷ f ∷ g ∷ []) out at fits

@@ -10,39 +10,38 @@ use Rattle.model.specs.Within.{Within}
 use Rattle.format.specs.Views.{Stands, stands-all, stands-first}
 use Rattle.format.specs.Records.{writeTy}
 use Rattle.lent.specs.Over.{over}
-use Rattle.packing.specs.Coming.{count-contents, Coming, coming-alone, coming-contents, coming-shape, coming-scalar, coming-few, coming-shallow, coming-count, count-alone, none-coming, some-coming}
-use Rattle.packing.specs.HeadLaws.{fieldsIn-none, fieldsIn-alone, scalarIn-head, fieldsIn-head}
-use Rattle.packing.specs.Heads.{alone, contents, held}
+use Rattle.packing.specs.Coming.{count-contents, Coming, coming-oneField, coming-contents, coming-shape, coming-scalar, coming-few, coming-shallow, coming-count, count-oneField, none-coming, some-coming}
+use Rattle.packing.specs.HeadLaws.{fieldsIn-none, fieldsIn-oneField, scalarIn-head, fieldsIn-head}
+use Rattle.packing.specs.Heads.{oneField, contents, heldCount}
 use Rattle.packing.specs.Layouts.{Layout, asRecord, asPacked, shapeIn, headIn, scalarIn, fieldsIn, typeIn}
 use Rattle.packing.specs.Packed.{Packable, Packs, Unpackable, Unpacks}
-use Rattle.packing.specs.PackedLaws.{packed-suffices}
 use Rattle.packing.specs.PackedOnce.{type-once-at}
 use Rattle.packing.specs.Parts.{ShapeThere, ScalarThere, HasShape, HasHead, After}
 use Rattle.packing.proofs.Halfway.{Before, before-first, Halfway, halfway-none, halfway-length, halfway-before, halfway-more, halfway-all}
 use Rattle.packing.proofs.ShapeLaws.{countsLength-least, shape-least, shape-reads}
 
 -- A type that lies in one layout, and room for it in the other.
-pub record HasType (v w : Layout) (s : List ℕ) (from : ℕ) (out : List ℕ) (to : ℕ) : Type 0 where
+pub record TypeAsked (v w : Layout) (s : List ℕ) (from : ℕ) (out : List ℕ) (to : ℕ) : Type 0 where
   pub type : Ty
   pub within : Within type
   pub before : Before s from (typeIn v type) out to (typeIn w type)
 
 -- Of the type asked for, so many types are left, those inside them not counted.
 pub record TypesLeft (v w : Layout) (s : List ℕ) (start : ℕ) (out₀ : List ℕ) (place : ℕ) (out : List ℕ) (from to left : ℕ) : Type 0 where
-  pub asked : HasType v w s start out₀ place
+  pub asked : TypeAsked v w s start out₀ place
   pub fields : Fields
   pub coming : Coming fields
   pub counted : fieldCount fields ≡ left
   pub halfway : Halfway start (typeIn v (asked .type)) out₀ place (typeIn w (asked .type)) out from to (fieldsIn v fields) (fieldsIn w fields)
 
 module _ {v w : Layout} {s : List ℕ} {start : ℕ} {out₀ : List ℕ} {place : ℕ} where
-  pub types-none : HasType v w s start out₀ place → TypesLeft v w s start out₀ place out₀ start place 1
+  pub types-none : TypeAsked v w s start out₀ place → TypesLeft v w s start out₀ place out₀ start place 1
   types-none h = record {
     asked = h;
-    fields = alone (h .type);
-    coming = coming-alone (h .type) (h .within);
-    counted = count-alone (h .type);
-    halfway = rw (fieldsIn-alone v (h .type), fieldsIn-alone w (h .type)) halfway-none;
+    fields = oneField (h .type);
+    coming = coming-oneField (h .type) (h .within);
+    counted = count-oneField (h .type);
+    halfway = rw (fieldsIn-oneField v (h .type), fieldsIn-oneField w (h .type)) halfway-none;
   }
 
   module _ {out : List ℕ} {from to left : ℕ} (h : TypesLeft v w s start out₀ place out from to left) where
@@ -100,7 +99,7 @@ module _ {v w : Layout} {s : List ℕ} {start : ℕ} {out₀ : List ℕ} {place 
         module _
             {out₂ : List ℕ}
             {from₂ to₂ count : ℕ}
-            (headed : (k : Scalar) → ScalarThere v s from₁ k → After from₁ (headIn v k) out₁ to₁ (headIn w k) out₂ from₂ to₂ × (count ≡ held k)) where
+            (headed : (k : Scalar) → ScalarThere v s from₁ k → After from₁ (headIn v k) out₁ to₁ (headIn w k) out₂ from₂ to₂ × (count ≡ heldCount k)) where
           pub next-left : TypesLeft v w s start out₀ place out₂ from₂ to₂ (left - 1 + count)
           next-left = next λ o k f coming counted way.
               let (done, many) = headed k (scalar-stands o k f coming way) in
@@ -130,17 +129,17 @@ module _ {v w : Layout} {s : List ℕ} {start : ℕ} {out₀ : List ℕ} {place 
 
 -- ---- what is asked of packing and of unpacking, and what they answer
 
-pub packable : {s out : List ℕ} {to : ℕ} → Packable s out to → HasType asRecord asPacked s 0 out to
+pub packable : {s out : List ℕ} {to : ℕ} → Packable s out to → TypeAsked asRecord asPacked s 0 out to
 packable {s} h = record {
   type = h .type;
   within = h .within;
-  before = record { stands = stands-all s (writeTy (h .type)) (sym (h .bytes)); room = omega (arith, h .room, packed-suffices (h .type) (h .within)) };
+  before = record { stands = stands-all s (writeTy (h .type)) (sym (h .bytes)); room = h .room };
 }
 
 pub packs : {s out₀ : List ℕ} {place : ℕ} {out : List ℕ} {from to left : ℕ} → left ≡ 0 → TypesLeft asRecord asPacked s 0 out₀ place out from to left → Packs s out₀ place out
 packs {s} ended h t within bytes = types-all h ended t within (stands-all s (writeTy t) (sym bytes))
 
-pub unpackable : {s : List ℕ} {from : ℕ} {out : List ℕ} {to : ℕ} → Unpackable s from out to → HasType asPacked asRecord s from out to
+pub unpackable : {s : List ℕ} {from : ℕ} {out : List ℕ} {to : ℕ} → Unpackable s from out to → TypeAsked asPacked asRecord s from out to
 unpackable h = record { type = h .type; within = h .within; before = record { stands = h .stands; room = h .room } }
 
 pub unpacks : {s : List ℕ} {start : ℕ} {out₀ : List ℕ} {place : ℕ} {out : List ℕ} {from to left : ℕ} → left ≡ 0 → TypesLeft asPacked asRecord s start out₀ place out from to left → Unpacks s start out₀ place out

@@ -2,12 +2,12 @@
 use Prim.Native.Nat.{ℕ, _+_, _-_, _≤_, _<_}
 use native.Mathlib.Omega.{arith}
 use native.Mathlib.Nat.{add-zero}
-use mathlib.Core.List.{List, [], _∷_, _++_, append-nil}
+use mathlib.Core.List.{List, [], _∷_, _++_}
 use mathlib.Core.Option.{Option}
 use mathlib.Core.Path.{_≡_, refl, sym, _∙_, ap}
 use lib.Dec.{lit<}
 use lib.ListN.{length, getD, take, drop, length-append}
-use Rattle.model.specs.Types.{Scalar, plain, boxAny, boxAll, boxDef, Fields, noFields, fieldCount}
+use Rattle.model.specs.Types.{Scalar, plain, boxAny, boxAll, boxDef, Fields, fieldCount}
 use Rattle.model.specs.Within.{ScalarWithin}
 use Rattle.format.specs.Records.{boxCode, boxStart, countOf, listOf}
 use Rattle.format.specs.Views.{Stands, stands-first, stands-second, stands-byte, stands-nth, stands-within, stands-part}
@@ -18,9 +18,9 @@ use Rattle.rules.specs.Order.{codeOf}
 use Rattle.rules.specs.OrderLaws.{code-box}
 use Rattle.rules.specs.Views.{formOf, is-box-any, is-box-all, is-box-def, is-box-def-else}
 use Rattle.writer.specs.Kinds.{kindRecord}
-use Rattle.packing.specs.Heads.{contents, held}
-use Rattle.packing.specs.HeadLaws.{fieldsIn-none, scalarIn-head}
-use Rattle.packing.specs.Layouts.{Layout, asRecord, asPacked, formIn, defHead, headIn, scalarIn, fieldsIn}
+use Rattle.packing.specs.Heads.{heldCount}
+use Rattle.packing.specs.HeadLaws.{head-stands}
+use Rattle.packing.specs.Layouts.{asRecord, asPacked, formIn, defHead, headIn}
 use Rattle.packing.specs.Parts.{ScalarThere, DefThere, HasHead, HasDef, After}
 use Rattle.packing.proofs.Halfway.{Before, before-second, after-then}
 
@@ -113,7 +113,7 @@ plain-record boxAny e = absurd (e refl)
 plain-record (boxAll s k) e = absurd (e refl)
 plain-record (boxDef n g) e = absurd (e refl)
 
-plain-long : (k : Scalar) → (codeOf k ≡ boxCode → ⊥) → (length (headIn asPacked k) ≡ 1) × (held k ≡ 0)
+plain-long : (k : Scalar) → (codeOf k ≡ boxCode → ⊥) → (length (headIn asPacked k) ≡ 1) × (heldCount k ≡ 0)
 unfolding headIn codeOf
 plain-long (plain k) e = (refl, refl)
 plain-long boxAny e = absurd (e refl)
@@ -126,12 +126,6 @@ box-record (plain k) e = absurd (code-box k e)
 box-record boxAny e = omega arith
 box-record (boxAll s k) e = omega arith
 box-record (boxDef n g) e = omega arith
-
--- What stands there with its contents stands there without them.
-head-stands : (v : Layout) (s : List ℕ) (from : ℕ) (k : Scalar) → ScalarThere v s from k → Stands s from (headIn v k)
-head-stands v s from k h =
-    let parts : scalarIn v k ≡ headIn v k ++ fieldsIn v (contents k noFields) = sym (ap (λ x. scalarIn v k ++ x) (fieldsIn-none v) ∙ append-nil (scalarIn v k)) ∙ scalarIn-head v k noFields in
-    stands-first s from (headIn v k) (fieldsIn v (contents k noFields)) (rw parts at (h .stands))
 
 module _ (s : List ℕ) (from : ℕ) where
   abbrev There : Scalar → Type 0
@@ -166,7 +160,7 @@ module _ (s : List ℕ) (from : ℕ) where
             one ≡ over out to (kindRecord x) →
             (k : Scalar) →
             There k →
-            After from (headIn asPacked k) out to (headIn asRecord k) one (from + 1) next × (_≡_ {A = ℕ} 0 (held k))
+            After from (headIn asPacked k) out to (headIn asRecord k) one (from + 1) next × (_≡_ {A = ℕ} 0 (heldCount k))
         plain-done {one} {next} place laid k h =
             let e = not-box k h in
             let bytes : headIn asRecord k ≡ kindRecord x = plain-record k e ∙ ap kindRecord (sym (code-is k h)) in
@@ -198,13 +192,13 @@ module _ (s : List ℕ) (from : ℕ) where
           form-done laid e = record { read = refl; wrote = place; laid = laid ∙ ap (λ n. over out to (boxStart n)) e }
 
           module _ {one : List ℕ} (laid : one ≡ over out to (boxStart y)) where
-            pub any-done : y ≡ 0 → (k : Scalar) → There k → After from (headIn asPacked k) out to (headIn asRecord k) one (from + 2) next × (_≡_ {A = ℕ} 0 (held k))
+            pub any-done : y ≡ 0 → (k : Scalar) → There k → After from (headIn asPacked k) out to (headIn asRecord k) one (from + 2) next × (_≡_ {A = ℕ} 0 (heldCount k))
             unfolding headIn
             any-done e k h =
                 let is : k ≡ boxAny = is-box-any k (form-is k h ∙ e) in
                 rw is (form-done laid e, refl)
 
-            pub all-done : y ≡ 1 → (k : Scalar) → There k → After from (headIn asPacked k) out to (headIn asRecord k) one (from + 2) next × (_≡_ {A = ℕ} 1 (held k))
+            pub all-done : y ≡ 1 → (k : Scalar) → There k → After from (headIn asPacked k) out to (headIn asRecord k) one (from + 2) next × (_≡_ {A = ℕ} 1 (heldCount k))
             unfolding headIn
             all-done e k h = is-box-all k (form-is k h ∙ e) λ o l is. rw is (form-done laid e, refl)
 
@@ -240,7 +234,7 @@ module _ (s : List ℕ) (from : ℕ) where
                   ((n : Option (List ℕ)) (c : ℕ) → DefThere s (from + 2) n c → After (from + 2) (defHead n c) one next (defHead n c) two from₁ to₁ × (count ≡ c)) →
                   (k : Scalar) →
                   There k →
-                  After from (headIn asPacked k) out to (headIn asRecord k) two from₁ to₁ × (count ≡ held k)
+                  After from (headIn asPacked k) out to (headIn asRecord k) two from₁ to₁ × (count ≡ heldCount k)
               unfolding headIn
               rest-done room titled k h = def-parts k h λ n g is done there.
                   let (behind, counted) = titled n (fieldCount g) there in

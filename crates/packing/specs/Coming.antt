@@ -5,7 +5,7 @@ use mathlib.Core.Path.{_≡_, refl}
 use Rattle.model.specs.Limits.{maxTypes, maxDepth}
 use Rattle.model.specs.Types.{Shape, Scalar, plain, boxAny, boxAll, boxDef, Fields, noFields, field, Ty, ty, fieldCount, inside, among, below, deepest}
 use Rattle.model.specs.Within.{ShapeWithin, ScalarWithin, FieldsWithin, Within}
-use Rattle.packing.specs.Heads.{alone, andFields, contents, held}
+use Rattle.packing.specs.Heads.{oneField, andFields, contents, heldCount}
 
 -- ---- some fields before others
 
@@ -29,7 +29,7 @@ deepest-andFields (field s k f) g n h i = omega (arith, deepest-andFields f g n 
 
 -- ---- a scalar's contents before others
 
-pub count-contents : (k : Scalar) (f : Fields) → fieldCount (contents k f) ≡ held k + fieldCount f
+pub count-contents : (k : Scalar) (f : Fields) → fieldCount (contents k f) ≡ heldCount k + fieldCount f
 count-contents (plain k) f = omega arith
 count-contents boxAny f = omega arith
 count-contents (boxAll s k) f = omega arith
@@ -64,9 +64,9 @@ pub record Coming (f : Fields) : Type 0 where
   pub shallow : deepest f ≤ maxDepth
 
 -- at first the type alone
-pub coming-alone : (t : Ty) → Within t → Coming (alone t)
+pub coming-oneField : (t : Ty) → Within t → Coming (oneField t)
 unfolding among deepest
-coming-alone (ty o k) w = record {
+coming-oneField (ty o k) w = record {
   records = (w .records .0, w .records .1, tt);
   few = omega (arith, w .few);
   shallow = omega (arith, w .shallow);
@@ -105,8 +105,8 @@ count-among (field s k f) = omega (arith, count-among f)
 pub coming-count : (f : Fields) → Coming f → fieldCount f ≤ maxTypes
 coming-count f h = omega (arith, count-among f, h .few)
 
-pub count-alone : (t : Ty) → fieldCount (alone t) ≡ 1
-count-alone (ty o k) = refl
+pub count-oneField : (t : Ty) → fieldCount (oneField t) ≡ 1
+count-oneField (ty o k) = refl
 
 -- by how many are to come: none, or a first and others
 pub none-coming : (f : Fields) → fieldCount f ≡ 0 → f ≡ noFields

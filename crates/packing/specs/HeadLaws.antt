@@ -4,9 +4,11 @@ use mathlib.Core.List.{List, [], _∷_, _++_, append-assoc, append-nil}
 use mathlib.Core.Path.{_≡_, refl, sym, _∙_, ap}
 use Rattle.model.specs.Types.{Shape, Scalar, plain, boxAny, boxAll, boxDef, Fields, noFields, field, Ty, ty, fieldCount}
 use Rattle.format.specs.Records.{countOf, listOf, writeShape, writeScalar, writeFields, writeTy}
+use Rattle.format.specs.Views.{Stands, stands-first}
 use Rattle.packing.specs.Packed.{packShape, packScalar, packFields, packTy}
-use Rattle.packing.specs.Heads.{alone, andFields, contents}
+use Rattle.packing.specs.Heads.{oneField, andFields, contents}
 use Rattle.packing.specs.Layouts.{Layout, asRecord, asPacked, shapeIn, formIn, defHead, headIn, scalarIn, fieldsIn, typeIn}
+use Rattle.packing.specs.Parts.{ScalarThere}
 
 -- ---- fields, one after the other
 
@@ -20,10 +22,10 @@ unfolding writeFields packFields
 fieldsIn-first asRecord o k f = refl
 fieldsIn-first asPacked o k f = refl
 
-pub fieldsIn-alone : (v : Layout) (t : Ty) → fieldsIn v (alone t) ≡ typeIn v t
+pub fieldsIn-oneField : (v : Layout) (t : Ty) → fieldsIn v (oneField t) ≡ typeIn v t
 unfolding writeFields packFields writeTy packTy
-fieldsIn-alone asRecord (ty o k) = append-nil (writeShape o ++ writeScalar k)
-fieldsIn-alone asPacked (ty o k) = append-nil (packShape o ++ packScalar k)
+fieldsIn-oneField asRecord (ty o k) = append-nil (writeShape o ++ writeScalar k)
+fieldsIn-oneField asPacked (ty o k) = append-nil (packShape o ++ packScalar k)
 
 -- some before others
 fieldsIn-andFields : (v : Layout) (f g : Fields) → fieldsIn v (andFields f g) ≡ fieldsIn v f ++ fieldsIn v g
@@ -65,3 +67,9 @@ fieldsIn-head v o k f =
     fieldsIn-first v o k f
     ∙ append-assoc (shapeIn v o) (scalarIn v k) (fieldsIn v f)
     ∙ ap (λ x. shapeIn v o ++ x) (scalarIn-head v k f)
+
+-- What stands there with its contents stands there without them.
+pub head-stands : (v : Layout) (s : List ℕ) (from : ℕ) (k : Scalar) → ScalarThere v s from k → Stands s from (headIn v k)
+head-stands v s from k h =
+    let parts : scalarIn v k ≡ headIn v k ++ fieldsIn v (contents k noFields) = sym (ap (λ x. scalarIn v k ++ x) (fieldsIn-none v) ∙ append-nil (scalarIn v k)) ∙ scalarIn-head v k noFields in
+    stands-first s from (headIn v k) (fieldsIn v (contents k noFields)) (rw parts at (h .stands))

@@ -1,11 +1,11 @@
--- A type as a row of heads, each a shape and a scalar up to its contents, with the contents behind it. What a loop over the heads has still
--- to come is a list of fields: at first the type alone; past a head, the contents of its scalar and then what was still to come.
+-- A type as a row of shapes and heads, a head being a scalar up to its contents, which stand behind it. What a loop over them has still to
+-- come is a list of fields: at first the type alone; past a head, the contents of its scalar and then what was still to come.
 use Prim.Native.Nat.{ℕ}
 use Rattle.model.specs.Types.{Scalar, plain, boxAny, boxAll, boxDef, Fields, noFields, field, Ty, ty, fieldCount}
 
 -- a type alone
-abbrev pub alone : Ty → Fields
-alone (ty o k) = field o k noFields
+abbrev pub oneField : Ty → Fields
+oneField (ty o k) = field o k noFields
 
 -- some fields before others
 abbrev pub andFields : Fields → Fields → Fields
@@ -20,8 +20,8 @@ contents (boxAll s k) f = field s k f
 contents (boxDef n g) f = andFields g f
 
 -- how many types it holds, those inside them left out
-abbrev pub held : Scalar → ℕ
-held (plain k) = 0
-held boxAny = 0
-held (boxAll s k) = 1
-held (boxDef n g) = fieldCount g
+abbrev pub heldCount : Scalar → ℕ
+heldCount (plain k) = 0
+heldCount boxAny = 0
+heldCount (boxAll s k) = 1
+heldCount (boxDef n g) = fieldCount g

@@ -8,3 +8,4 @@ pub mod Coming
 pub mod PackedLaws
 pub mod PackedOnce
 pub mod Parts
+pub mod Examples

@@ -10,7 +10,6 @@ use Rattle.format.specs.Reader.{bytesOf}
 use Rattle.format.specs.Records.{code, boxCode, countOf, listOf, writeTy}
 use Rattle.format.specs.Views.{Stands}
 use Rattle.lent.specs.Over.{over}
-use Rattle.machine.specs.SheetLimits.{maxPacked}
 
 -- ---- what is packed
 
@@ -51,12 +50,12 @@ packTy (ty s k) = packShape s ++ packScalar k
 
 -- ---- what packing and unpacking do
 
--- A type within the limits, whose record these bytes are, and a buffer with room for any type packed, from place `at` on.
+-- A type within the limits, whose record these bytes are, and a buffer with room for it packed, from place `at` on.
 pub record Packable (w d : List ℕ) (at : ℕ) : Type 0 where
   pub type : Ty
   pub within : Within type
   pub bytes : w ≡ writeTy type
-  pub room : at + maxPacked ≤ length d
+  pub room : at + length (packTy type) ≤ length d
 
 -- The record w of any type lies packed in the buffer afterwards, and all around it is as it was.
 abbrev pub Packs : List ℕ → List ℕ → ℕ → List ℕ → Type 0

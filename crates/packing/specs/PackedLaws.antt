@@ -12,11 +12,11 @@ use Rattle.model.specs.Within.{All, DimWithin, DimsWithin, ShapeWithin, Printin
 use Rattle.format.specs.Records.{listOf, writeTy}
 use Rattle.format.specs.Suffices.{length-bytesOf, name-most}
 use Rattle.format.specs.Views.{Stands}
+use Rattle.format.specs.WriteRead.{closing-within}
 use Rattle.lent.specs.Over.{over}
 use Rattle.lent.specs.StandsOver.{stands-laid}
 use Rattle.machine.specs.SheetLimits.{maxPacked}
-use Rattle.packing.specs.Packed.{packedSize, packedNumber, packDims, packShape, packScalar, packFields, packTy, Packs, Unpacks}
-use Rattle.packing.specs.ShapeLaws.{closing-within}
+use Rattle.packing.specs.Packed.{packedSize, packedNumber, packDims, packShape, packScalar, packFields, packTy, Packs, Unpackable, Unpacks}
 
 -- ---- as many as suffice
 
@@ -139,18 +139,15 @@ packed-least n enough = omega (arith, fullest-packed, enough fullest fullest-wit
 
 -- ---- packed and unpacked
 
--- Whoever packs the record of a type into a buffer with room for it, and whoever unpacks then what lies there into another one, each by its
--- contract, has the record's bytes there, and all around them as it was.
-pub round-trip :
-    (t : Ty)
-    (d d₁ : List ℕ)
-    (at : ℕ)
-    (out out₁ : List ℕ)
-    (to : ℕ) →
-    Within t →
-    at + length (packTy t) ≤ length d →
-    Packs (writeTy t) d at d₁ →
-    Unpacks d₁ at out to out₁ →
-    out₁ ≡ over out to (writeTy t)
-round-trip t d d₁ at out out₁ to within room packs unpacks =
-    unpacks t within (subst (λ x. Stands x at (packTy t)) (sym (packs t within refl)) (stands-laid d (packTy t) at room))
+-- A type within the limits whose record was packed into a buffer with room for it, by the contract of packing.
+module _ (t : Ty) (within : Within t) (d d₁ : List ℕ) (at : ℕ) (room : at + length (packTy t) ≤ length d) (packs : Packs (writeTy t) d at d₁) where
+  packed-stands : Stands d₁ at (packTy t)
+  packed-stands = subst (λ x. Stands x at (packTy t)) (sym (packs t within refl)) (stands-laid d (packTy t) at room)
+
+  -- It may be unpacked into any buffer with room for its record,
+  pub packed-unpackable : (out : List ℕ) (to : ℕ) → to + length (writeTy t) ≤ length out → Unpackable d₁ at out to
+  packed-unpackable out to fits = record { type = t; within = within; stands = packed-stands; room = fits }
+
+  -- and unpacked by the contract of that, it is the record's bytes there again, and all around them as it was.
+  pub round-trip : (out out₁ : List ℕ) (to : ℕ) → Unpacks d₁ at out to out₁ → out₁ ≡ over out to (writeTy t)
+  round-trip out out₁ to unpacks = unpacks t within packed-stands

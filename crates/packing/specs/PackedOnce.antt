@@ -3,7 +3,7 @@
 use Prim.Native.Nat.{ℕ, _+_, _^_, _≤_, _<_}
 use native.Mathlib.Omega.{arith}
 use mathlib.Core.List.{List, [], _∷_, _++_, append-assoc, append-nil}
-use mathlib.Core.Option.{Option, none, some}
+use mathlib.Core.Option.{Option}
 use mathlib.Core.Path.{_≡_, refl, sym, _∙_, ap}
 use lib.Dec.{lit<}
 use lib.ListN.{length, drop}
@@ -15,11 +15,11 @@ use Rattle.format.specs.ReaderLaws.{reads-number}
 use Rattle.format.specs.Records.{absent, countOf, listOf, writeTy, listCount, readType}
 use Rattle.format.specs.Suffices.{name-most}
 use Rattle.format.specs.Views.{Stands}
-use Rattle.format.specs.WriteRead.{listCount-ok, write-read}
+use Rattle.format.specs.WriteRead.{closing-within, optional-ok, listCount-ok, write-read}
 use Rattle.rules.specs.OrderLaws.{code-same, code-box}
 use Rattle.packing.specs.Packed.{packDims, packShape, packScalar, packFields, packTy}
 use Rattle.packing.specs.Layouts.{Layout, asRecord, asPacked, sizeLength, sizeNumber, sizeIn, sizesIn, typeIn}
-use Rattle.packing.specs.ShapeLaws.{length-sizeIn, sizesIn-none, sizesIn-first, closing-within}
+use Rattle.packing.specs.ShapeLaws.{length-sizeIn, sizesIn-none, sizesIn-first}
 
 -- ---- lists, one in front of another
 
@@ -47,7 +47,7 @@ number-once k m n a b e =
     let y = reads-number {s = w} k 0 n b .run 0 [] (e ∙ sym (append-nil (bytesOf k n))) in
     cc
 
-number-small : (v : Layout) (d : Dim) → DimWithin d → sizeNumber v d < 256 ^ sizeLength v
+pub number-small : (v : Layout) (d : Dim) → DimWithin d → sizeNumber v d < 256 ^ sizeLength v
 number-small asRecord (static n) h = omega arith
 number-small asRecord unknown h = lit< tt
 number-small asPacked (static n) h = omega arith
@@ -83,10 +83,7 @@ module _ {A : Type 0} (most : ℕ) (small : most < absent) (c d : Option (List A
   lengths-same a b = sym (listCount-ok most small c a) ∙ ap listCount e ∙ listCount-ok most small d b
 
 optional-once : {A : Type 0} (most : ℕ) → most < absent → (c d : Option (List A)) → length (listOf c) ≤ most → length (listOf d) ≤ most → countOf c ≡ countOf d → listOf c ≡ listOf d → c ≡ d
-optional-once most small none none a b e f = refl
-optional-once most small none (some d) a b e f = absurd (omega arith)
-optional-once most small (some c) none a b e f = absurd (omega arith)
-optional-once most small (some c) (some d) a b e f = ap some f
+optional-once most small c d a b e f = sym (optional-ok most small c a) ∙ rw (e, f) (optional-ok most small d b)
 
 -- ---- shapes
 

@@ -1,43 +1,33 @@
--- A packed size is its record's number without the eighth byte, which is all ones if the seventh is and 0 if it is not.
-use Prim.Native.Nat.{ℕ, _/_, _%_, _≤_, _<_}
+-- A size as a number: packed it is the seven low bytes of its record's number, and the packed number tells the record's.
+use Prim.Native.Nat.{ℕ, _+_, _*_, _≤_}
 use native.Mathlib.Omega.{arith}
 use mathlib.Core.Bool.{cond}
-use mathlib.Core.List.{[], _∷_, _++_}
+use mathlib.Core.List.{List}
 use mathlib.Core.Path.{_≡_, refl}
 use lib.Dec.{eqb}
 use lib.ListN.{getD}
 use borrow.Author.Tests.{ne-eqb}
-use Rattle.model.specs.Limits.{maxSize}
+use Rattle.model.specs.Limits.{ones}
 use Rattle.model.specs.Types.{Dim, static, unknown}
 use Rattle.model.specs.Within.{DimWithin}
 use Rattle.format.specs.Reader.{bytesOf}
 use Rattle.format.specs.Records.{dimNumber}
-use Rattle.packing.specs.Packed.{packedSize, packedNumber}
+use Rattle.packing.specs.Packed.{packedSize, packedOnes, packedNumber}
 
--- the eighth byte of a size's number
-abbrev pub eighthOf : Dim → ℕ
-eighthOf (static n) = 0
-eighthOf unknown = 255
+-- seven bytes from a place on, low byte first
+abbrev pub sevenBytes : List ℕ → ℕ → ℕ
+sevenBytes s at =
+    getD s at 0 + 256 * (getD s (at + 1) 0 + 256 * (getD s (at + 2) 0 + 256 * (getD s (at + 3) 0 + 256 * (getD s (at + 4) 0 + 256 * (getD s (at + 5) 0 + 256 * getD s (at + 6) 0)))))
 
--- and by its seventh
-abbrev pub eighthBy : ℕ → ℕ
-eighthBy seventh = cond (eqb seventh 255) 255 0
+-- the record's number, by the packed one
+abbrev pub unpackedNumber : ℕ → ℕ
+unpackedNumber n = cond (eqb n packedOnes) ones n
 
-pub size-split : (d : Dim) → DimWithin d → bytesOf 8 (dimNumber d) ≡ bytesOf packedSize (packedNumber d) ++ (eighthOf d ∷ [])
+pub low-seven : (d : Dim) → bytesOf packedSize (dimNumber d) ≡ bytesOf packedSize (packedNumber d)
 unfolding bytesOf
-size-split (static n) h =
-    let z : n / 256 / 256 / 256 / 256 / 256 / 256 / 256 % 256 ≡ 0 = omega arith in
-    rw z
-size-split unknown h = refl
+low-seven (static n) = refl
+low-seven unknown = refl
 
-seventh-unknown : getD (bytesOf packedSize (packedNumber unknown)) 6 0 ≡ 255
-unfolding bytesOf
-seventh-unknown = refl
-
-seventh-static : (n : ℕ) → n ≤ maxSize → getD (bytesOf packedSize (packedNumber (static n))) 6 0 < 255
-unfolding bytesOf
-seventh-static n h = omega arith
-
-pub eighth-by : (d : Dim) → DimWithin d → eighthBy (getD (bytesOf packedSize (packedNumber d)) 6 0) ≡ eighthOf d
-eighth-by (static n) h = let less = seventh-static n h in rw (ne-eqb (getD (bytesOf packedSize (packedNumber (static n))) 6 0) 255 (λ e. omega arith))
-eighth-by unknown h = rw seventh-unknown
+pub unpacked-number : (d : Dim) → DimWithin d → unpackedNumber (packedNumber d) ≡ dimNumber d
+unpacked-number (static n) h = rw (ne-eqb n packedOnes (λ e. omega arith))
+unpacked-number unknown h = refl

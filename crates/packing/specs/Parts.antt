@@ -10,10 +10,10 @@ use Rattle.model.specs.Types.{Dim, Shape, Scalar, inside, below}
 use Rattle.model.specs.Within.{All, Each, DimWithin, ShapeWithin, NameWithin, ScalarWithin}
 use Rattle.format.specs.Views.{Stands}
 use Rattle.lent.specs.Over.{over}
-use Rattle.packing.specs.Heads.{held}
+use Rattle.packing.specs.Heads.{heldCount}
 use Rattle.packing.specs.Layouts.{Layout, sizesIn, shapeIn, defHead, headIn, scalarIn}
 use Rattle.packing.specs.declared.Head.{Head}
-use Rattle.packing.specs.declared.Moved.{Moved}
+use Rattle.packing.specs.declared.Places.{Places}
 
 -- ---- what lies there, from place `from` on
 
@@ -73,14 +73,14 @@ pub record After (from : ℕ) (x out : List ℕ) (to : ℕ) (y out₁ : List ℕ
   pub laid : out₁ ≡ over out to y
 
 module _ (v w : Layout) (s : List ℕ) (from : ℕ) (out : List ℕ) (to : ℕ) where
-  abbrev pub SizesDone : ℕ → List ℕ → Moved → Type 0
+  abbrev pub SizesDone : ℕ → List ℕ → Places → Type 0
   SizesDone count out₁ r = (ds : List Dim) → SizesThere v s from count ds → After from (sizesIn v ds) out to (sizesIn w ds) out₁ (r .from) (r .to)
 
-  abbrev pub ShapeDone : List ℕ → Moved → Type 0
+  abbrev pub ShapeDone : List ℕ → Places → Type 0
   ShapeDone out₁ r = (o : Shape) → ShapeThere v s from o → After from (shapeIn v o) out to (shapeIn w o) out₁ (r .from) (r .to)
 
   abbrev pub HeadDone : List ℕ → Head → Type 0
-  HeadDone out₁ r = (k : Scalar) → ScalarThere v s from k → After from (headIn v k) out to (headIn w k) out₁ (r .from) (r .to) × (r .contents ≡ held k)
+  HeadDone out₁ r = (k : Scalar) → ScalarThere v s from k → After from (headIn v k) out to (headIn w k) out₁ (r .from) (r .to) × (r .contents ≡ heldCount k)
 
 abbrev pub DefDone : List ℕ → ℕ → List ℕ → ℕ → List ℕ → Head → Type 0
 DefDone s from out to out₁ r =

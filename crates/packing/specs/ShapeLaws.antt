@@ -2,16 +2,15 @@
 use Prim.Native.Nat.{ℕ, _+_, _≤_}
 use native.Mathlib.Omega.{arith}
 use mathlib.Core.List.{List, [], _∷_, _++_, append-assoc}
-use mathlib.Core.Option.{Option, none, some}
 use mathlib.Core.Path.{_≡_, refl, sym, _∙_, ap}
-use lib.Dec.{lit<, lit≤}
+use lib.Dec.{lit<}
 use lib.ListN.{length, length-append}
 use Rattle.model.specs.Limits.{maxSizes}
 use Rattle.model.specs.Types.{Dim, Shape, shape}
-use Rattle.model.specs.Within.{All, Each, DimWithin, DimsWithin, ShapeWithin}
+use Rattle.model.specs.Within.{All, DimWithin, ShapeWithin}
 use Rattle.format.specs.Records.{writeShape, countOf, listOf, listCount}
 use Rattle.format.specs.Suffices.{length-bytesOf}
-use Rattle.format.specs.WriteRead.{listCount-ok}
+use Rattle.format.specs.WriteRead.{closing-within, listCount-ok}
 use Rattle.packing.specs.Packed.{packShape}
 use Rattle.packing.specs.Layouts.{Layout, asRecord, asPacked, sizeLength, sizeNumber, sizeIn, sizesIn, countsIn, countsLength, shapeIn}
 
@@ -60,10 +59,6 @@ shapeIn-parts asPacked (shape o c) = ap (λ x. countsIn asPacked (length o) (cou
 pub length-countsIn : (v : Layout) (m n : ℕ) → length (countsIn v m n) ≡ countsLength v
 length-countsIn asRecord m n = refl
 length-countsIn asPacked m n = refl
-
-pub closing-within : (c : Option (List Dim)) → Each DimsWithin c → (length (listOf c) ≤ maxSizes) × All DimWithin (listOf c)
-closing-within none h = (lit≤ tt, tt)
-closing-within (some c) h = h
 
 pub sizes-within : (o : Shape) → ShapeWithin o → All DimWithin (sizesOf o)
 sizes-within (shape o c) h = all-append o (listOf c) (h .0 .1) (closing-within c (h .1) .1)

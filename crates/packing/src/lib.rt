@@ -7,7 +7,7 @@ pub use packed::pack;
 pub use unpacked::unpack;
 
 // The place reached in what is read and in what is written.
-pub struct Moved {
+pub struct Places {
     pub from: usize,
     pub to: usize,
 }

@@ -1,6 +1,6 @@
 // From a type's record to what lies in the scratch.
 use crate::Head;
-use crate::Moved;
+use crate::Places;
 use known::View;
 use known::look;
 use lent::lay;
@@ -10,13 +10,15 @@ use limits::BOX_ANY;
 use limits::BOX_DEF;
 use limits::PACKED_SIZE;
 use record::list_count;
+use record::number_at;
 use record::wide;
 ghost use mathlib.Core.Path.{_≡_};
 ghost use Prim.Native.Nat.{_+_, _≤_, _<_};
 ghost use lib.ListN.{length};
+ghost use Rattle.format.specs.Reader.{bytesOf};
 ghost use Rattle.lent.specs.Over.{over};
 ghost use Rattle.packing.specs.Layouts.{asRecord, asPacked, formIn};
-ghost use Rattle.packing.specs.Packed.{Packable, Packs};
+ghost use Rattle.packing.specs.Packed.{packedSize, Packable, Packs};
 ghost use Rattle.packing.specs.Parts.{HasSizes, HasShape, HasHead, SizesDone, ShapeDone, HeadDone};
 
 // The record of a type, packed, to `out` from `at` on.
@@ -37,7 +39,7 @@ pub fn pack(ty: &[u8], out: &mut [u8], at: usize)
 }
 
 // A shape: its counts and its sizes.
-fn pack_shape(s: &[u8], from: usize, out: &mut [u8], to: usize) -> Moved
+fn pack_shape(s: &[u8], from: usize, out: &mut [u8], to: usize) -> Places
     requires { ⌜ HasShape asRecord asPacked (now s) from (now out) to ⌝ }
     ensures { λ r. ⌜ ShapeDone asRecord asPacked (now (s .entry)) from (now (out .entry)) to (now (out .exit)) r ⌝ }
 {
@@ -49,8 +51,8 @@ fn pack_shape(s: &[u8], from: usize, out: &mut [u8], to: usize) -> Moved
     pack_sizes(s, from + 4, &mut *out, to + 2, count)
 }
 
-// So many sizes. The eighth byte of each says nothing that the seventh doesn't.
-fn pack_sizes(s: &[u8], start: usize, out: &mut [u8], place: usize, count: u64) -> Moved
+// So many sizes. A size is read as one number and written as one, since it takes far longer byte by byte.
+fn pack_sizes(s: &[u8], start: usize, out: &mut [u8], place: usize, count: u64) -> Places
     requires { ⌜ HasSizes asRecord asPacked (now s) start (now out) place count ⌝ }
     ensures { λ r. ⌜ SizesDone asRecord asPacked (now (s .entry)) start (now (out .entry)) place count (now (out .exit)) r ⌝ }
 {
@@ -58,12 +60,32 @@ fn pack_sizes(s: &[u8], start: usize, out: &mut [u8], place: usize, count: u64) 
     let mut to = place;
     let mut left = count;
     while 0 < left {
-        lay(&s[from..from + PACKED_SIZE], &mut *out, to);
+        put_seven(&mut *out, to, number_at(s, from));
         from += 8;
         to += PACKED_SIZE;
         left -= 1;
     }
-    Moved { from, to }
+    Places { from, to }
+}
+
+// The seven low bytes of a number, low byte first: of an unknown size, whose eight are all ones, they are all ones too.
+fn put_seven(out: &mut [u8], at: usize, n: u64)
+    requires { ⌜ at + packedSize ≤ length (now out) ⌝ }
+    ensures { λ _. ⌜ now (out .exit) ≡ over (now (out .entry)) at (bytesOf packedSize n) ⌝ }
+{
+    let a = n / 256;
+    let b = a / 256;
+    let c = b / 256;
+    let d = c / 256;
+    let e = d / 256;
+    let f = e / 256;
+    out[at] = (n % 256) as u8;
+    out[at + 1] = (a % 256) as u8;
+    out[at + 2] = (b % 256) as u8;
+    out[at + 3] = (c % 256) as u8;
+    out[at + 4] = (d % 256) as u8;
+    out[at + 5] = (e % 256) as u8;
+    out[at + 6] = (f % 256) as u8;
 }
 
 // A scalar up to its contents.

@@ -1,21 +1,26 @@
 // From what lies in the scratch to a type's record.
 use crate::Head;
-use crate::Moved;
+use crate::Places;
 use known::name_at;
 use lent::lay;
 use limits::BOX;
 use limits::BOX_ALL;
 use limits::BOX_ANY;
 use limits::PACKED_SIZE;
+use limits::PACKED_UNKNOWN;
+use limits::UNKNOWN;
 use record::list_count;
 use record::wide;
 use writer::put_box;
 use writer::put_head;
+use writer::put_number;
 use writer::put_plain;
 ghost use mathlib.Core.Path.{_≡_};
+ghost use Prim.Native.Nat.{_+_, _≤_};
+ghost use lib.ListN.{length};
 ghost use Rattle.packing.specs.Layouts.{asRecord, asPacked};
-ghost use Rattle.packing.specs.Packed.{Unpackable, Unpacks};
-ghost use Rattle.packing.specs.PackedSizes.{eighthBy};
+ghost use Rattle.packing.specs.Packed.{packedSize, Unpackable, Unpacks};
+ghost use Rattle.packing.specs.PackedSizes.{sevenBytes, unpackedNumber};
 ghost use Rattle.packing.specs.Parts.{HasSizes, HasShape, HasHead, HasDef, SizesDone, ShapeDone, HeadDone, DefDone};
 
 // The record of the type that lies packed from `start` on, to `out` from `place` on.
@@ -36,7 +41,7 @@ pub fn unpack(packed: &[u8], start: usize, out: &mut [u8], place: usize)
 }
 
 // A shape: its counts and its sizes.
-fn unpack_shape(s: &[u8], from: usize, out: &mut [u8], to: usize) -> Moved
+fn unpack_shape(s: &[u8], from: usize, out: &mut [u8], to: usize) -> Places
     requires { ⌜ HasShape asPacked asRecord (now s) from (now out) to ⌝ }
     ensures { λ r. ⌜ ShapeDone asPacked asRecord (now (s .entry)) from (now (out .entry)) to (now (out .exit)) r ⌝ }
 {
@@ -47,8 +52,8 @@ fn unpack_shape(s: &[u8], from: usize, out: &mut [u8], to: usize) -> Moved
     unpack_sizes(s, from + 2, &mut *out, to + 4, count)
 }
 
-// So many sizes. All ones in the seventh byte are an unknown size, whose eighth byte is all ones too; that of any other is 0.
-fn unpack_sizes(s: &[u8], start: usize, out: &mut [u8], place: usize, count: u64) -> Moved
+// So many sizes.
+fn unpack_sizes(s: &[u8], start: usize, out: &mut [u8], place: usize, count: u64) -> Places
     requires { ⌜ HasSizes asPacked asRecord (now s) start (now out) place count ⌝ }
     ensures { λ r. ⌜ SizesDone asPacked asRecord (now (s .entry)) start (now (out .entry)) place count (now (out .exit)) r ⌝ }
 {
@@ -56,24 +61,37 @@ fn unpack_sizes(s: &[u8], start: usize, out: &mut [u8], place: usize, count: u64
     let mut to = place;
     let mut left = count;
     while 0 < left {
-        let last = s[from + 6];
-        lay(&s[from..from + PACKED_SIZE], &mut *out, to);
-        out[to + PACKED_SIZE] = eighth(last);
+        put_number(&mut *out, to, unpack_number(seven_at(s, from)));
         from += PACKED_SIZE;
         to += 8;
         left -= 1;
     }
-    Moved { from, to }
+    Places { from, to }
 }
 
-// The eighth byte of a size, by its seventh.
-fn eighth(seventh: u8) -> u8
-    ensures { λ r. ⌜ r ≡ eighthBy seventh ⌝ }
+// Seven bytes, low byte first.
+fn seven_at(s: &[u8], at: usize) -> u64
+    requires { ⌜ at + packedSize ≤ length (now s) ⌝ }
+    ensures { λ r. ⌜ r ≡ sevenBytes (now (s .entry)) at ⌝ }
 {
-    if seventh == u8::MAX {
-        return u8::MAX;
+    let a = wide(s[at]);
+    let b = wide(s[at + 1]);
+    let c = wide(s[at + 2]);
+    let d = wide(s[at + 3]);
+    let e = wide(s[at + 4]);
+    let f = wide(s[at + 5]);
+    let g = wide(s[at + 6]);
+    a + 256 * (b + 256 * (c + 256 * (d + 256 * (e + 256 * (f + 256 * g)))))
+}
+
+// The number of a size in its record, by its packed one.
+fn unpack_number(packed: u64) -> u64
+    ensures { λ r. ⌜ r ≡ unpackedNumber packed ⌝ }
+{
+    if packed == PACKED_UNKNOWN {
+        return UNKNOWN;
     }
-    0
+    packed
 }
 
 // A scalar up to its contents.

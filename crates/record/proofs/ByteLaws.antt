@@ -57,11 +57,11 @@ module _ (s : List ℕ) where
   -- ---- sizes
 
   -- k bytes from place at + i on, low byte first
-  unfoldable low : ℕ → ℕ → ℕ → ℕ
+  unfoldable pub low : ℕ → ℕ → ℕ → ℕ
   low at zero i = 0
   low at (suc k) i = low at k (suc i) * 256 + getD s (at + i) 0
 
-  number-there : (p at k i : ℕ) → at + (i + k) ≤ length s → number s k p (at + i) ≡ got (low at k i) (at + (i + k))
+  pub number-there : (p at k i : ℕ) → at + (i + k) ≤ length s → number s k p (at + i) ≡ got (low at k i) (at + (i + k))
   unfolding number low
   number-there p at zero i h = rw add-zero
   number-there p at (suc k) i h =

@@ -5,7 +5,7 @@ use mathlib.Core.Bool.{Bool, true, false, cond}
 use mathlib.Core.List.{List, [], _++_, map, reverse}
 use mathlib.Core.Logic.{_⊎_, ⊎-elim}
 use mathlib.Core.Path.{_≡_, refl, sym, _∙_, ap}
-use lib.ListN.{length, take, drop, replicate, length-append, length-drop}
+use lib.ListN.{length, take, drop, replicate, length-append, length-drop, length-replicate}
 use lib.Seq.{length-take-le}
 use lib.Dec.{leb}
 use borrow.Author.Tests.{lt-ltb, le-ltb}
@@ -13,34 +13,52 @@ use Rattle.model.specs.Refusals.{tooShort, overflow}
 use Rattle.model.specs.Types.{Ty}
 use Rattle.format.specs.Reader.{Read, stopped}
 use Rattle.format.specs.Outcome.{Outcome, accepted, refused, Delivery, delivery, deliver}
-use Rattle.machine.specs.SheetLimits.{maxSteps, scratchBytes}
+use Rattle.machine.specs.SheetLimits.{maxSteps, maxStack, scratchBytes}
 use Rattle.machine.specs.Run.{Stack, State, fresh}
 use Rattle.machine.specs.Sheet.{workFrom, sheetFrom, sheetRun}
 use Rattle.machine.specs.SheetSteps.{work-taken, sheetFrom-end, sheetFrom-over, sheetFrom-step, sheetFrom-stop}
 use Rattle.machine.specs.Call.{Called, called, tally, writeTypes, firstZero, zeroed, atFront, handOver, sheetCall}
-use Rattle.stack.specs.Stack.{Memory, fullTrays, size, Stacked, HasStack}
-use Rattle.stack.specs.StackLaws.{stacked-sizes}
-use Rattle.run.specs.Answers.{InState, Works, ReadOn, Runs, calledOf}
+use Rattle.stack.specs.Stack.{Memory, memory, fullTrays, size, Stacked, HasStack, Keeps}
+use Rattle.stack.specs.StackLaws.{stacked-none, stacked-sizes}
+use Rattle.run.specs.Answers.{InState, Works, Going, ReadOn, Runs, calledOf}
 use Rattle.run.specs.declared.Worked.{Worked}
 use Rattle.run.specs.declared.Ran.{Ran}
 use Rattle.run.specs.declared.Reached.the-variants.{At, Refused}
 use Rattle.run.specs.declared.SheetAnswer.{SheetAnswer}
 use Rattle.run.specs.declared.SheetAnswer.the-variants.{Accepted, Refused as Refuses}
 
--- ---- all steps
+-- ---- the stack of a state
 
--- The stack is that of a state from which the rest of the sheet is read, as far as all of it was to be read.
-pub record Going (whole : Read (State Stack)) (m : Memory) (count taken at : ℕ) : Type 0 where
-  pub state : State Stack
-  pub here : InState m count taken state
-  pub same : whole ≡ sheetFrom (m .sheet) state at
+-- there is one, wherever its types lie
+module _ {st : State Stack} {m : Memory} {count taken : ℕ} (h : InState m count taken st) where
+  pub state-has : HasStack m count
+  state-has = record { types = st .stack; stacked = h .stacked }
+
+  pub state-kept : {m₁ : Memory} → Keeps m count m₁ → InState m₁ count taken st
+  state-kept kept = record { stacked = kept (st .stack) (h .stacked); steps = h .steps }
+
+-- and where there is one, it is that of some state
+module _ {m : Memory} {count : ℕ} (has : HasStack m count) (taken : ℕ) where
+  abbrev pub some-state : State Stack
+  some-state = record { stack = has .types; taken = taken }
+
+  pub some-here : InState m count taken some-state
+  some-here = record { stacked = has .stacked; steps = refl }
+
+-- at first it is empty, whatever the trays and the scratch hold
+pub state-fresh : (lengths s trays scratch : List ℕ) → maxStack ≤ length lengths → scratchBytes ≤ length scratch → InState (memory (replicate {A = ℕ} maxStack 0) lengths s trays scratch) 0 0 (fresh [])
+state-fresh lengths s trays scratch measured room =
+    let ended : maxStack ≤ length (replicate {A = ℕ} maxStack 0) = omega (arith, length-replicate {A = ℕ} maxStack 0) in
+    record { stacked = stacked-none (memory (replicate {A = ℕ} maxStack 0) lengths s trays scratch) room ended measured; steps = refl }
+
+-- ---- all steps
 
 module _ (whole : Read (State Stack)) {m : Memory} {count taken at : ℕ} (g : Going whole m count taken at) where
   pub going-over : maxSteps ≤ taken → at < length (m .sheet) → whole ≡ stopped overflow at
   going-over l h = g .same ∙ sheetFrom-over (m .sheet) (g .state) at (omega (arith, g .here .steps)) h
 
   pub going-rest : (length (m .sheet) ≤ at) ⊎ (length (m .trays) < fullTrays) → ReadOn m count taken at whole
-  going-rest rest = record { state = g .state; here = g .here; same = g .same; rest = rest }
+  going-rest rest = record { going = g; rest = rest }
 
   -- one step more
   module _ (few : taken < maxSteps) (more : at < length (m .sheet)) (r : Worked) (m₁ : Memory) (kept : m₁ .sheet ≡ m .sheet) (works : Works (r .answer) m₁ (r .count) (workFrom (m .sheet) (g .state) at at)) where
@@ -63,9 +81,7 @@ GoingFrom m₀ count₀ taken₀ start m count taken at =
     (st : State Stack) → InState m₀ count₀ taken₀ st → Going (sheetFrom (m₀ .sheet) st start) m count taken at
 
 pub going-has : (m₀ : Memory) (count₀ taken₀ start : ℕ) {m : Memory} {count taken at : ℕ} → HasStack m₀ count₀ → GoingFrom m₀ count₀ taken₀ start m count taken at → HasStack m count
-going-has m₀ count₀ taken₀ start has from =
-    let g = from (record { stack = has .types; taken = taken₀ }) (record { stacked = has .stacked; steps = refl }) in
-    record { types = g .state .stack; stacked = g .here .stacked }
+going-has m₀ count₀ taken₀ start has from = state-has (from (some-state has taken₀) (some-here has taken₀) .here)
 
 -- ---- what they come to
 
@@ -79,7 +95,7 @@ module _ (r : Ran) (m : Memory) (whole : Read (State Stack)) (runs : Runs (r .an
   run-stopped is = rw is at runs
 
   pub stopped-has : {n : ℕ} → r .answer ≡ At n → HasStack m (r .count)
-  stopped-has is = let stop = run-stopped is in record { types = stop .state .stack; stacked = stop .here .stacked }
+  stopped-has is = state-has (run-stopped is .going .here)
 
   -- of a whole sheet
   module _ (all : sheetFrom (m .sheet) (fresh []) 0 ≡ whole) where
@@ -87,8 +103,9 @@ module _ (r : Ran) (m : Memory) (whole : Read (State Stack)) (runs : Runs (r .an
         → ((ts : Stack) → Stacked m (r .count) ts → sheetRun (m .sheet) ≡ accepted (reverse ts) → C) → C
     run-finished {C} {n} is room f =
         let stop = run-stopped is in
+        let g = stop .going in
         ⊎-elim
-        (λ end. f (stop .state .stack) (stop .here .stacked) (run-left (m .sheet) (stop .state) n end (all ∙ stop .same)))
+        (λ end. f (g .state .stack) (g .here .stacked) (run-left (m .sheet) (g .state) n end (all ∙ g .same)))
         (λ short. absurd (omega arith))
         (stop .rest)
 

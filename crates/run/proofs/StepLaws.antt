@@ -4,7 +4,7 @@ use native.Mathlib.Omega.{arith}
 use mathlib.Core.Bool.{Bool}
 use mathlib.Core.List.{List, [], _∷_}
 use mathlib.Core.Path.{_≡_, refl, sym, _∙_, ap, subst}
-use lib.ListN.{length, getD, take, drop, length-drop}
+use lib.ListN.{length, take, drop, length-drop}
 use lib.Seq.{length-take-le, getD-drop}
 use borrow.Author.Tests.{lt-ltb}
 use Rattle.model.specs.Types.{Ty}
@@ -29,12 +29,12 @@ use Rattle.machine.specs.Sheet.{placed, stepFrom, workFrom}
 use Rattle.machine.specs.SheetSteps.{work-unread, work-rule}
 use Rattle.machine.specs.StepsWithin.{pervadeTypes-within}
 use Rattle.lent.specs.StandsOver.{part-stands}
-use Rattle.stack.specs.Stack.{Memory, memory, packedEnd, size, Lies, HasOne, Stacked, HasStack, Keeps}
+use Rattle.stack.specs.Stack.{Memory, memory, size, Lies, HasOne, Stacked, HasStack, NotPacked, Unpacked, Keeps}
 use Rattle.stack.specs.StackLaws.{stacked-count, stacked-top, stacked-below, one-at}
 use Rattle.cursor.specs.Answers.{TypeStands, StepIs}
 use Rattle.cursor.specs.declared.StepRead.{StepRead}
 use Rattle.cursor.specs.declared.StepRead.the-variants.{Put, Row, Pervading, Join, Validating, Refused as Unread}
-use Rattle.run.specs.Answers.{Works, Workable, StepWorks, OfTop, OfTwo, Ruled, LaysDown, afterRule, atStart}
+use Rattle.run.specs.Answers.{Works, Ready, Workable, StepWorks, OfTop, OfTwo, Ruled, LaysDown, afterRule, atStart}
 use Rattle.run.specs.declared.Worked.{Worked}
 use Rattle.run.proofs.RuleLaws.{bytes-lone}
 
@@ -61,10 +61,10 @@ module _ (m : Memory) (count : ℕ) where
 -- what the stack asks for before it hands out the record of one of so many on top
 module _ (few : ℕ) (ends lengths s trays d : List ℕ) (count : ℕ) (out : List ℕ) (ready : Workable few (memory ends lengths s trays d) count out) where
   pub record-there : (k : ℕ) → k < count → count ≤ k + few
-      → ((d : List ℕ) × HasOne (memory ends lengths s trays d) k) × (getD ends k 0 ≡ packedEnd → ⊥) × (k < length ends) × (k < length lengths)
+      → ((d : List ℕ) × HasOne (memory ends lengths s trays d) k) × NotPacked ends k × (k < length ends) × (k < length lengths)
   record-there k less high =
       let st = ready .has .stacked in
-      ((d, one-at (memory ends lengths s trays d) count k less (ready .has)), ready .unpacked k less high, omega (arith, st .slotted, st .few), omega (arith, st .measured, st .few))
+      ((d, one-at (memory ends lengths s trays d) count k less (ready .has)), ready .unpacked k less high, omega (arith, st .ended, st .few), omega (arith, st .measured, st .few))
 
 -- outcomes that are the types on top, alone or beside another, are accepted
 module _ {m : Memory} {count : ℕ} (has : HasStack m count) (a : Outcome Ty) where
@@ -193,6 +193,10 @@ works-kept x at n m m₁ m₂ count r kept works st h = works st (kept (st .stac
 
 pub has-kept : (m m₁ : Memory) (count : ℕ) → Keeps m count m₁ → HasStack m count → HasStack m₁ count
 has-kept m m₁ count kept has = record { types = has .types; stacked = kept (has .types) (has .stacked) }
+
+-- types on top that were unpacked may be worked on
+pub ready-unpacked : {few : ℕ} (m m₁ : Memory) (count : ℕ) {out : List ℕ} → Ready few m count out → Keeps m count m₁ → Unpacked few (m₁ .ends) count → Workable few m₁ count out
+ready-unpacked m m₁ count ready kept unpacked = record { enough = ready .enough; room = ready .room; has = has-kept m m₁ count kept (ready .has); unpacked = unpacked }
 
 module _ (m : Memory) (count : ℕ) (w : Written) (out : List ℕ) where
   module _ (f : Ty → Outcome Ty) (within : (t : Ty) → Within t → (x : Ty) → f t ≡ accepted x → Within x) (few : 1 ≤ count) (made : OfTop f m count w out) where

@@ -54,26 +54,29 @@ abbrev pub Works : Reached → Memory → ℕ → Read (State Stack) → Type 0
 Works (At n) m count o = (st : State Stack) × (o ≡ got st n) × Stacked m count (st .stack)
 Works (Refused k p) m count o = o ≡ stopped k p
 
--- All steps: a state from which the rest of the sheet is read, and how many were taken; the rest is none, unless the
--- trays have not room for every type.
-pub record ReadOn (m : Memory) (count taken at : ℕ) (o : Read (State Stack)) : Type 0 where
+-- Some steps: the stack is that of a state from which the rest of the sheet is read, as far as all of it was to be read.
+pub record Going (o : Read (State Stack)) (m : Memory) (count taken at : ℕ) : Type 0 where
   pub state : State Stack
   pub here : InState m count taken state
   pub same : o ≡ sheetFrom (m .sheet) state at
+
+-- All steps: the rest is none, unless the trays have not room for every type.
+pub record ReadOn (m : Memory) (count taken at : ℕ) (o : Read (State Stack)) : Type 0 where
+  pub going : Going o m count taken at
   pub rest : (length (m .sheet) ≤ at) ⊎ (length (m .trays) < fullTrays)
 
 abbrev pub Runs : Reached → Memory → ℕ → ℕ → Read (State Stack) → Type 0
 Runs (At n) m count taken o = ReadOn m count taken n o
 Runs (Refused k p) m count taken o = o ≡ stopped k p
 
--- So many types on the stack at least, a buffer with room for any type, and trays for those on top.
+-- So many types on the stack at least, a buffer with room for any type, and trays with room for those on top.
 pub record Ready (few : ℕ) (m : Memory) (count : ℕ) (out : List ℕ) : Type 0 where
   pub enough : few ≤ count
   pub room : maxBytes ≤ length out
   pub has : HasStack m count
-  pub fit : FitTrays m count
+  pub fit : FitTrays (m .lengths) (m .trays) count
 
--- The same, where none of so many on top lies packed.
+-- So many types at least, none of so many on top packed, and a buffer with room for any type.
 pub record Workable (few : ℕ) (m : Memory) (count : ℕ) (out : List ℕ) : Type 0 where
   pub enough : few ≤ count
   pub room : maxBytes ≤ length out

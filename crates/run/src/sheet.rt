@@ -230,7 +230,7 @@ fn run_steps(
             };
         }
         if wants_trays(height, &*lengths, &*trays) {
-            // not the end, which is told by the place
+            // That this is not the end, the place says.
             let stopped = Reached::At(at);
             return Ran {
                 answer: stopped,

@@ -241,7 +241,8 @@ fn validate(
 ) -> Worked
     requires { ⌜ Ready 1 (memory (now ends) (now lengths) (now s) (now trays) (now scratch)) count (now out) × ((t : Ty) × (lone (now spec) ≡ accepted t)) ⌝ }
     ensures { λ r. ⌜ ((t : Ty) → lone (now (spec .entry)) ≡ accepted t
-        → StepWorks (steps.validating t) at next (memory (now (ends .entry)) (now (lengths .entry)) (now (s .entry)) (now (trays .entry)) (now (scratch .entry))) count r (memory (now (ends .exit)) (now (lengths .exit)) (now (s .entry)) (now (trays .exit)) (now (scratch .exit)))) ⌝ }
+        → StepWorks (steps.validating t) at next (memory (now (ends .entry)) (now (lengths .entry)) (now (s .entry)) (now (trays .entry)) (now (scratch .entry))) count r
+        (memory (now (ends .exit)) (now (lengths .exit)) (now (s .entry)) (now (trays .exit)) (now (scratch .exit)))) ⌝ }
 {
     unpack_top(count, &mut *ends, &*lengths, &mut *trays, &mut *scratch);
     let w = validate_top(count, &*ends, &*lengths, s, &*trays, spec, &mut *out);

@@ -29,10 +29,11 @@ memory ends lengths sheet trays scratch = record { ends = ends; lengths = length
 abbrev pub slotAt : ℕ → ℕ
 slotAt k = k * maxPacked
 
--- its tray, which it shares with every second type: the first half of the trays, or the second
+-- bytes of a tray: there are two, the halves of a buffer
 abbrev pub trayBytes : List ℕ → ℕ
 trayBytes trays = length trays / 2
 
+-- where its tray begins, which it shares with every second type: the first half, or the second
 abbrev pub halfAt : ℕ → ℕ → ℕ
 halfAt zero half = 0
 halfAt (suc n) half = half
@@ -91,7 +92,7 @@ Lie m (suc k) (t ∷ ts) = Lies m k t × Lie m k ts
 -- The stack has these types, top first.
 pub record Stacked (m : Memory) (count : ℕ) (ts : List Ty) : Type 0 where
   pub room : scratchBytes ≤ length (m .scratch)
-  pub slotted : maxStack ≤ length (m .ends)
+  pub ended : maxStack ≤ length (m .ends)
   pub measured : maxStack ≤ length (m .lengths)
   pub few : count ≤ maxStack
   pub lie : Lie m count ts
@@ -107,13 +108,17 @@ lowest count k ts = drop (count - k) ts
 
 -- ---- what is done with it
 
--- None of so many on top lies packed.
+-- The k-th does not lie packed.
+abbrev pub NotPacked : List ℕ → ℕ → Type 0
+NotPacked ends k = getD ends k 0 ≡ packedEnd → ⊥
+
+-- None of so many on top does.
 abbrev pub Unpacked : ℕ → List ℕ → ℕ → Type 0
-Unpacked few ends count = (k : ℕ) → k < count → count ≤ k + few → getD ends k 0 ≡ packedEnd → ⊥
+Unpacked few ends count = (k : ℕ) → k < count → count ≤ k + few → NotPacked ends k
 
 -- The two on top fit their trays.
-abbrev pub FitTrays : Memory → ℕ → Type 0
-FitTrays m count = (k : ℕ) → k < count → count ≤ k + 2 → getD (m .lengths) k 0 ≤ trayBytes (m .trays)
+abbrev pub FitTrays : List ℕ → List ℕ → ℕ → Type 0
+FitTrays lengths trays count = (k : ℕ) → k < count → count ≤ k + 2 → getD lengths k 0 ≤ trayBytes trays
 
 -- None of so many is in its tray.
 abbrev pub NoneInTray : List ℕ → ℕ → Type 0

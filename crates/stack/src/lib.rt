@@ -23,13 +23,13 @@ use trays::tray_at;
 ghost use mathlib.Core.Path.{_≡_};
 ghost use mathlib.Core.List.{List};
 ghost use Prim.Native.Nat.{ℕ, _+_, _≤_, _<_};
-ghost use lib.ListN.{length, getD};
+ghost use lib.ListN.{length};
 ghost use Rattle.model.specs.Types.{Ty};
 ghost use Rattle.model.specs.Within.{Within};
 ghost use Rattle.format.specs.Records.{writeTy};
 ghost use Rattle.format.specs.Views.{Stands};
 ghost use Rattle.machine.specs.SheetLimits.{maxStack};
-ghost use Rattle.stack.specs.Stack.{memory, packedEnd, size, Lies, HasOne, HasStack, Takes};
+ghost use Rattle.stack.specs.Stack.{memory, size, Lies, HasOne, HasStack, NotPacked, Takes};
 
 // What stands for the end of a type that lies packed in its slot, and of one that is in its tray. No type ends there in a sheet, being longer.
 pub const PACKED_END: usize = 0;
@@ -91,7 +91,7 @@ pub fn bytes_of<'a>(
     s: &'a [u8],
     trays: &'a [u8],
 ) -> &'a [u8]
-    requires { ⌜ ((d : List ℕ) × HasOne (memory (now ends) (now lengths) (now s) (now trays) d) k) × (getD (now ends) k 0 ≡ packedEnd → ⊥)
+    requires { ⌜ ((d : List ℕ) × HasOne (memory (now ends) (now lengths) (now s) (now trays) d) k) × NotPacked (now ends) k
         × (k < length (now ends)) × (k < length (now lengths)) ⌝ }
     ensures { λ r. ⌜ ((d : List ℕ) (t : Ty) → Lies (memory (now (ends .entry)) (now (lengths .entry)) (now (s .entry)) (now (trays .entry)) d) k t → now r ≡ writeTy t) ⌝ }
 {

@@ -11,13 +11,13 @@ ghost use mathlib.Core.Bool.{true, false};
 ghost use mathlib.Core.List.{List};
 ghost use Prim.Native.Nat.{ℕ, _+_, _≤_, _<_};
 ghost use lib.ListN.{length, getD};
-ghost use Rattle.stack.specs.Stack.{memory, trayBytes, fullTrays, packedEnd, HasStack, Unpacked, FitTrays, Keeps};
+ghost use Rattle.stack.specs.Stack.{memory, trayBytes, fullTrays, HasStack, NotPacked, Unpacked, FitTrays, Keeps};
 
 // Whether one of the two on top is too long for a tray, wherever it lies: what a rule makes of it may be as long.
 pub fn wants_trays(count: usize, lengths: &[usize], trays: &[u8]) -> bool
     requires { ⌜ ((ends s d : List ℕ) × HasStack (memory ends (now lengths) s (now trays) d) count) ⌝ }
     ensures { λ r. ⌜ (r ≡ true → length (now (trays .entry)) < fullTrays)
-        × ((ends s d : List ℕ) → r ≡ false → FitTrays (memory ends (now (lengths .entry)) s (now (trays .entry)) d) count) ⌝ }
+        × (r ≡ false → FitTrays (now (lengths .entry)) (now (trays .entry)) count) ⌝ }
 {
     let half = trays.len() / TRAYS;
     if count == 0 {
@@ -43,8 +43,8 @@ pub fn unpack_top(
     trays: &mut [u8],
     scratch: &mut [u8],
 )
-    requires { ⌜ (1 ≤ count) × ((s : List ℕ) × HasStack (memory (now ends) (now lengths) s (now trays) (now scratch)) count
-        × FitTrays (memory (now ends) (now lengths) s (now trays) (now scratch)) count) ⌝ }
+    requires { ⌜ (1 ≤ count) × ((s : List ℕ) × HasStack (memory (now ends) (now lengths) s (now trays) (now scratch)) count)
+        × FitTrays (now lengths) (now trays) count ⌝ }
     ensures { λ _. ⌜ ((s : List ℕ)
         → Keeps (memory (now (ends .entry)) (now (lengths .entry)) s (now (trays .entry)) (now (scratch .entry))) count
         (memory (now (ends .exit)) (now (lengths .entry)) s (now (trays .exit)) (now (scratch .exit)))) ⌝ }
@@ -61,8 +61,8 @@ pub fn unpack_two(
     trays: &mut [u8],
     scratch: &mut [u8],
 )
-    requires { ⌜ (2 ≤ count) × ((s : List ℕ) × HasStack (memory (now ends) (now lengths) s (now trays) (now scratch)) count
-        × FitTrays (memory (now ends) (now lengths) s (now trays) (now scratch)) count) ⌝ }
+    requires { ⌜ (2 ≤ count) × ((s : List ℕ) × HasStack (memory (now ends) (now lengths) s (now trays) (now scratch)) count)
+        × FitTrays (now lengths) (now trays) count ⌝ }
     ensures { λ _. ⌜ ((s : List ℕ)
         → Keeps (memory (now (ends .entry)) (now (lengths .entry)) s (now (trays .entry)) (now (scratch .entry))) count
         (memory (now (ends .exit)) (now (lengths .entry)) s (now (trays .exit)) (now (scratch .exit)))) ⌝ }
@@ -79,7 +79,7 @@ fn unpack_at(k: usize, ends: &mut [usize], lengths: &[usize], trays: &mut [u8], 
     ensures { λ _. ⌜ ((s : List ℕ) (count : ℕ) → k < count → count ≤ k + 2
         → Keeps (memory (now (ends .entry)) (now (lengths .entry)) s (now (trays .entry)) (now (scratch .entry))) count
         (memory (now (ends .exit)) (now (lengths .entry)) s (now (trays .exit)) (now (scratch .exit)))) ⌝ }
-    ensures { λ _. ⌜ (getD (now (ends .exit)) k 0 ≡ packedEnd → ⊥) × ((i : ℕ) → k < i → getD (now (ends .exit)) i 0 ≡ getD (now (ends .entry)) i 0) ⌝ }
+    ensures { λ _. ⌜ NotPacked (now (ends .exit)) k × ((i : ℕ) → k < i → getD (now (ends .exit)) i 0 ≡ getD (now (ends .entry)) i 0) ⌝ }
 {
     if ends[k] != PACKED_END {
         return;

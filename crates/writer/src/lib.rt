@@ -33,7 +33,7 @@ ghost use Rattle.record.specs.Answers.{dimsOf, closingFor, shapeFor};
 ghost use Rattle.writer.specs.Kinds.{kindRecord};
 
 // Eight bytes, low byte first.
-fn put_number(out: &mut [u8], at: usize, n: u64)
+pub fn put_number(out: &mut [u8], at: usize, n: u64)
     requires { ⌜ at + 8 ≤ length (now out) ⌝ }
     ensures { λ _. ⌜ now (out .exit) ≡ over (now (out .entry)) at (bytesOf 8 n) ⌝ }
 {
@@ -101,6 +101,7 @@ pub fn shape_length(shape: DynShape) -> usize
     start + 8 * size_count(suffix)
 }
 
+// A shape's mark and its counts, from `at` on.
 pub fn put_head(out: &mut [u8], at: usize, opening: u8, closing: u8)
     requires { ⌜ at + 4 ≤ length (now out) ⌝ }
     ensures { λ _. ⌜ now (out .exit) ≡ over (now (out .entry)) at (markBytes shapeMark ++ (opening ∷ closing ∷ [])) ⌝ }

@@ -3,7 +3,7 @@ use native.Mathlib.Omega.{arith}
 use mathlib.Core.Path.{_≡_}
 use lib.ListN.{length, getD}
 use Rattle.stack.specs.Stack.{memory}
-use Rattle.stack.specs.StackLaws.{tray-ends, tray-bytes, sheet-begins, sheet-ends, sheet-bytes}
+use Rattle.stack.specs.LyingLaws.{tray-ends, tray-part, sheet-begins, sheet-ends, sheet-bytes}
 use borrow.Author.Needs.{needs}
 use Rattle.stack.proofs.bytes_of.Statement.{statement}
 use Rattle.stack.proofs.bytes_of.Tie as tie
@@ -32,7 +32,7 @@ add-result c =
     let at-if1 = c .before in
     let args = entry .args in
     let m = memory (args .ends .now) (args .lengths .now) (args .s .now) (args .trays .now) (entry .pre .0 .0) in
-    let b : c .tray-at .result + getD (args .lengths .now) (args .k) 0 ≤ length (args .trays .now) = rw (c .tray-at .ensures) (tray-ends m (args .k) (entry .pre .0 .1 .type) (entry .pre .0 .1 .lies) (at-if1 .if1 .taken)) in
+    let inside = tray-ends m (args .k) (entry .pre .0 .1 .type) (entry .pre .0 .1 .lies) (at-if1 .if1 .taken) (c .tray-at .ensures) in
     search needs
 
 sub-result : tie.Need-sub-result
@@ -47,8 +47,7 @@ part-result-end c =
     let at-if1 = c .before in
     let args = entry .args in
     let m = memory (args .ends .now) (args .lengths .now) (args .s .now) (args .trays .now) (entry .pre .0 .0) in
-    let b : c .tray-at .result + getD (args .lengths .now) (args .k) 0 ≤ length (args .trays .now) = rw (c .tray-at .ensures) (tray-ends m (args .k) (entry .pre .0 .1 .type) (entry .pre .0 .1 .lies) (at-if1 .if1 .taken)) in
-    b
+    tray-ends m (args .k) (entry .pre .0 .1 .type) (entry .pre .0 .1 .lies) (at-if1 .if1 .taken) (c .tray-at .ensures)
 
 returns : tie.Need-returns
 returns c =
@@ -56,9 +55,7 @@ returns c =
     let entry = c .before .before .before .before .before .before .before .before .before in
     let at-if1 = c .before .before in
     let args = entry .args in
-    λ d t l.
-    let n : at-tray-at .tray-at .result + getD (args .lengths .now) (args .k) 0 - at-tray-at .tray-at .result ≡ getD (args .lengths .now) (args .k) 0 = omega arith in
-    rw (n, at-tray-at .tray-at .ensures) (tray-bytes (memory (args .ends .now) (args .lengths .now) (args .s .now) (args .trays .now) d) (args .k) t l (at-if1 .if1 .taken))
+    λ d t l. tray-part (memory (args .ends .now) (args .lengths .now) (args .s .now) (args .trays .now) d) (args .k) t l (at-if1 .if1 .taken) (at-tray-at .tray-at .ensures)
 
 sub-result-2 : tie.Need-sub-result-2
 sub-result-2 c =

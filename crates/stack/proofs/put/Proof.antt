@@ -1,7 +1,7 @@
 use Prim.Native.Nat.{_-_}
 use native.Mathlib.Omega.{arith}
 use mathlib.Core.Path.{refl}
-use Rattle.stack.specs.StackLaws.{put-takes}
+use Rattle.stack.specs.KeepsLaws.{put-takes}
 use borrow.Author.Needs.{needs}
 use Rattle.stack.proofs.put.Statement.{statement}
 use Rattle.stack.proofs.put.Tie as tie

@@ -3,7 +3,8 @@ use native.Mathlib.Omega.{arith}
 use mathlib.Core.Path.{refl, ap}
 use lib.ListN.{length}
 use Rattle.stack.specs.Stack.{packedEnd, trayEnd}
-use Rattle.stack.specs.StackLaws.{packed-takes, in-tray-takes, tray-inside}
+use Rattle.stack.specs.ApartLaws.{slot-inside, tray-inside}
+use Rattle.stack.specs.KeepsLaws.{packed-takes, in-tray-takes}
 use borrow.Author.Needs.{needs}
 use Rattle.stack.proofs.store.Statement.{statement}
 use Rattle.stack.proofs.store.Tie as tie
@@ -20,7 +21,13 @@ mul-pack c = search needs
 pack-requires : tie.Need-pack-requires
 pack-requires c κs =
     let entry = c .before .before .before .before .before .before .before in
-    record { type = entry .pre .1 .0; within = entry .pre .1 .1; bytes = entry .pre .1 .2; room = omega (arith, entry .pre .2 .3 .stacked .room, entry .pre .0) }
+    let args = entry .args in
+    record {
+      type = entry .pre .1 .0;
+      within = entry .pre .1 .1;
+      bytes = entry .pre .1 .2;
+      room = slot-inside (args .scratch .now) (entry .pre .2 .3 .stacked .room) (entry .pre .1 .0) (entry .pre .1 .1) (args .k) (entry .pre .0);
+    }
 
 mul-ends : tie.Need-mul-ends
 mul-ends c = search needs

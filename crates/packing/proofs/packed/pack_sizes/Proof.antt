@@ -1,18 +1,13 @@
-use Prim.Native.Nat.{_+_, _-_}
 use native.Mathlib.Omega.{arith}
-use mathlib.Core.Path.{_≡_, _∙_, ap}
-use lib.ListN.{take, drop, length-drop}
-use lib.Seq.{length-take-le}
 use borrow.Author.Needs.{needs}
-use Rattle.lent.specs.Over.{over}
 use Rattle.packing.specs.Layouts.{asRecord, asPacked}
-use Rattle.packing.specs.Packed.{packedSize}
 use Rattle.packing.proofs.SizeLaws.{size-packed, SizesLeft, sizes-none, sizes-length, next-reads, next-room, next-done, sizes-all}
 use Rattle.packing.proofs.packed.pack_sizes.Statement.{statement}
 use Rattle.packing.proofs.packed.pack_sizes.Tie as tie
 use Rattle.packing.proofs.packed.pack_sizes.Reads as reads
 use Rattle.packing.proofs.packed.pack_sizes.Lts as lts
-use Rattle.lent.proofs.lay.Reads as lay-reads
+use Rattle.packing.proofs.packed.put_seven.Reads as put-seven-reads
+use Rattle.record.proofs.number_at.Reads as number-at-reads
 
 abbrev Inv-loop : tie.InvT-loop
 Inv-loop s start out₀ place count from₀ to₀ left₀ out from to left = SizesLeft asRecord asPacked s start out₀ place count out from to left
@@ -23,32 +18,11 @@ abbrev μ-loop : tie.MeasureT-loop
 loop-holds : tie.Need-loop-holds Inv-loop μ-loop
 loop-holds c = sizes-none (c .before .before .pre)
 
-add-lay : tie.Need-add-lay Inv-loop μ-loop
-add-lay c =
-    let there = next-reads (c .before .loop .inv) (c .loop-test .taken) in
-    search needs
+number-at-requires : tie.Need-number-at-requires Inv-loop μ-loop
+number-at-requires c κs = next-reads (c .before .before .loop .inv) (c .before .loop-test .taken)
 
-sub-lay : tie.Need-sub-lay Inv-loop μ-loop
-sub-lay c = search needs
-
-part-lay-start : tie.Need-part-lay-start Inv-loop μ-loop
-part-lay-start c = search needs
-
-part-lay-end : tie.Need-part-lay-end Inv-loop μ-loop
-part-lay-end c =
-    let there = next-reads (c .before .loop .inv) (c .loop-test .taken) in
-    search needs
-
-lay-requires : tie.Need-lay-requires Inv-loop μ-loop
-lay-requires c κs =
-    let at-loop = c .before .before .before in
-    let at-loop-test = c .before .before in
-    let args = c .before .before .before .before .before .before .args in
-    let loop = at-loop .loop in
-    let room = next-room (loop .inv) (at-loop-test .loop-test .taken) in
-    let there = next-reads (loop .inv) (at-loop-test .loop-test .taken) in
-    let part : loop .from + packedSize - loop .from ≡ packedSize = omega arith in
-    rw part (omega (arith, length-take-le packedSize (drop (loop .from) (args .s .now)) (omega (arith, length-drop (loop .from) (args .s .now)))))
+put-seven-requires : tie.Need-put-seven-requires Inv-loop μ-loop
+put-seven-requires c κs = next-room (c .before .before .before .loop .inv) (c .before .before .loop-test .taken)
 
 add-from : tie.Need-add-from Inv-loop μ-loop
 add-from c =
@@ -73,15 +47,12 @@ loop-less c = search needs
 
 loop-again : tie.Need-loop-again Inv-loop μ-loop
 loop-again c =
-    let entry = c .before .before .before .before .before .before .before .before .before in
-    let at-loop = c .before .before .before .before .before .before in
+    let args = c .before .before .before .before .before .before .before .before .before .args in
     let at-loop-test = c .before .before .before .before .before in
-    let at-lay = c .before .before in
-    let args = entry .args in
-    let loop = at-loop .loop in
-    let part : loop .from + packedSize - loop .from ≡ packedSize = omega arith in
-    let laid = at-lay .lay .ensures ∙ ap (λ n. over (loop .out) (loop .to) (take n (drop (loop .from) (args .s .now)))) part in
-    next-done (loop .inv) (at-loop-test .loop-test .taken) (size-packed (args .s .now) (loop .from) (loop .out) (loop .to) laid)
+    let loop = c .before .before .before .before .before .before .loop in
+    let read = c .before .before .before .number-at in
+    let wrote = c .before .before .put-seven in
+    next-done (loop .inv) (at-loop-test .loop-test .taken) (size-packed (args .s .now) (loop .from) (loop .out) (loop .to) (read .ensures) (wrote .ensures))
 
 same-length : tie.Need-same-length Inv-loop μ-loop
 same-length c = sizes-length (c .before .loop .inv)
@@ -96,11 +67,8 @@ pack-sizes-spec =
     Inv-loop
     μ-loop
     loop-holds
-    add-lay
-    sub-lay
-    part-lay-start
-    part-lay-end
-    lay-requires
+    number-at-requires
+    put-seven-requires
     add-from
     add-to
     sub-left

@@ -1,19 +1,14 @@
-use Prim.Native.Nat.{_+_, _-_}
-use mathlib.Core.Path.{_≡_, refl, _∙_, ap}
-use lib.ListN.{take, drop, length-drop}
-use lib.Seq.{length-take-le}
-use Rattle.lent.specs.Over.{over}
-use Rattle.packing.specs.Layouts.{asRecord, asPacked}
-use Rattle.packing.specs.Packed.{packedSize}
 use native.Mathlib.Omega.{arith}
 use borrow.Author.Needs.{needs}
+use Rattle.packing.specs.Layouts.{asRecord, asPacked}
 use Rattle.packing.proofs.SizeLaws.{size-unpacked, SizesLeft, sizes-none, sizes-length, next-reads, next-room, next-done, sizes-all}
 use Rattle.packing.proofs.unpacked.unpack_sizes.Statement.{statement}
 use Rattle.packing.proofs.unpacked.unpack_sizes.Tie as tie
 use Rattle.packing.proofs.unpacked.unpack_sizes.Reads as reads
 use Rattle.packing.proofs.unpacked.unpack_sizes.Lts as lts
-use Rattle.lent.proofs.lay.Reads as lay-reads
-use Rattle.packing.proofs.unpacked.eighth.Reads as eighth-reads
+use Rattle.packing.proofs.unpacked.seven_at.Reads as seven-at-reads
+use Rattle.packing.proofs.unpacked.unpack_number.Reads as unpack-number-reads
+use Rattle.writer.proofs.put_number.Reads as put-number-reads
 
 abbrev Inv-loop : tie.InvT-loop
 Inv-loop s start out₀ place count from₀ to₀ left₀ out from to left = SizesLeft asPacked asRecord s start out₀ place count out from to left
@@ -24,80 +19,26 @@ abbrev μ-loop : tie.MeasureT-loop
 loop-holds : tie.Need-loop-holds Inv-loop μ-loop
 loop-holds c = sizes-none (c .before .before .pre)
 
-add-last : tie.Need-add-last Inv-loop μ-loop
-add-last c =
-    let at-loop = c .before in
-    let there = next-reads (at-loop .loop .inv) (c .loop-test .taken) in
-    search needs
+seven-at-requires : tie.Need-seven-at-requires Inv-loop μ-loop
+seven-at-requires c κs = next-reads (c .before .before .loop .inv) (c .before .loop-test .taken)
 
-shared-slice-read-last : tie.Need-shared-slice-read-last Inv-loop μ-loop
-shared-slice-read-last c =
-    let at-loop = c .before .before in
-    let at-loop-test = c .before in
-    let there = next-reads (at-loop .loop .inv) (at-loop-test .loop-test .taken) in
-    search needs
+unpack-number-requires : tie.Need-unpack-number-requires Inv-loop μ-loop
+unpack-number-requires c κs = search needs
 
-add-lay : tie.Need-add-lay Inv-loop μ-loop
-add-lay c =
-    let at-loop = c .before .before in
-    let at-loop-test = c .before in
-    let there = next-reads (at-loop .loop .inv) (at-loop-test .loop-test .taken) in
-    search needs
-
-sub-lay : tie.Need-sub-lay Inv-loop μ-loop
-sub-lay c = search needs
-
-part-lay-start : tie.Need-part-lay-start Inv-loop μ-loop
-part-lay-start c = search needs
-
-part-lay-end : tie.Need-part-lay-end Inv-loop μ-loop
-part-lay-end c =
-    let at-loop = c .before .before in
-    let at-loop-test = c .before in
-    let there = next-reads (at-loop .loop .inv) (at-loop-test .loop-test .taken) in
-    search needs
-
-lay-requires : tie.Need-lay-requires Inv-loop μ-loop
-lay-requires c κs =
-    let at-loop = c .before .before .before .before in
-    let at-loop-test = c .before .before .before in
-    let args = c .before .before .before .before .before .before .before .args in
-    let loop = at-loop .loop in
-    let room = next-room (loop .inv) (at-loop-test .loop-test .taken) in
-    let there = next-reads (loop .inv) (at-loop-test .loop-test .taken) in
-    let part : loop .from + packedSize - loop .from ≡ packedSize = omega arith in
-    rw part (omega (arith, length-take-le packedSize (drop (loop .from) (args .s .now)) (omega (arith, length-drop (loop .from) (args .s .now)))))
-
-eighth-requires : tie.Need-eighth-requires Inv-loop μ-loop
-eighth-requires c κs = search needs
-
-add-out : tie.Need-add-out Inv-loop μ-loop
-add-out c =
-    let at-loop = c .before .before .before .before .before .before .before .before in
-    let at-loop-test = c .before .before .before .before .before .before .before in
-    let room = next-room (at-loop .loop .inv) (at-loop-test .loop-test .taken) in
-    let same = sizes-length (at-loop .loop .inv) in
-    search needs
-
-slice-write-out : tie.Need-slice-write-out Inv-loop μ-loop
-slice-write-out c =
-    let at-loop = c .before .before .before .before .before .before .before .before in
-    let at-loop-test = c .before .before .before .before .before .before .before in
-    let room = next-room (at-loop .loop .inv) (at-loop-test .loop-test .taken) in
-    let at-lay = c .before .before .before in
-    omega (arith, at-lay .lay .kept .1 .0)
+put-number-requires : tie.Need-put-number-requires Inv-loop μ-loop
+put-number-requires c κs = next-room (c .before .before .before .before .loop .inv) (c .before .before .before .loop-test .taken)
 
 add-from : tie.Need-add-from Inv-loop μ-loop
 add-from c =
-    let at-loop = c .before .before .before .before .before .before .before .before in
-    let at-loop-test = c .before .before .before .before .before .before .before in
+    let at-loop = c .before .before .before .before .before .before .before in
+    let at-loop-test = c .before .before .before .before .before .before in
     let there = next-reads (at-loop .loop .inv) (at-loop-test .loop-test .taken) in
     search needs
 
 add-to : tie.Need-add-to Inv-loop μ-loop
 add-to c =
-    let at-loop = c .before .before .before .before .before .before .before .before in
-    let at-loop-test = c .before .before .before .before .before .before .before in
+    let at-loop = c .before .before .before .before .before .before .before in
+    let at-loop-test = c .before .before .before .before .before .before in
     let room = next-room (at-loop .loop .inv) (at-loop-test .loop-test .taken) in
     let same = sizes-length (at-loop .loop .inv) in
     search needs
@@ -110,14 +51,13 @@ loop-less c = search needs
 
 loop-again : tie.Need-loop-again Inv-loop μ-loop
 loop-again c =
-    let at-loop = c .before .before .before .before .before .before .before .before in
-    let at-loop-test = c .before .before .before .before .before .before .before in
-    let args = c .before .before .before .before .before .before .before .before .before .before .before .args in
-    let loop = at-loop .loop in
-    let at-lay = c .before .before .before in
-    let part : loop .from + packedSize - loop .from ≡ packedSize = omega arith in
-    let laid = at-lay .lay .ensures ∙ ap (λ n. over (loop .out) (loop .to) (take n (drop (loop .from) (args .s .now)))) part in
-    next-done (loop .inv) (at-loop-test .loop-test .taken) (size-unpacked (args .s .now) (loop .from) (loop .out) (loop .to) laid (c .eighth .ensures) refl)
+    let args = c .before .before .before .before .before .before .before .before .before .before .args in
+    let at-loop-test = c .before .before .before .before .before .before in
+    let loop = c .before .before .before .before .before .before .before .loop in
+    let read = c .before .before .before .before .seven-at in
+    let told = c .before .before .before .unpack-number in
+    let wrote = c .before .before .put-number in
+    next-done (loop .inv) (at-loop-test .loop-test .taken) (size-unpacked (args .s .now) (loop .from) (loop .out) (loop .to) (read .ensures) (told .ensures) (wrote .ensures))
 
 same-length : tie.Need-same-length Inv-loop μ-loop
 same-length c = sizes-length (c .before .loop .inv)
@@ -132,16 +72,9 @@ unpack-sizes-spec =
     Inv-loop
     μ-loop
     loop-holds
-    add-last
-    shared-slice-read-last
-    add-lay
-    sub-lay
-    part-lay-start
-    part-lay-end
-    lay-requires
-    eighth-requires
-    add-out
-    slice-write-out
+    seven-at-requires
+    unpack-number-requires
+    put-number-requires
     add-from
     add-to
     sub-left

@@ -1,11 +1,10 @@
 use Prim.Native.Nat.{ℕ, _-_, _≤_}
 use native.Mathlib.Omega.{arith}
-use mathlib.Core.Path.{refl}
 use lib.ListN.{length, length-replicate}
-use Rattle.machine.specs.Run.{Stack, State}
 use Rattle.stack.specs.Stack.{fullTrays}
-use Rattle.stack.specs.StackLaws.{trays-keep}
-use Rattle.run.proofs.SheetLaws.{stopped-has, run-finished, run-refused}
+use Rattle.stack.specs.KeepsLaws.{trays-keep}
+use Rattle.run.proofs.SheetLaws.{state-kept, some-here, stopped-has, run-finished, run-refused}
+use Rattle.run.proofs.StepLaws.{has-kept}
 use borrow.Author.Needs.{needs}
 use Rattle.run.proofs.sheet.run_large.Statement.{statement}
 use Rattle.run.proofs.sheet.run_large.Tie as tie
@@ -20,14 +19,9 @@ slice-aggregate-run-steps c = search needs
 run-steps-requires : tie.Need-run-steps-requires
 run-steps-requires c κs =
     let entry = c .before .before .before .before .before .before .before .before .before .before .before in
-    let args = entry .args in (
-      entry .pre .0,
-      record {
-        types = entry .pre .1 .1 .types;
-        stacked = trays-keep (args .ends .now) (args .lengths .now) (args .sheet .now) (entry .pre .1 .0) _ (args .scratch .now)
-            (args .count) (entry .pre .2) (entry .pre .1 .1 .types) (entry .pre .1 .1 .stacked);
-      },
-    )
+    let args = entry .args in
+    let kept = trays-keep (args .ends .now) (args .lengths .now) (args .sheet .now) (entry .pre .1 .0) _ (args .scratch .now) (args .count) (entry .pre .2) in
+    (entry .pre .0, has-kept _ _ (args .count) kept (entry .pre .1 .1))
 
 enum-told : tie.Need-enum-told
 enum-told c = search needs
@@ -41,9 +35,9 @@ hand-over-requires c κs =
     let at-run-steps = c .before .before .before .before .before .before .before .before .before .before .before .before .before .before .before .before in
     let at-enum-told = c .before .before .before .before .before in
     let args = entry .args in
-    let st : State Stack = record { stack = entry .pre .1 .1 .types; taken = args .taken } in
-    let stacked = trays-keep (args .ends .now) (args .lengths .now) (args .sheet .now) (entry .pre .1 .0) _ (args .scratch .now) (args .count) (entry .pre .2) (entry .pre .1 .1 .types) (entry .pre .1 .1 .stacked) in
-    stopped-has (at-run-steps .run-steps .result) _ _ (at-run-steps .run-steps .ensures st (record { stacked = stacked; steps = refl })) (at-enum-told .enum-told .given .1)
+    let kept = trays-keep (args .ends .now) (args .lengths .now) (args .sheet .now) (entry .pre .1 .0) _ (args .scratch .now) (args .count) (entry .pre .2) in
+    let here = state-kept (some-here (entry .pre .1 .1) (args .taken)) kept in
+    stopped-has (at-run-steps .run-steps .result) _ _ (at-run-steps .run-steps .ensures _ here) (at-enum-told .enum-told .given .1)
 
 enum-known-answer : tie.Need-enum-known-answer
 enum-known-answer c = search needs
@@ -72,8 +66,8 @@ returns c =
     let at-hand-over = c .before .before in
     let args = entry .args in
     λ small st h same.
-    let stacked = trays-keep (args .ends .now) (args .lengths .now) (args .sheet .now) small _ (args .scratch .now) (args .count) (entry .pre .2) (st .stack) (h .stacked) in
-    let runs = at-run-steps .run-steps .ensures st (record { stacked = stacked; steps = h .steps }) in
+    let kept = trays-keep (args .ends .now) (args .lengths .now) (args .sheet .now) small _ (args .scratch .now) (args .count) (entry .pre .2) in
+    let runs = at-run-steps .run-steps .ensures st (state-kept h kept) in
     let room : fullTrays ≤ length (at-run-steps .run-steps .last .1 .1 .1 .1 .1 .1 .0) = omega (arith, at-run-steps .run-steps .kept .1 .1 .1 .1 .1 .1 .0, length-replicate {A = ℕ} fullTrays 0) in
     run-finished (at-run-steps .run-steps .result) _ _ runs same (at-enum-told .enum-told .given .1) room λ ts left e. at-hand-over .hand-over .ensures ts left e
 
@@ -96,8 +90,8 @@ returns-2 c =
     let at-answer = c .before in
     let args = entry .args in
     λ small st h same.
-    let stacked = trays-keep (args .ends .now) (args .lengths .now) (args .sheet .now) small _ (args .scratch .now) (args .count) (entry .pre .2) (st .stack) (h .stacked) in
-    let runs = at-run-steps .run-steps .ensures st (record { stacked = stacked; steps = h .steps }) in
+    let kept = trays-keep (args .ends .now) (args .lengths .now) (args .sheet .now) small _ (args .scratch .now) (args .count) (entry .pre .2) in
+    let runs = at-run-steps .run-steps .ensures st (state-kept h kept) in
     record { called = run-refused (at-run-steps .run-steps .result) _ _ runs same (at-answer .answer .given .1) _; measured = tt }
 
 pub run-large-spec : {M : Type 1} → statement M

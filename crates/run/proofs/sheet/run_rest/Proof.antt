@@ -1,5 +1,6 @@
 use Prim.Native.Nat.{_-_}
-use Rattle.run.proofs.SheetLaws.{run-left}
+use Rattle.run.proofs.SheetLaws.{state-kept, run-left}
+use Rattle.run.proofs.StepLaws.{has-kept}
 use borrow.Author.Needs.{needs}
 use Rattle.run.proofs.sheet.run_rest.Statement.{statement}
 use Rattle.run.proofs.sheet.run_rest.Tie as tie
@@ -43,7 +44,7 @@ run-large-requires c κs =
     let entry = c .before .before .before .before .before .before .before .before .before .before .before .before .before .before .before .before .before .before .before .before .before in
     let at-empty-trays = c .before .before .before .before .before .before .before .before .before in
     let args = entry .args in
-    (entry .pre .0, (args .small .now, record { types = entry .pre .1 .types; stacked = at-empty-trays .empty-trays .ensures .0 (args .sheet .now) (entry .pre .1 .types) (entry .pre .1 .stacked) }), at-empty-trays .empty-trays .ensures .1)
+    (entry .pre .0, (args .small .now, has-kept _ _ (args .count) (at-empty-trays .empty-trays .ensures .0 (args .sheet .now)) (entry .pre .1)), at-empty-trays .empty-trays .ensures .1)
 
 same-length-5 : tie.Need-same-length-5
 same-length-5 c = search needs
@@ -67,7 +68,7 @@ returns-2 c =
     .before .before .before .before .before .before .before .before .before .before .before .before in
     let at-empty-trays = c .before .before .before .before .before .before .before .before .before .before .before .before .before .before .before .before .before .before .before .before in
     let args = entry .args in
-    λ st h same. at-run-large .run-large .ensures (args .small .now) st (record { stacked = at-empty-trays .empty-trays .ensures .0 (args .sheet .now) (st .stack) (h .stacked); steps = h .steps }) same
+    λ st h same. at-run-large .run-large .ensures (args .small .now) st (state-kept h (at-empty-trays .empty-trays .ensures .0 (args .sheet .now))) same
 
 pub run-rest-spec : {M : Type 1} → statement M
 run-rest-spec =

@@ -1,13 +1,8 @@
-use Prim.Native.Nat.{ℕ, _-_, _≤_}
-use native.Mathlib.Omega.{arith}
+use Prim.Native.Nat.{_-_}
 use mathlib.Core.List.{[]}
 use mathlib.Core.Path.{refl}
-use lib.ListN.{length, length-replicate, replicate}
 use Rattle.machine.specs.Run.{fresh}
-use Rattle.machine.specs.SheetLimits.{maxStack}
-use Rattle.stack.specs.Stack.{memory}
-use Rattle.stack.specs.StackLaws.{stacked-none}
-use Rattle.run.proofs.SheetLaws.{run-stopped, stopped-has, run-refused}
+use Rattle.run.proofs.SheetLaws.{state-has, state-fresh, run-stopped, stopped-has, run-refused}
 use borrow.Author.Needs.{needs}
 use Rattle.run.proofs.sheet.run_sheet.Statement.{statement}
 use Rattle.run.proofs.sheet.run_sheet.Tie as tie
@@ -29,9 +24,7 @@ run-steps-requires : tie.Need-run-steps-requires
 run-steps-requires c κs =
     let entry = c .before .before .before .before .before .before .before .before .before in
     let args = entry .args in
-    let m = memory (replicate {A = ℕ} maxStack 0) (args .lengths .now) (args .sheet .now) (replicate {A = ℕ} 1024 0) (args .scratch .now) in
-    let six : maxStack ≤ length (replicate {A = ℕ} maxStack 0) = omega (arith, length-replicate {A = ℕ} maxStack 0) in
-    (search needs, record { types = []; stacked = stacked-none m (entry .pre .1) six (entry .pre .0) })
+    (search needs, state-has (state-fresh (args .lengths .now) (args .sheet .now) _ (args .scratch .now) (entry .pre .0) (entry .pre .1)))
 
 enum-known-answer : tie.Need-enum-known-answer
 enum-known-answer c = search needs
@@ -51,9 +44,7 @@ run-rest-requires c κs =
     let at-run-steps = c .before .before .before .before .before .before .before .before .before .before .before .before .before .before .before .before in
     let at-answer = c .before .before .before .before .before .before .before in
     let args = entry .args in
-    let six : maxStack ≤ length (replicate {A = ℕ} maxStack 0) = omega (arith, length-replicate {A = ℕ} maxStack 0) in
-    let none = stacked-none (memory (replicate {A = ℕ} maxStack 0) (args .lengths .now) (args .sheet .now) (replicate {A = ℕ} 1024 0) (args .scratch .now)) (entry .pre .1) six (entry .pre .0) in
-    let runs = at-run-steps .run-steps .ensures (fresh []) (record { stacked = none; steps = refl }) in
+    let runs = at-run-steps .run-steps .ensures (fresh []) (state-fresh (args .lengths .now) (args .sheet .now) _ (args .scratch .now) (entry .pre .0) (entry .pre .1)) in
     (search needs, stopped-has (at-run-steps .run-steps .result) _ _ runs (at-answer .answer .given .1))
 
 enum-known-answer-2 : tie.Need-enum-known-answer-2
@@ -76,10 +67,8 @@ returns c =
     let at-answer = c .before .before .before .before .before .before .before .before .before .before .before .before .before .before .before .before in
     let at-run-rest = c .before .before .before .before .before .before .before .before in
     let args = entry .args in
-    let six : maxStack ≤ length (replicate {A = ℕ} maxStack 0) = omega (arith, length-replicate {A = ℕ} maxStack 0) in
-    let none = stacked-none (memory (replicate {A = ℕ} maxStack 0) (args .lengths .now) (args .sheet .now) (replicate {A = ℕ} 1024 0) (args .scratch .now)) (entry .pre .1) six (entry .pre .0) in
-    let runs = at-run-steps .run-steps .ensures (fresh []) (record { stacked = none; steps = refl }) in
-    let stop = run-stopped (at-run-steps .run-steps .result) _ _ runs (at-answer .answer .given .1) in
+    let runs = at-run-steps .run-steps .ensures (fresh []) (state-fresh (args .lengths .now) (args .sheet .now) _ (args .scratch .now) (entry .pre .0) (entry .pre .1)) in
+    let stop = run-stopped (at-run-steps .run-steps .result) _ _ runs (at-answer .answer .given .1) .going in
     at-run-rest .run-rest .ensures (stop .state) (stop .here) (stop .same)
 
 same-length-4 : tie.Need-same-length-4
@@ -94,9 +83,7 @@ returns-2 c =
     let at-run-steps = c .before .before .before .before .before .before .before .before .before .before in
     let at-answer2 = c .before in
     let args = entry .args in
-    let six : maxStack ≤ length (replicate {A = ℕ} maxStack 0) = omega (arith, length-replicate {A = ℕ} maxStack 0) in
-    let none = stacked-none (memory (replicate {A = ℕ} maxStack 0) (args .lengths .now) (args .sheet .now) (replicate {A = ℕ} 1024 0) (args .scratch .now)) (entry .pre .1) six (entry .pre .0) in
-    let runs = at-run-steps .run-steps .ensures (fresh []) (record { stacked = none; steps = refl }) in
+    let runs = at-run-steps .run-steps .ensures (fresh []) (state-fresh (args .lengths .now) (args .sheet .now) _ (args .scratch .now) (entry .pre .0) (entry .pre .1)) in
     record { called = run-refused (at-run-steps .run-steps .result) _ _ runs refl (at-answer2 .answer2 .given .1) _; measured = tt }
 
 pub run-sheet-spec : {M : Type 1} → statement M

@@ -114,7 +114,7 @@ work-step-requires c κs =
       enough = omega arith;
       room = omega (arith, at-loop .loop .inv .4, entry .pre .0);
       has = going-has m (args .count) (args .taken) (args .start) {m = m₁} (entry .pre .1) (at-loop .loop .inv .5);
-      fit = at-wants-trays .wants-trays .ensures .1 (at-loop .loop .ends) (args .s .now) (at-loop .loop .scratch) (at-if2 .if2 .left);
+      fit = at-wants-trays .wants-trays .ensures .1 (at-if2 .if2 .left);
     }
 
 enum-known-answer : tie.Need-enum-known-answer Inv-loop μ-loop

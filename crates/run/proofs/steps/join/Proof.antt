@@ -3,7 +3,7 @@ use Rattle.format.specs.Outcome.{accepted}
 use Rattle.rules.specs.Types.{joinTypes}
 use Rattle.machine.specs.Steps.{join}
 use Rattle.stack.specs.Stack.{memory}
-use Rattle.run.proofs.StepLaws.{has-kept, works-kept, ruled-two, works-two, join-step, join-within}
+use Rattle.run.proofs.StepLaws.{ready-unpacked, works-kept, ruled-two, works-two, join-step, join-within}
 use borrow.Author.Needs.{needs}
 use Rattle.run.proofs.steps.join.Statement.{statement}
 use Rattle.run.proofs.steps.join.Tie as tie
@@ -23,8 +23,8 @@ join-top-requires c κs =
     let args = entry .args in
     let m = memory (args .ends .now) (args .lengths .now) (args .s .now) (args .trays .now) (args .scratch .now) in
     let m₁ = memory (at-unpack-two .unpack-two .last .1 .0) (args .lengths .now) (args .s .now) (at-unpack-two .unpack-two .last .1 .1 .1 .0) (at-unpack-two .unpack-two .last .1 .1 .1 .1 .0) in
-    let has = has-kept m m₁ (args .count) (at-unpack-two .unpack-two .ensures .0 (args .s .now)) (entry .pre .has) in
-    (at-unpack-two .unpack-two .last .1 .1 .1 .1 .0, record { enough = entry .pre .enough; room = entry .pre .room; has = has; unpacked = at-unpack-two .unpack-two .ensures .1 })
+    let ready = ready-unpacked m m₁ (args .count) (entry .pre) (at-unpack-two .unpack-two .ensures .0 (args .s .now)) (at-unpack-two .unpack-two .ensures .1) in
+    (m₁ .scratch, ready)
 
 sub-lay-down : tie.Need-sub-lay-down
 sub-lay-down c = search needs
@@ -38,8 +38,8 @@ lay-down-requires c κs =
     let args = entry .args in
     let m = memory (args .ends .now) (args .lengths .now) (args .s .now) (args .trays .now) (args .scratch .now) in
     let m₁ = memory (at-unpack-two .unpack-two .last .1 .0) (args .lengths .now) (args .s .now) (at-unpack-two .unpack-two .last .1 .1 .1 .0) (at-unpack-two .unpack-two .last .1 .1 .1 .1 .0) in
-    let has = has-kept m m₁ (args .count) (at-unpack-two .unpack-two .ensures .0 (args .s .now)) (entry .pre .has) in
-    ((args .s .now, has), ruled-two m₁ (args .count) (at-join-top .join-top .result) _ (λ t u. accepted (joinTypes t u)) join-within (entry .pre .enough) (at-join-top .join-top .ensures (m₁ .scratch)) has)
+    let ready = ready-unpacked m m₁ (args .count) (entry .pre) (at-unpack-two .unpack-two .ensures .0 (args .s .now)) (at-unpack-two .unpack-two .ensures .1) in
+    ((args .s .now, ready .has), ruled-two m₁ (args .count) (at-join-top .join-top .result) _ (λ t u. accepted (joinTypes t u)) join-within (entry .pre .enough) (at-join-top .join-top .ensures (m₁ .scratch)) (ready .has))
 
 same-length : tie.Need-same-length
 same-length c = search needs

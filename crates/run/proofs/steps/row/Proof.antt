@@ -3,7 +3,7 @@ use Rattle.format.specs.Outcome.{accepted}
 use Rattle.rules.specs.Types.{intoRow}
 use Rattle.machine.specs.Steps.{row}
 use Rattle.stack.specs.Stack.{memory}
-use Rattle.run.proofs.StepLaws.{has-kept, works-kept, ruled-one, works-one, row-step, row-within}
+use Rattle.run.proofs.StepLaws.{ready-unpacked, works-kept, ruled-one, works-one, row-step, row-within}
 use borrow.Author.Needs.{needs}
 use Rattle.run.proofs.steps.row.Statement.{statement}
 use Rattle.run.proofs.steps.row.Tie as tie
@@ -23,8 +23,8 @@ row-top-requires c κs =
     let args = entry .args in
     let m = memory (args .ends .now) (args .lengths .now) (args .s .now) (args .trays .now) (args .scratch .now) in
     let m₁ = memory (at-unpack-top .unpack-top .last .1 .0) (args .lengths .now) (args .s .now) (at-unpack-top .unpack-top .last .1 .1 .1 .0) (at-unpack-top .unpack-top .last .1 .1 .1 .1 .0) in
-    let has = has-kept m m₁ (args .count) (at-unpack-top .unpack-top .ensures .0 (args .s .now)) (entry .pre .has) in
-    (at-unpack-top .unpack-top .last .1 .1 .1 .1 .0, record { enough = entry .pre .enough; room = entry .pre .room; has = has; unpacked = at-unpack-top .unpack-top .ensures .1 })
+    let ready = ready-unpacked m m₁ (args .count) (entry .pre) (at-unpack-top .unpack-top .ensures .0 (args .s .now)) (at-unpack-top .unpack-top .ensures .1) in
+    (m₁ .scratch, ready)
 
 sub-lay-down : tie.Need-sub-lay-down
 sub-lay-down c = search needs
@@ -38,8 +38,8 @@ lay-down-requires c κs =
     let args = entry .args in
     let m = memory (args .ends .now) (args .lengths .now) (args .s .now) (args .trays .now) (args .scratch .now) in
     let m₁ = memory (at-unpack-top .unpack-top .last .1 .0) (args .lengths .now) (args .s .now) (at-unpack-top .unpack-top .last .1 .1 .1 .0) (at-unpack-top .unpack-top .last .1 .1 .1 .1 .0) in
-    let has = has-kept m m₁ (args .count) (at-unpack-top .unpack-top .ensures .0 (args .s .now)) (entry .pre .has) in
-    ((args .s .now, has), ruled-one m₁ (args .count) (at-row-top .row-top .result) _ (λ t. accepted (intoRow t)) row-within (entry .pre .enough) (at-row-top .row-top .ensures (m₁ .scratch)) has)
+    let ready = ready-unpacked m m₁ (args .count) (entry .pre) (at-unpack-top .unpack-top .ensures .0 (args .s .now)) (at-unpack-top .unpack-top .ensures .1) in
+    ((args .s .now, ready .has), ruled-one m₁ (args .count) (at-row-top .row-top .result) _ (λ t. accepted (intoRow t)) row-within (entry .pre .enough) (at-row-top .row-top .ensures (m₁ .scratch)) (ready .has))
 
 same-length : tie.Need-same-length
 same-length c = search needs

@@ -5,7 +5,7 @@ use Rattle.validation.specs.CheckShape.{unsided}
 use Rattle.validation.specs.Validate.{validate}
 use Rattle.machine.specs.Steps.{validating}
 use Rattle.stack.specs.Stack.{memory}
-use Rattle.run.proofs.StepLaws.{has-kept, works-kept, ruled-one, works-one, validate-step, validated-within}
+use Rattle.run.proofs.StepLaws.{ready-unpacked, works-kept, ruled-one, works-one, validate-step, validated-within}
 use borrow.Author.Needs.{needs}
 use Rattle.run.proofs.steps.validate.Statement.{statement}
 use Rattle.run.proofs.steps.validate.Tie as tie
@@ -25,8 +25,8 @@ validate-top-requires c κs =
     let args = entry .args in
     let m = memory (args .ends .now) (args .lengths .now) (args .s .now) (args .trays .now) (args .scratch .now) in
     let m₁ = memory (at-unpack-top .unpack-top .last .1 .0) (args .lengths .now) (args .s .now) (at-unpack-top .unpack-top .last .1 .1 .1 .0) (at-unpack-top .unpack-top .last .1 .1 .1 .1 .0) in
-    let has = has-kept m m₁ (args .count) (at-unpack-top .unpack-top .ensures .0 (args .s .now)) (entry .pre .0 .has) in
-    ((at-unpack-top .unpack-top .last .1 .1 .1 .1 .0, record { enough = entry .pre .0 .enough; room = entry .pre .0 .room; has = has; unpacked = at-unpack-top .unpack-top .ensures .1 }), entry .pre .1)
+    let ready = ready-unpacked m m₁ (args .count) (entry .pre .0) (at-unpack-top .unpack-top .ensures .0 (args .s .now)) (at-unpack-top .unpack-top .ensures .1) in
+    ((m₁ .scratch, ready), entry .pre .1)
 
 sub-lay-down : tie.Need-sub-lay-down
 sub-lay-down c = search needs
@@ -44,8 +44,11 @@ lay-down-requires c κs =
     let (spec, read) = entry .pre .1 in
     let within = lone-write (args .spec .now) (λ i. omega (arith, at-shared-slice-known .shared-slice-known .given i)) spec read .1 in
     let m₁ = memory (at-unpack-top .unpack-top .last .1 .0) (args .lengths .now) (args .s .now) (at-unpack-top .unpack-top .last .1 .1 .1 .0) (at-unpack-top .unpack-top .last .1 .1 .1 .1 .0) in
-    let has = has-kept m m₁ (args .count) (at-unpack-top .unpack-top .ensures .0 (args .s .now)) (entry .pre .0 .has) in
-    ((args .s .now, has), ruled-one m₁ (args .count) (at-validate-top .validate-top .result) _ (λ t. validate unsided spec t) (validated-within spec within) (entry .pre .0 .enough) (at-validate-top .validate-top .ensures spec (m₁ .scratch) read) has)
+    let ready = ready-unpacked m m₁ (args .count) (entry .pre .0) (at-unpack-top .unpack-top .ensures .0 (args .s .now)) (at-unpack-top .unpack-top .ensures .1) in (
+      (args .s .now, ready .has),
+      ruled-one m₁ (args .count) (at-validate-top .validate-top .result) _ (λ t. validate unsided spec t) (validated-within spec within) (entry .pre .0 .enough)
+          (at-validate-top .validate-top .ensures spec (m₁ .scratch) read) (ready .has),
+    )
 
 same-length : tie.Need-same-length
 same-length c = search needs

@@ -1,5 +1,6 @@
 use Prim.Native.Nat.{_-_}
 use native.Mathlib.Omega.{arith}
+use Rattle.format.specs.Reader.{Bytes}
 use Rattle.validation.specs.Validate.{validate}
 use Rattle.machine.specs.Steps.{put, row, pervading, join, validating}
 use Rattle.machine.specs.StepsTook.{took-step}
@@ -32,7 +33,7 @@ put-requires c κs =
     let args = entry .args in
     put-read (args .s .now) (at-step-at .step-at .ensures) (at-read .read .given .1) λ t e x.
     let took = took-step (args .s .now) (λ i. omega (arith, at-shared-slice-known .shared-slice-known .given i)) (args .count) (args .at) (args .at) (put t) _ e in
-    (omega (arith, took .room), x .forth, entry .pre .has .stacked .slotted, entry .pre .has .stacked .measured)
+    (omega (arith, took .room), x .forth, entry .pre .has .stacked .ended, entry .pre .has .stacked .measured)
 
 enum-known-read-2 : tie.Need-enum-known-read-2
 enum-known-read-2 c = search needs
@@ -134,13 +135,11 @@ returns c =
     let at-put = c .before .before .before .before in
     let at-shared-slice-known = c .before .before .before .before .before .before .before .before .before .before .before .before .before .before .before .before in
     let args = entry .args in
+    let small : Bytes (args .s .now) = λ i. omega (arith, at-shared-slice-known .shared-slice-known .given i) in
     λ st h.
     put-read (args .s .now) (at-step-at .step-at .ensures) (at-read .read .given .1) λ t e x.
     worked (args .s .now) (args .at) st h (at-put .put .result) _ (put t) e
-    (at-put .put .ensures (args .s .now) (args .trays .now) (args .scratch .now) t (args .at)
-    (read-within (args .s .now) (λ i. omega (arith, at-shared-slice-known .shared-slice-known .given i)) x)
-    (read-long (args .s .now) (λ i. omega (arith, at-shared-slice-known .shared-slice-known .given i)) x)
-    (read-stands (args .s .now) (λ i. omega (arith, at-shared-slice-known .shared-slice-known .given i)) x))
+    (at-put .put .ensures (args .s .now) (args .trays .now) (args .scratch .now) t (args .at) (read-within (args .s .now) small x) (read-long (args .s .now) small x) (read-stands (args .s .now) small x))
 
 same-length-3 : tie.Need-same-length-3
 same-length-3 c = search needs

@@ -1,7 +1,7 @@
 use Prim.Native.Nat.{_-_}
 use native.Mathlib.Omega.{arith}
 use mathlib.Core.Path.{_∙_}
-use Rattle.stack.specs.StackLaws.{lies-packed}
+use Rattle.stack.specs.LyingLaws.{lies-packed}
 use borrow.Author.Needs.{needs}
 use Rattle.stack.proofs.out.lay_type.Statement.{statement}
 use Rattle.stack.proofs.out.lay_type.Tie as tie

@@ -41,7 +41,7 @@ lay-type-requires c κs =
     let args = entry .args in
     let st = entry .pre .1 in
     let fits = next-fits _ (args .count) (entry .pre .0) st (at-loop .loop .k) (at-loop-test .loop-test .taken) (at-loop .loop .at) (length (args .result .now)) (at-loop .loop .inv .2 (entry .pre .0) st .0) (entry .pre .2) in
-    ((fits .0, fits .1, rw (at-loop .loop .inv .1) (fits .2)), omega (arith, st .few), st .slotted, st .measured)
+    ((fits .0, fits .1, rw (at-loop .loop .inv .1) (fits .2)), omega (arith, st .few), st .ended, st .measured)
 
 mul-at : tie.Need-mul-at Inv-loop μ-loop
 mul-at c = search needs

@@ -4,7 +4,10 @@ use mathlib.Core.Path.{refl, _∙_}
 use lib.ListN.{length}
 use lib.Seq.{getD-set-other}
 use Rattle.stack.specs.Stack.{memory, trayEnd}
-use Rattle.stack.specs.StackLaws.{unpacked-keeps, one-at, lies-packed, tray-inside, not-packed}
+use Rattle.stack.specs.StackLaws.{one-at}
+use Rattle.stack.specs.LyingLaws.{lies-packed, not-packed}
+use Rattle.stack.specs.ApartLaws.{tray-inside}
+use Rattle.stack.specs.KeepsLaws.{unpacked-keeps}
 use borrow.Author.Needs.{needs}
 use Rattle.stack.proofs.tops.unpack_at.Statement.{statement}
 use Rattle.stack.proofs.tops.unpack_at.Tie as tie
@@ -77,7 +80,7 @@ returns-2 c =
     let args = entry .args in
     let freed = at-free-tray .free-tray .ensures in
     let packed = freed .1 .1 (args .k) (omega arith) ∙ at-if1 .if1 .left in
-    let inside : args .k < length (at-free-tray .free-tray .last .1 .0) = omega (arith, at-free-tray .free-tray .kept .1 .0, entry .pre .0 .2, entry .pre .0 .3 .stacked .slotted, entry .pre .0 .3 .stacked .few) in (
+    let inside : args .k < length (at-free-tray .free-tray .last .1 .0) = omega (arith, at-free-tray .free-tray .kept .1 .0, entry .pre .0 .2, entry .pre .0 .3 .stacked .ended, entry .pre .0 .3 .stacked .few) in (
       λ s count less top ts h.
           unpacked-keeps _ (args .lengths .now) s (args .trays .now) _ count (args .k) less trayEnd _ _ refl packed refl refl (entry .pre .1) top (freed .1 .0)
           (rw (at-tray-at .tray-at .ensures) at (at-unpack .unpack .ensures)) ts (freed .0 s count (omega arith) ts h),

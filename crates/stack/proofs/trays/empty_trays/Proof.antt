@@ -1,20 +1,16 @@
 use Prim.Native.Nat.{ℕ, _+_, _-_, _≤_, _<_}
 use native.Mathlib.Omega.{arith}
-use native.Mathlib.Nat.{eq-or-lt-of-le}
 use mathlib.Core.List.{List}
-use mathlib.Core.Logic.{⊎-elim}
 use mathlib.Core.Path.{_≡_, refl, sym, _∙_}
 use lib.ListN.{length, getD}
 use Rattle.stack.specs.Stack.{memory, trayEnd, Keeps}
+use Rattle.stack.specs.StackLaws.{below-next}
 use borrow.Author.Needs.{needs}
 use Rattle.stack.proofs.trays.empty_trays.Statement.{statement}
 use Rattle.stack.proofs.trays.empty_trays.Tie as tie
 use Rattle.stack.proofs.trays.empty_trays.Reads as reads
 use Rattle.stack.proofs.trays.empty_trays.Lts as lts
 use Rattle.stack.proofs.trays.put_aside.Reads as put-aside-reads
-
-le-here : {j i : ℕ} → j < i + 1 → j ≤ i
-le-here less = omega arith
 
 abbrev Inv-loop : tie.InvT-loop
 Inv-loop count ends₀ lengths trays scratch₀ i₀ ends scratch i =
@@ -55,7 +51,8 @@ loop-again c =
       at-put-aside .put-aside .kept .1 .1 .0 ∙ first,
       at-put-aside .put-aside .kept .1 .1 .1 .1 .1 .0 ∙ second,
       λ s ts h. at-put-aside .put-aside .ensures .0 s (args .count) (at-loop-test .loop-test .taken) ts (kept s ts h),
-      λ j less held. ⊎-elim (λ is. now-free refl (rw (← is) held)) (λ lower. free j lower (sym (others j (λ x. omega arith)) ∙ held)) (eq-or-lt-of-le (le-here less)),
+      below-next (λ j. getD (at-put-aside .put-aside .last .1 .1 .0) j 0 ≡ trayEnd → ⊥) (at-loop .loop .i)
+          (λ j lower held. free j lower (sym (others j (λ x. omega arith)) ∙ held)) (now-free refl),
     )
 
 same-length : tie.Need-same-length Inv-loop μ-loop

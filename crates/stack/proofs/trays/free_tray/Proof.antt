@@ -1,20 +1,16 @@
 use Prim.Native.Nat.{ℕ, _+_, _-_, _%_, _≤_, _<_}
 use native.Mathlib.Omega.{arith}
-use native.Mathlib.Nat.{eq-or-lt-of-le}
 use mathlib.Core.List.{List}
-use mathlib.Core.Logic.{⊎-elim}
 use mathlib.Core.Path.{_≡_, refl, sym, _∙_}
 use lib.ListN.{length, getD}
 use Rattle.stack.specs.Stack.{memory, trayEnd, Keeps}
+use Rattle.stack.specs.StackLaws.{below-next}
 use borrow.Author.Needs.{needs}
 use Rattle.stack.proofs.trays.free_tray.Statement.{statement}
 use Rattle.stack.proofs.trays.free_tray.Tie as tie
 use Rattle.stack.proofs.trays.free_tray.Reads as reads
 use Rattle.stack.proofs.trays.free_tray.Lts as lts
 use Rattle.stack.proofs.trays.put_aside.Reads as put-aside-reads
-
-le-here : {j i : ℕ} → j < i + 1 → j ≤ i
-le-here less = omega arith
 
 abbrev Inv-loop : tie.InvT-loop
 Inv-loop k ends₀ lengths trays scratch₀ i₀ ends scratch i =
@@ -45,13 +41,16 @@ loop-again : tie.Need-loop-again Inv-loop μ-loop
 loop-again c =
     let at-loop = c .before .before .before .before .before .before .before .before in
     let at-put-aside = c .before .before .before .before in
+    let entry = c .before .before .before .before .before .before .before .before .before .before .before .before .before in
+    let args = entry .args in
     let (before, first, second, kept, free, same) = at-loop .loop .inv in
     let (now-free, others) = at-put-aside .put-aside .ensures .1 in (
       omega arith,
       at-put-aside .put-aside .kept .1 .1 .0 ∙ first,
       at-put-aside .put-aside .kept .1 .1 .1 .1 .1 .0 ∙ second,
       λ s count there ts h. at-put-aside .put-aside .ensures .0 s count (omega arith) ts (kept s count there ts h),
-      λ j less e held. ⊎-elim (λ is. now-free (rw (← is) e) (rw (← is) held)) (λ lower. free j lower e (sym (others j (λ x. omega arith)) ∙ held)) (eq-or-lt-of-le (le-here less)),
+      below-next (λ j. j % 2 ≡ args .k % 2 → getD (at-put-aside .put-aside .last .1 .1 .0) j 0 ≡ trayEnd → ⊥) (at-loop .loop .i)
+          (λ j lower e held. free j lower e (sym (others j (λ x. omega arith)) ∙ held)) now-free,
       λ j there. others j (λ x. omega arith) ∙ same j (omega arith),
     )
 

@@ -4,7 +4,10 @@ use mathlib.Core.Path.{_≡_, refl}
 use lib.ListN.{length, getD}
 use lib.Seq.{getD-set-other}
 use Rattle.stack.specs.Stack.{memory, packedEnd}
-use Rattle.stack.specs.StackLaws.{packed-keeps, one-at, tray-ends, tray-bytes, not-in-tray}
+use Rattle.stack.specs.StackLaws.{one-at}
+use Rattle.stack.specs.LyingLaws.{tray-ends, tray-part, not-in-tray}
+use Rattle.stack.specs.ApartLaws.{slot-inside}
+use Rattle.stack.specs.KeepsLaws.{packed-keeps}
 use borrow.Author.Needs.{needs}
 use Rattle.stack.proofs.trays.put_aside.Statement.{statement}
 use Rattle.stack.proofs.trays.put_aside.Tie as tie
@@ -42,7 +45,7 @@ add-pack c =
     let args = entry .args in
     let m = memory (args .ends .now) (args .lengths .now) (entry .pre .0) (args .trays .now) (args .scratch .now) in
     let held = one-at m (entry .pre .1) (args .i) (entry .pre .2) (entry .pre .3) in
-    let b : at-tray-at .tray-at .result + getD (args .lengths .now) (args .i) 0 ≤ length (args .trays .now) = rw (at-tray-at .tray-at .ensures) (tray-ends m (args .i) (held .type) (held .lies) (at-if1 .if1 .left)) in
+    let inside = tray-ends m (args .i) (held .type) (held .lies) (at-if1 .if1 .left) (at-tray-at .tray-at .ensures) in
     search needs
 
 sub-pack : tie.Need-sub-pack
@@ -59,8 +62,7 @@ part-pack-end c =
     let args = entry .args in
     let m = memory (args .ends .now) (args .lengths .now) (entry .pre .0) (args .trays .now) (args .scratch .now) in
     let held = one-at m (entry .pre .1) (args .i) (entry .pre .2) (entry .pre .3) in
-    let b : at-tray-at .tray-at .result + getD (args .lengths .now) (args .i) 0 ≤ length (args .trays .now) = rw (at-tray-at .tray-at .ensures) (tray-ends m (args .i) (held .type) (held .lies) (at-if1 .if1 .left)) in
-    b
+    tray-ends m (args .i) (held .type) (held .lies) (at-if1 .if1 .left) (at-tray-at .tray-at .ensures)
 
 mul-pack : tie.Need-mul-pack
 mul-pack c = search needs
@@ -73,12 +75,11 @@ pack-requires c κs =
     let args = entry .args in
     let m = memory (args .ends .now) (args .lengths .now) (entry .pre .0) (args .trays .now) (args .scratch .now) in
     let held = one-at m (entry .pre .1) (args .i) (entry .pre .2) (entry .pre .3) in
-    let n : at-tray-at .tray-at .result + getD (args .lengths .now) (args .i) 0 - at-tray-at .tray-at .result ≡ getD (args .lengths .now) (args .i) 0 = omega arith in
     record {
       type = held .type;
       within = held .lies .within;
-      bytes = rw (n, at-tray-at .tray-at .ensures) (tray-bytes m (args .i) (held .type) (held .lies) (at-if1 .if1 .left));
-      room = omega (arith, entry .pre .3 .stacked .room, entry .pre .3 .stacked .few);
+      bytes = tray-part m (args .i) (held .type) (held .lies) (at-if1 .if1 .left) (at-tray-at .tray-at .ensures);
+      room = slot-inside (args .scratch .now) (entry .pre .3 .stacked .room) (held .type) (held .lies .within) (args .i) (omega (arith, entry .pre .2, entry .pre .3 .stacked .few));
     }
 
 mul-ends : tie.Need-mul-ends
@@ -100,10 +101,9 @@ returns-3 c =
     let at-pack = c .before .before in
     let at-if1 = c .before .before .before .before .before .before .before .before in
     let args = entry .args in
-    let n : at-tray-at .tray-at .result + getD (args .lengths .now) (args .i) 0 - at-tray-at .tray-at .result ≡ getD (args .lengths .now) (args .i) 0 = omega arith in
-    let inside : args .i < length (args .ends .now) = omega (arith, entry .pre .3 .stacked .slotted, entry .pre .3 .stacked .few) in (
+    let inside : args .i < length (args .ends .now) = omega (arith, entry .pre .3 .stacked .ended, entry .pre .3 .stacked .few) in (
       λ s count less. packed-keeps (args .ends .now) (args .lengths .now) s (args .trays .now) (args .scratch .now) count (args .i) less packedEnd (args .trays .now) _
-          (at-pack .pack .kept .1 .0) (at-if1 .if1 .left) refl refl (rw (n, at-tray-at .tray-at .ensures) at (at-pack .pack .ensures)),
+          (at-pack .pack .kept .1 .0) (at-if1 .if1 .left) refl refl (at-tray-at .tray-at .ensures) (at-pack .pack .ensures),
       (
         λ e. not-in-tray (args .ends .now) (args .i) inside,
         λ j ne. getD-set-other (args .ends .now) (args .i) j packedEnd 0 ne,

@@ -1,7 +1,7 @@
 use Prim.Native.Nat.{_-_, _/_, _%_}
 use native.Mathlib.Omega.{arith}
 use mathlib.Core.Path.{_≡_, sym}
-use Rattle.stack.specs.StackLaws.{half-first, half-second}
+use Rattle.stack.specs.ApartLaws.{half-first, half-second}
 use Rattle.stack.proofs.trays.tray_at.Statement.{statement}
 use Rattle.stack.proofs.trays.tray_at.Tie as tie
 use Rattle.stack.proofs.trays.tray_at.Reads as reads

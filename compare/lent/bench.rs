@@ -46,7 +46,7 @@ use bytes::{No, no, type_bytes};
 use generate::{put, validate};
 use invent::{Random, largest};
 use library::Answer;
-use limits::{RESULT, SCRATCH};
+use limits::{PLACES, RESULT, SCRATCH};
 use std::hint::black_box;
 use std::time::Instant;
 use uiua::{Dim, DynShape, Scalar, ScalarBox, Type, TypeError};
@@ -220,7 +220,14 @@ fn rusts(work: &Work, to: &mut Buffers, clears: bool) -> Answer {
     }
 }
 
-/// A put and then the same steps over and over, so many in all. The stack has one to three types.
+/// A put and then the same steps over and over, so many in all.
+fn again(steps: usize, first: &Type, turn: &[Vec<u8>]) -> Vec<u8> {
+    let mut bytes = put(first);
+    bytes.extend(turn.iter().cycle().take(steps - 1).flatten());
+    bytes
+}
+
+/// Each kind of step. The stack has one or two types.
 fn turns(steps: usize, first: &Type, with_row: &Type, second: &Type, spec: &Type) -> Vec<u8> {
     let pervade = [&sheet::PERVADE[..], &[0]].concat();
     let turn = [
@@ -233,38 +240,58 @@ fn turns(steps: usize, first: &Type, with_row: &Type, second: &Type, spec: &Type
         put(first),
         pervade,
     ];
-    let mut bytes = put(first);
-    bytes.extend((1..steps).flat_map(|step| turn[(step - 1) % turn.len()].clone()));
-    bytes
+    again(steps, first, &turn)
 }
+
+/// A full stack, each type of it validated before the next is put on it, joined down to one type.
+fn piles(steps: usize, ty: &Type, spec: &Type) -> Vec<u8> {
+    let mut pile = vec![validate(spec)];
+    (1..PLACES).for_each(|_| pile.extend([put(ty), validate(spec)]));
+    (1..PLACES).for_each(|_| pile.push(sheet::JOIN.into()));
+    again(steps, ty, &pile)
+}
+
+/// Num of these sizes.
+fn num(dims: &[Dim]) -> Type {
+    Scalar::Num.shaped(DynShape { dims: dims.to_vec(), suffix: None })
+}
+
+const THREE: Dim = Dim::Static(3);
 
 /// [3], [2 3] and [?] Num.
 fn small_turns(steps: usize) -> Vec<u8> {
-    let of = |dims: Vec<Dim>| Scalar::Num.shaped(DynShape { dims, suffix: None });
-    let (three, unknown) = (of(vec![Dim::Static(3)]), of(vec![Dim::Dyn]));
-    turns(steps, &three, &of(vec![Dim::Static(2), Dim::Static(3)]), &unknown, &unknown)
+    let (three, unknown) = (num(&[THREE]), num(&[Dim::Dyn]));
+    turns(steps, &three, &num(&[Dim::Static(2), THREE]), &unknown, &unknown)
 }
 
 /// The largest type, and a spec that has as many fields with the same names, but asks for no shapes: an open shape passes no other.
-fn largest_turns(steps: usize) -> Vec<u8> {
+fn largest_with_spec() -> (Type, Type) {
     let ty = largest();
     let mut spec = Type { shape: DynShape::ANY, ..ty.clone() };
     if let Scalar::Box(ScalarBox::Def(_, fields)) = &mut spec.scalar {
         fields.iter_mut().for_each(|field| field.shape = DynShape::ANY);
     }
+    (ty, spec)
+}
+
+fn largest_turns(steps: usize) -> Vec<u8> {
+    let (ty, spec) = largest_with_spec();
     turns(steps, &ty, &ty, &ty, &spec)
 }
 
-fn example() -> Vec<u8> {
-    let of = |dim: Dim| Scalar::Num.shaped(DynShape { dims: vec![dim], suffix: None });
-    [put(&of(Dim::Static(3))), put(&of(Dim::Dyn)), b"PV\0".to_vec()].concat()
+fn largest_piles(steps: usize) -> Vec<u8> {
+    let (ty, spec) = largest_with_spec();
+    piles(steps, &ty, &spec)
 }
 
-/// Steps as the requests draw them, without the sheets whose validation grows over a limit: that is not measured on the Rust's side. Sheets whose
-/// types lie under others are left out too, so that a season stays what it was before there were any.
-fn season(count: usize) -> Vec<Vec<u8>> {
+fn example() -> Vec<u8> {
+    [put(&num(&[THREE])), put(&num(&[Dim::Dyn])), b"PV\0".to_vec()].concat()
+}
+
+/// Sheets drawn so, without those whose validation grows over a limit: that is not measured on the Rust's side.
+fn season(count: usize, drawn: fn(&mut Random) -> Vec<u8>) -> Vec<Vec<u8>> {
     let mut random = Random(2026);
-    let drawn = std::iter::from_fn(|| Some(sheets::any(&mut random, generate::steps_bytes)));
+    let drawn = std::iter::from_fn(|| Some(sheets::any(&mut random, drawn)));
     drawn
         .filter(|bytes| !matches!(sheet::run(bytes), Err(No { number: 5, .. })))
         .take(count)
@@ -274,7 +301,6 @@ fn season(count: usize) -> Vec<Vec<u8>> {
 fn works() -> Vec<(String, Work)> {
     let one = |sheet| Work::Sheets(vec![sheet]);
     let deep = |ty: Type| type_bytes(&invent::nested(ty, 7));
-    let of = |dim: Dim| Scalar::Num.shaped(DynShape { dims: vec![dim], suffix: None });
     let mut works = vec![
         (EMPTY.into(), one(Vec::new())),
         ("the paper's example, 3 steps".into(), one(example())),
@@ -285,12 +311,15 @@ fn works() -> Vec<(String, Work)> {
     for steps in [8, 16, 32, 64] {
         works.push((format!("largest types, {steps} steps"), one(largest_turns(steps))));
     }
+    works.push(("six small types at once".into(), one(piles(64, &num(&[THREE]), &num(&[THREE])))));
+    works.push(("six largest types at once".into(), one(largest_piles(64))));
     works.push(("reading the largest type".into(), Work::Read(type_bytes(&largest()))));
     works.push((
         "validating eight deep".into(),
-        Work::Validate(deep(of(Dim::Dyn)), deep(of(Dim::Static(3)))),
+        Work::Validate(deep(num(&[Dim::Dyn])), deep(num(&[THREE]))),
     ));
-    works.push(("a season of 1,000 sheets".into(), Work::Sheets(season(1_000))));
+    works.push(("a season of 1,000 sheets".into(), Work::Sheets(season(1_000, generate::steps_bytes))));
+    works.push(("a season that buries types".into(), Work::Sheets(season(1_000, generate::sheet_bytes))));
     works
 }
 

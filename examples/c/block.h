@@ -12,7 +12,7 @@
 
 _Static_assert(2 * PART_BYTES <= BLOCK_BYTES, "a part of the block for each sheet");
 
-/* Of the file that includes this, which is one in a program. */
+/* One file of a program includes this, so that it has one block. */
 static uint8_t block[BLOCK_BYTES];
 
 #endif

@@ -760,5 +760,10 @@ int main(void)
     lent_to_sheets();
     worked_types();
     printf("%u calls, %u wrong\n", calls, wrong);
+    /* What was printed counts only once it is written. */
+    if (fflush(stdout) != 0 || ferror(stdout)) {
+        fprintf(stderr, "every_call: the answer cannot be written\n");
+        return 2;
+    }
     return wrong == 0 ? 0 : 1;
 }

@@ -9,10 +9,12 @@
  * too short here.
  *
  * Where a sheet cannot be read or checked, or its answer is not understood, nothing is printed; where the answers cannot be written
- * whole, what came out of them is none. Standard error says so, and the status is 2.
+ * whole, what came out of them is none. Standard error says so, and the status is 2. A file is read once and to its end, also if it is
+ * named for both; of a pipe whose writer failed the end looks like any other.
  */
 #include <pthread.h>
 #include <stddef.h>
+#include <string.h>
 #include "block.h"
 #include "sheet_file.h"
 
@@ -49,6 +51,20 @@ static int read_file(const char *path, show *s)
     return failed == NULL ? 0 : fail(s->name, failed);
 }
 
+/* A file that is named for both is read once: if it is a pipe, the second reading would find no byte, and the sheet of no bytes is
+ * accepted. */
+static int read_both(const char *first, const char *second)
+{
+    if (read_file(first, &matinee) != 0) {
+        return 2;
+    }
+    if (strcmp(first, second) == 0) {
+        evening.sheet = matinee.sheet;
+        return 0;
+    }
+    return read_file(second, &evening);
+}
+
 static int start(show *s)
 {
     return pthread_create(&s->thread, NULL, check, s) == 0 ? 0 : fail(s->name, "cannot be checked: no thread was started for it");
@@ -82,7 +98,7 @@ int main(int argc, char **argv)
         return fail("two sheets' files are wanted,", "the matinee's and the evening's");
     }
     /* Nothing is printed before both have their answers. */
-    if (read_file(argv[1], &matinee) != 0 || read_file(argv[2], &evening) != 0 || check_both() != 0) {
+    if (read_both(argv[1], argv[2]) != 0 || check_both() != 0) {
         return 2;
     }
     print_answer(matinee.answer, matinee.result);

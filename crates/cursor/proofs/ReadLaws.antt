@@ -2,28 +2,28 @@
 use Prim.Native.Nat.{ℕ, suc, _+_, _-_, _≤_, _<_}
 use native.Mathlib.Omega.{arith}
 use mathlib.Core.Bool.{Bool, true, false}
-use mathlib.Core.List.{List, _++_}
-use mathlib.Core.Path.{_≡_, refl, sym, _∙_, ap}
-use lib.ListN.{length, getD, take, drop, length-append, length-drop}
+use mathlib.Core.List.{List}
+use mathlib.Core.Path.{_≡_, refl, sym, _∙_}
+use lib.ListN.{length, getD, drop}
 use lib.Dec.{ltb}
-use lib.Seq.{take-append-seam}
 use borrow.Author.Tests.{ltb-true, ltb-false, lt-ltb, le-ltb, le-leb, lt-leb}
 use Rattle.model.specs.Limits.{maxTypes}
 use Rattle.model.specs.Refusals.{ended, outOfRange, unmarked}
-use Rattle.model.specs.Types.{shape, Ty, ty, types}
+use Rattle.model.specs.Types.{Ty, types}
 use Rattle.format.specs.Reader.{Bytes, got, stopped, mapRead, byte, judged}
 use Rattle.format.specs.ReaderLaws.{byte-there, byte-ended}
-use Rattle.format.specs.Records.{orStop, writeShape, writeTy, readType}
-use Rattle.format.specs.Outcome.{lone}
+use Rattle.format.specs.Records.{orStop, writeTy, readType}
 use Rattle.format.specs.ReadWrite.{read-write}
-use Rattle.format.specs.WriteRead.{write-read, write-lone}
+use Rattle.format.specs.WriteRead.{write-read}
 use Rattle.record.specs.Answers.{readingOf}
 use Rattle.record.specs.declared.Reading.{Reading}
 use Rattle.record.specs.declared.Reading.the-variants.{Got, Refused}
 use Rattle.record.proofs.ReadingLaws.{read-got, read-stopped, got-map, stopped-map}
 use Rattle.machine.specs.Steps.{pervading, aPervading, opcodes, maxFlag, fillsTop, fillsBelow}
+use Rattle.machine.specs.Written.{working}
 use Rattle.machine.specs.Sheet.{opcodeIn, opcodeFrom, argumentFrom}
-use Rattle.cursor.specs.Answers.{TypeStands, TypeIs}
+use Rattle.names.specs.Table.{Spans}
+use Rattle.cursor.specs.Answers.{TypeIs}
 use Rattle.cursor.specs.declared.types.TypeRead.the-variants.{Got as Typed}
 
 module _ (s : List ℕ) (at : ℕ) where
@@ -56,7 +56,7 @@ module _ (s : List ℕ) (at : ℕ) where
     unfolding argumentFrom judged byte
     flag-large h = rw (lt-ltb at (length s) more, lt-leb (getD s at 0) maxFlag h)
 
-    pub flag-read : getD s at 0 ≤ maxFlag → argumentFrom s aPervading p at ≡ got (pervading (fillsTop (getD s at 0)) (fillsBelow (getD s at 0))) (at + 1)
+    pub flag-read : getD s at 0 ≤ maxFlag → argumentFrom s aPervading p at ≡ got (working (pervading (fillsTop (getD s at 0)) (fillsBelow (getD s at 0)))) (at + 1)
     unfolding argumentFrom judged byte
     flag-read h =
         let one : suc at ≡ at + 1 = omega arith in
@@ -64,28 +64,17 @@ module _ (s : List ℕ) (at : ℕ) where
 
   -- ---- a type
 
-  -- every type has bytes
-  some-bytes : (t : Ty) → 0 < length (writeTy t)
-  unfolding writeTy writeShape
-  some-bytes (ty (shape o c) k) = omega arith
-
-  pub stretched : Bytes s → (end : ℕ) (t : Ty) → readType s at ≡ got t end → TypeStands s at end t
-  stretched small end t e =
+  -- its bytes stand there
+  pub spanned : Bytes s → (end : ℕ) (t : Ty) → readType s at ≡ got t end → Spans s at end t
+  spanned small end t e =
       let (took, within) = read-write s small at t end e in
       let again : readType s at ≡ got t (at + length (writeTy t)) = write-read s t within .run at (drop end s) (took .is) in
       let m : end ≡ at + length (writeTy t) = let x : got t end ≡ got t (at + length (writeTy t)) = sym e ∙ again in cc in
-      let n : length s - at ≡ length (writeTy t) + length (drop end s) = sym (length-drop at s) ∙ ap length (took .is) ∙ length-append (writeTy t) (drop end s) in
-      let k : end - at ≡ length (writeTy t) = omega arith in
-      let bytes : take (end - at) (drop at s) ≡ writeTy t = ap (λ x. take (end - at) x) (took .is) ∙ ap (λ x. take x (writeTy t ++ drop end s)) k ∙ take-append-seam (writeTy t) (drop end s) in
-      record {
-        forth = omega arith;
-        there = omega (arith, some-bytes t);
-        reads = ap lone bytes ∙ write-lone t within;
-      }
+      record { within = within; stands = rw m at took; reaches = m }
 
   module _ {r : Reading} (read : readingOf r ≡ mapRead (λ t. maxTypes - types t) (readType s at)) where
     pub type-read : {v n : ℕ} → Bytes s → r ≡ Got v n → TypeIs (Typed n) s at (readType s at)
-    type-read {v} {n} small e = got-map (λ t. maxTypes - types t) (readType s at) (read-got read e) λ t g _. (t, g, stretched small n t g)
+    type-read {v} {n} small e = got-map (λ t. maxTypes - types t) (readType s at) (read-got read e) λ t g _. (t, g, spanned small n t g)
 
     pub type-unread : {k p : ℕ} → r ≡ Refused k p → readType s at ≡ stopped k p
     type-unread e = stopped-map (λ t. maxTypes - types t) (readType s at) (read-stopped read e)

@@ -7,9 +7,13 @@ use Rattle.model.specs.Refusals.{underflow, overflow}
 use Rattle.format.specs.Reader.{got, stopped}
 use Rattle.format.specs.Records.{readType}
 use Rattle.machine.specs.SheetLimits.{maxStack}
-use Rattle.machine.specs.Steps.{row, join, aPut, aRow, aPervading, aJoin, aValidating, takes, lays}
-use Rattle.machine.specs.Sheet.{opcodeFrom, argumentFrom, stepFrom}
+use Rattle.machine.specs.Steps.{row, join, aPut, aRow, aPervading, aJoin, aValidating, aDeclaration, aUse, takes, lays}
+use Rattle.machine.specs.Written.{working}
+use Rattle.machine.specs.Sheet.{opcodeFrom, nameFrom, argumentFrom, stepFrom}
 use Rattle.machine.specs.SheetSteps.{step-unmarked, step-lacks, step-overfull, step-argument}
+use Rattle.names.specs.Table.{NameReadIs}
+use Rattle.names.specs.declared.reading.NameRead.{NameRead}
+use Rattle.names.specs.declared.reading.NameRead.the-variants.{Got as Named, Refused as Unnamed}
 use Rattle.cursor.specs.Answers.{opcodeFor, markedOf, fillsOf, TypeIs, StepIs}
 use Rattle.cursor.specs.declared.marks.Operation.{Operation}
 use Rattle.cursor.specs.declared.marks.MarkRead.{MarkRead}
@@ -19,16 +23,16 @@ use Rattle.cursor.specs.declared.flags.FlagRead.the-variants.{Got as Fil
 use Rattle.cursor.specs.declared.types.TypeRead.{TypeRead}
 use Rattle.cursor.specs.declared.types.TypeRead.the-variants.{Got as Typed, Refused as Untyped}
 use Rattle.cursor.specs.declared.StepRead.{StepRead}
-use Rattle.cursor.specs.declared.StepRead.the-variants.{Put, Pervading, Validating}
+use Rattle.cursor.specs.declared.StepRead.the-variants.{Put, Pervading, Validating, Declaring, Using}
 
--- ---- its flag or type
+-- ---- its flag, type or name
 
 module _ (s : List ℕ) (p at : ℕ) where
-  pub row-is : argumentFrom s aRow p at ≡ got row at
+  pub row-is : argumentFrom s aRow p at ≡ got (working row) at
   unfolding argumentFrom
   row-is = refl
 
-  pub join-is : argumentFrom s aJoin p at ≡ got join at
+  pub join-is : argumentFrom s aJoin p at ≡ got (working join) at
   unfolding argumentFrom
   join-is = refl
 
@@ -66,6 +70,42 @@ module _ (s : List ℕ) (p at : ℕ) where
       pub validating-ends : argumentFrom s aValidating p at ≡ stopped n place
       unfolding argumentFrom
       validating-ends = rw (number, names, unread)
+
+  module _ {r : NameRead} (read : NameReadIs r s at p (nameFrom s p at)) where
+    module _ {k n : ℕ} (is : r ≡ Unnamed k) (number : n ≡ k) where
+      unnamed : nameFrom s p at ≡ stopped k p
+      unnamed = rw is at read
+
+      pub using-ends : argumentFrom s aUse p at ≡ stopped n p
+      unfolding argumentFrom
+      using-ends = rw (number, unnamed)
+
+      pub declaring-unnamed : argumentFrom s aDeclaration p at ≡ stopped n p
+      unfolding argumentFrom
+      declaring-unnamed = rw (number, unnamed)
+
+    module _ {next : ℕ} (is : r ≡ Named next) where
+      pub using-is : StepIs (Using at next) s (argumentFrom s aUse p at)
+      unfolding argumentFrom
+      using-is = go (rw is at read)
+        where
+          go : NameReadIs (Named next) s at p (nameFrom s p at) → StepIs (Using at next) s (argumentFrom s aUse p at)
+          go (n, e, stands, end) = (n, rw e, stands, end)
+
+      module _ {q : TypeRead} (typed : TypeIs q s next (readType s next)) where
+        pub declaring-is : {n : ℕ} → q ≡ Typed n → StepIs (Declaring at n) s (argumentFrom s aDeclaration p at)
+        unfolding argumentFrom
+        declaring-is {n} has = go (rw is at read) (rw has at typed)
+          where
+            go : NameReadIs (Named next) s at p (nameFrom s p at) → TypeIs (Typed n) s next (readType s next) → StepIs (Declaring at n) s (argumentFrom s aDeclaration p at)
+            go (name, e, stands, end) (t, f, spans) = (name, t, rw (e, f), record { name = stands; type = rw end at spans })
+
+        pub declaring-ends : {k o n place : ℕ} → q ≡ Untyped k o → n ≡ k → place ≡ o → argumentFrom s aDeclaration p at ≡ stopped n place
+        unfolding argumentFrom
+        declaring-ends {k} {o} {n} {place} has number names = go (rw is at read) (rw has at typed)
+          where
+            go : NameReadIs (Named next) s at p (nameFrom s p at) → readType s next ≡ stopped k o → argumentFrom s aDeclaration p at ≡ stopped n place
+            go (name, e, stands, end) f = rw (number, names, e, f)
 
 -- ---- its mark and the stack
 

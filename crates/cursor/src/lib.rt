@@ -12,7 +12,8 @@ ghost use mathlib.Core.Path.{_≡_};
 ghost use Rattle.machine.specs.Sheet.{stepFrom};
 ghost use Rattle.cursor.specs.Answers.{StepIs};
 
-// A step's fields and the place after it, or the refusal. The bytes of its type stand from start to next.
+// A step's fields and the place after it, or the refusal. The bytes of its type stand from start to next; a name's length stands at the
+// place of the name, and the type that it is declared with behind it, up to next.
 pub enum StepRead {
     Put {
         start: usize,
@@ -31,6 +32,14 @@ pub enum StepRead {
     },
     Validating {
         start: usize,
+        next: usize,
+    },
+    Declaring {
+        name: usize,
+        next: usize,
+    },
+    Using {
+        name: usize,
         next: usize,
     },
     Refused {

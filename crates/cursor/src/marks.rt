@@ -1,9 +1,11 @@
 // The marks of the steps.
+use limits::marks::DECLARE;
 use limits::marks::JOIN;
 use limits::marks::Mark;
 use limits::marks::PERVADE;
 use limits::marks::PUT;
 use limits::marks::ROW;
+use limits::marks::USE;
 use limits::marks::VALIDATE;
 use limits::refusal::ENDED;
 use limits::refusal::UNMARKED;
@@ -23,6 +25,8 @@ pub enum Operation {
     Pervading,
     Join,
     Validating,
+    Declaration,
+    Use,
 }
 
 // A mark and the place after it, or the number of its refusal, which names the mark.
@@ -81,6 +85,18 @@ fn judge_mark(x: u8, y: u8, next: usize) -> MarkRead
     if is_mark(VALIDATE, x, y) {
         return MarkRead::Got {
             opcode: Operation::Validating,
+            next,
+        };
+    }
+    if is_mark(DECLARE, x, y) {
+        return MarkRead::Got {
+            opcode: Operation::Declaration,
+            next,
+        };
+    }
+    if is_mark(USE, x, y) {
+        return MarkRead::Got {
+            opcode: Operation::Use,
             next,
         };
     }

@@ -1,4 +1,4 @@
-// One step as it is read, its rule left out: its mark, the stack, then its flag or type.
+// One step as it is read, its rule left out: its mark, the stack, then its flag, type or name.
 use crate::StepRead;
 use crate::flags::FlagRead;
 use crate::flags::flag_number;
@@ -14,11 +14,14 @@ use crate::types::type_place;
 use limits::MAX_STACK;
 use limits::refusal::OVERFLOW;
 use limits::refusal::UNDERFLOW;
+use names::NameRead;
+use names::name_number;
+use names::read_table_name;
 ghost use mathlib.Core.Path.{_≡_};
 ghost use Prim.Native.Nat.{ℕ, _≤_};
 ghost use Rattle.machine.specs.SheetLimits.{maxStack};
 ghost use Rattle.machine.specs.Steps as steps;
-ghost use Rattle.machine.specs.Steps.{aPut, aPervading, aValidating};
+ghost use Rattle.machine.specs.Steps.{aPut, aPervading, aValidating, aDeclaration, aUse};
 ghost use Rattle.machine.specs.Sheet.{argumentFrom, stepFrom};
 ghost use Rattle.cursor.specs.Answers.{opcodeFor, StepIs};
 
@@ -53,6 +56,8 @@ pub fn read_step(s: &[u8], at: usize, height: usize) -> StepRead
         Operation::Pervading => read_pervading(s, at, next),
         Operation::Join => StepRead::Join { next },
         Operation::Validating => read_validating(s, next),
+        Operation::Declaration => read_declaring(s, at, next),
+        Operation::Use => read_using(s, at, next),
     }
 }
 
@@ -66,6 +71,8 @@ fn takes(opcode: Operation) -> usize
         Operation::Pervading => 2,
         Operation::Join => 2,
         Operation::Validating => 1,
+        Operation::Declaration => 0,
+        Operation::Use => 0,
     }
 }
 
@@ -79,6 +86,8 @@ fn lays(opcode: Operation) -> usize
         Operation::Pervading => 1,
         Operation::Join => 1,
         Operation::Validating => 1,
+        Operation::Declaration => 0,
+        Operation::Use => 1,
     }
 }
 
@@ -131,4 +140,39 @@ fn read_validating(s: &[u8], start: usize) -> StepRead
         };
     };
     StepRead::Validating { start, next }
+}
+
+// A declaration: a name, whose refusal names the mark, then its type.
+fn read_declaring(s: &[u8], mark: usize, name: usize) -> StepRead
+    ensures { λ r. ⌜ StepIs r (now (s .entry)) (argumentFrom (now (s .entry)) aDeclaration mark name) ⌝ }
+{
+    let called = read_table_name(s, mark, name);
+    let NameRead::Got { next: start } = called else {
+        return StepRead::Refused {
+            number: name_number(called),
+            place: mark,
+        };
+    };
+    let read = read_stretch(s, start);
+    let TypeRead::Got { next } = read else {
+        return StepRead::Refused {
+            number: type_number(read),
+            place: type_place(read),
+        };
+    };
+    StepRead::Declaring { name, next }
+}
+
+// A use: a name, whose refusal names the mark.
+fn read_using(s: &[u8], mark: usize, name: usize) -> StepRead
+    ensures { λ r. ⌜ StepIs r (now (s .entry)) (argumentFrom (now (s .entry)) aUse mark name) ⌝ }
+{
+    let called = read_table_name(s, mark, name);
+    let NameRead::Got { next } = called else {
+        return StepRead::Refused {
+            number: name_number(called),
+            place: mark,
+        };
+    };
+    StepRead::Using { name, next }
 }

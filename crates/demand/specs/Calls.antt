@@ -10,7 +10,8 @@ use Rattle.model.specs.Types.{Ty}
 use Rattle.model.specs.Within.{All, Within}
 use Rattle.format.specs.Outcome.{Outcome, accepted, refused}
 use Rattle.machine.specs.SheetLimits.{scratchBytes, resultBytes}
-use Rattle.machine.specs.Steps.{Step, SheetOf}
+use Rattle.machine.specs.Steps.{Step}
+use Rattle.machine.specs.Names.{SheetOf}
 use Rattle.machine.specs.Run.{gives, refuses, aside, steps, bottomFirst}
 use Rattle.machine.specs.Sheet.{sheetRun}
 use Rattle.machine.specs.Call.{tally, called, writeTypes, zeroed, atFront}

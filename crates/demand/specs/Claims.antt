@@ -12,8 +12,9 @@ use Rattle.model.specs.Types.{Ty, shapeOf}
 use Rattle.model.specs.Within.{All, Within}
 use Rattle.format.specs.Reader.{Bytes}
 use Rattle.format.specs.Outcome.{accepted, refused}
-use Rattle.machine.specs.Steps.{Step, aPervading, aValidating, isA, Argument, noArgument, aType, flags, argumentOf, SheetOf}
+use Rattle.machine.specs.Steps.{Step, aPervading, aValidating, isA, Argument, noArgument, aType, flags, argumentOf}
 use Rattle.machine.specs.Run.{Ruling, gives, refuses}
+use Rattle.machine.specs.Names.{SheetOf}
 use Rattle.machine.specs.Call.{Tally, Called, called, zeroed, leftWith, sheetCall}
 use Rattle.machine.specs.WellFormed.{WellFormed, typesLeft}
 use Rattle.machine.specs.Real.{RealShape, fits, Holds, realPervade, Feeds, realStep, Through}
@@ -59,7 +60,8 @@ verdictOf (called (refused k p) result scratch) = refuses k
 
 -- ---- the first half
 
--- "makes an accepted sheet": the sheet handed in is the bytes of these steps, and the call accepts it and leaves these types.
+-- "makes an accepted sheet": the sheet handed in is the bytes of a written list that comes to these steps, and the call accepts it and leaves
+-- these types. A use in it is a put of the type then in force, and a declaration may stand anywhere (document 02, 2026-06).
 pub record MakesAccepted (c : Check) (xs : List Step) (ts : List Ty) : Type 0 where
   pub bytes : SheetOf (c .sheet) xs
   pub leaves : Leaves c ts
@@ -99,7 +101,8 @@ pub data SecondHalf (c : Check) (xs : List Step) : Type 0 where
   mismatches : Mismatched c → NoneThrough xs → SecondHalf c xs
 
 -- "every other order or grouping of the same puts within" six "places", which "rearranged puts must manage with" (document 02, 2026-04):
--- another sheet with the same conditions, so within six places, that puts the same types, each as often. Its buffers may be others too.
+-- another sheet with the same conditions, so within six places, that puts the same types, each as often, uses of names counted as puts. Its
+-- buffers may be others too.
 pub record Regrouped (c d : Check) (xs ys : List Step) : Type 0 where
   pub one : SecondConditions c xs
   pub other : SecondConditions d ys

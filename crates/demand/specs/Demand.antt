@@ -1,6 +1,6 @@
 -- Demand 3, both halves, of what the sheet call answers, in the order of the demand's words. These statements rest on the rules and, in the
--- crate `machine`, on SheetLimits, Steps, Run, Sheet, Call, WellFormed, Real and Conditions, and here on Claims: what has to be believed
--- stands there. That a sheet and a list of steps are the same thing is shown in Words.
+-- crate `machine`, on SheetLimits, Steps, Run, Written, Names, Sheet, Call, WellFormed, Real and Conditions, and here on Claims: what has to be
+-- believed stands there. That a sheet is the bytes of one written list, and what that comes to, is shown in Words; what names change, in Unfolding.
 use Prim.Native.Nat.{_≤_}
 use mathlib.Core.List.{List, [], _∷_}
 use mathlib.Core.Logic.{_↔_}
@@ -20,7 +20,8 @@ use Rattle.demand.specs.SecondCalls.{not-both, one-of-two, verdict-same,
 -- ---- the first half
 
 -- "For every list of puts, rows, pervadings, joins and validations that, worked in order from an empty stack, makes an accepted sheet":
--- xs, whose bytes the call c accepts, whatever result and scratch held, and which leave the types ts, bottom first (`MakesAccepted`).
+-- xs, which the sheet of the call c comes to, names unfolded; c accepts it, whatever result and scratch held, and leaves the types ts, bottom
+-- first (`MakesAccepted`).
 -- "Names no closing sizes, [...] takes no row of an open Def, and joins only closed shapes of equal count or two open ones":
 -- `FirstConditions`, a field for each. "Fills nothing" fell with document 02, 2026-01: pervadings may be filled.
 -- "Whatever real arrays fit the puts and whichever side each join keeps, if they get through the steps": f, a real shape for each put and

@@ -7,9 +7,11 @@ pub mod Demand
 pub mod Buffers
 pub mod Numbers
 pub mod Numbered
+pub mod Unfolding
 pub mod WorkedWith
 pub mod Worked
 pub mod WorkedOpen
 pub mod WorkedFilled
 pub mod WorkedSecond
+pub mod WorkedNames
 pub mod RealRun

@@ -1,4 +1,4 @@
--- Demand 1, "gets its result or one of" fourteen "numbered refusals": whatever the bytes and the buffers, what a lone type and a sheet
+-- Demand 1, "gets its result or one of" sixteen "numbered refusals": whatever the bytes and the buffers, what a lone type and a sheet
 -- are refused with; what the reading that makes a sheet well-formed is, and a well-formed sheet. What each public call is refused with stands
 -- in the crate `numbered`.
 use Prim.Native.Nat.{ℕ, zero, suc, _+_, _-_, _≤_, _<_}
@@ -12,7 +12,7 @@ use lib.ListN.{length, getD}
 use lib.Dec.{eqb, leb, ltb}
 use borrow.Author.Tests.{eqb-true, ltb-false}
 use Rattle.model.specs.Limits.{maxSize, ones, maxSizes, maxName, maxFields, maxTypes, maxDepth}
-use Rattle.model.specs.Refusals.{ended, unmarked, outOfRange, oversized, tooMany, trailing, tooShort, unpervaded, underflow, overflow, isAmong, Among}
+use Rattle.model.specs.Refusals.{ended, unmarked, outOfRange, oversized, tooMany, trailing, tooShort, unpervaded, underflow, overflow, undeclared, tooManyNames, isAmong, Among}
 use Rattle.model.specs.Types.{Shape, Scalar, Ty, ty, types}
 use Rattle.model.specs.Within.{All}
 use Rattle.format.specs.Reader.{Bytes, Read, got, stopped, Reader, andThen, _>>=_, give, stop, need, here, byte, judged, number}
@@ -26,14 +26,16 @@ use Rattle.validation.specs.Validate.{validate}
 use Rattle.validation.specs.Claims.{ofValidation, Listed}
 use Rattle.validation.specs.RefusalsLaws.{validate-listed}
 use Rattle.machine.specs.SheetLimits.{maxSteps, maxStack, scratchBytes, resultBytes}
-use Rattle.machine.specs.Steps.{Step, put, row, pervading, join, validating, Opcode, aPut, aRow, aPervading, aJoin, aValidating, opcodeOf, opcodes, takes, heightPast, maxFlag}
-use Rattle.machine.specs.Steps.{SheetOf, Rule, ofNone, ofOne, ofTwo}
-use Rattle.machine.specs.Run.{Ruling, gives, refuses, following, orRefuses, aside, Stack, State, fresh, afterStep, onto, pervadeTypes, ruleOf, ruleOn, step, work, steps, bottomFirst}
-use Rattle.machine.specs.Sheet.{opcodeIn, placed, opcodeFrom, argumentFrom, stepFrom, workFrom, toEnd, sheetMore, skimMore, sheetFrom, skimFrom, outcomeOf, sheetRun, skim}
+use Rattle.machine.specs.Steps.{Step, put, row, pervading, join, validating, Opcode, aPut, aRow, aPervading, aJoin, aValidating, aDeclaration, aUse, opcodeOf, opcodes, takes, heightPast}
+use Rattle.machine.specs.Steps.{maxFlag, Rule, ofNone, ofOne, ofTwo}
+use Rattle.machine.specs.Run.{Ruling, gives, refuses, following, orRefuses, aside, Stack, onto, pervadeTypes, ruleOf, ruleOn, step, steps, bottomFirst}
+use Rattle.machine.specs.Written.{WrittenStep, writtenAs, isNameLength}
+use Rattle.machine.specs.Names.{Names, isKnown, hasRoom, unfoldedStep, unfolded, SheetOf}
+use Rattle.machine.specs.Sheet.{State, fresh, afterStep, work, opcodeIn, placed, opcodeFrom, nameFrom, argumentFrom, stepFrom, writtenFrom, workFrom, toEnd, sheetMore, skimMore, sheetFrom, skimFrom, outcomeOf, sheetRun, skim}
 use Rattle.machine.specs.WellFormed.{WellFormed, typesLeft, Heights}
 use Rattle.machine.specs.Call.{called, tally, writeTypes, zeroed, atFront, handOver, sheetCall}
 use Rattle.machine.specs.RuleOn.{arity, rule-takes, lays-one}
-use Rattle.machine.specs.StepsTook.{skim-took}
+use Rattle.machine.specs.StepsTook.{well-formed-took}
 use Rattle.machine.specs.SheetWorked.{step-height}
 use Rattle.machine.specs.Sheets.{sheet-steps}
 use Rattle.machine.specs.CallLaws.{Ways, shortScratch, runRefused, shortResult, typesWritten, call-ways, left-fits}
@@ -201,12 +203,12 @@ lone-number {A} size (got a next) h = go (ltb next size)
     go false = accepted-with
 lone-number size (stopped j q) h = refused-with (among-more ofRecords ofLone (refl, (refl, (refl, (refl, (refl, tt))))) j (h j q refl))
 
--- "A type handed in, of any bytes, gets its result or one of" fourteen "numbered refusals": 1 to 6.
+-- "A type handed in, of any bytes, gets its result or one of" sixteen "numbered refusals": 1 to 6.
 pub lone-numbered : (s : List ℕ) → RefusedWith ofLone (lone s)
 unfolding lone
 lone-numbered s = lone-number (length s) (readType s 0) (stops-type s .number-is 0)
 
--- ---- a sheet's reading: 1 to 5, 11 and 12
+-- ---- a sheet's reading: 1 to 5, 11, 12, 15 and 16
 
 records-reading : All (Among ofReading) ofRecords
 records-reading = (refl, (refl, (refl, (refl, (refl, tt)))))
@@ -223,6 +225,10 @@ module _ (s : List ℕ) where
   unfolding opcodeFrom
   stops-opcode p = stops-bind _ (stops-byte s p) λ x. stops-bind _ (stops-byte s p) λ y. stops-orStop (opcodeIn opcodes x y) unmarked p refl
 
+  stops-named : (p : ℕ) → Stops ofRecords (nameFrom s p)
+  unfolding nameFrom
+  stops-named p = stops-bind _ (stops-judged s isNameLength p) λ n. stops-name s n p
+
   stops-argument : (c : Opcode) (p : ℕ) → Stops ofRecords (argumentFrom s c p)
   unfolding argumentFrom
   stops-argument aPut p = stops-bind _ (stops-type s) λ t. stops-give
@@ -230,6 +236,8 @@ module _ (s : List ℕ) where
   stops-argument aPervading p = stops-bind _ (stops-judged s (isCount maxFlag) p) λ n. stops-give
   stops-argument aJoin p = stops-give
   stops-argument aValidating p = stops-bind _ (stops-type s) λ spec. stops-give
+  stops-argument aDeclaration p = stops-bind _ (stops-named p) λ n. stops-bind _ (stops-type s) λ t. stops-give
+  stops-argument aUse p = stops-bind _ (stops-named p) λ n. stops-give
 
   stops-step : (h p : ℕ) → Stops ofReading (stepFrom s h p)
   unfolding stepFrom
@@ -239,32 +247,41 @@ module _ (s : List ℕ) where
       stops-bind _ (stops-need (leb (heightPast c h) maxStack) overflow p refl) λ _.
       stops-more ofReading records-reading (stops-argument c p)
 
+  stops-written : (h : ℕ) (names : Names) (p : ℕ) → Stops ofReading (writtenFrom s h names p)
+  unfolding writtenFrom
+  stops-written h names p =
+      stops-bind _ (stops-step h p) λ w.
+      stops-bind _ (stops-need (isKnown w names) undeclared p refl) λ _.
+      stops-bind _ (stops-need (hasRoom w names) tooManyNames p refl) λ _.
+      stops-give
+
   stops-skim : (n : ℕ) (st : State ℕ) → Stops ofReading (skimMore s n st)
   unfolding skimMore
   stops-skim zero st = stops-toEnd [] (stops-here (stop overflow) λ p. stops-stop refl)
   stops-skim (suc n) st =
       stops-toEnd []
-      (stops-bind _ (stops-here (stepFrom s (st .stack)) (stops-step (st .stack))) λ x.
-      stops-bind _ (stops-skim n (afterStep st (heightPast (opcodeOf x) (st .stack)))) λ xs.
+      (stops-bind _ (stops-here (writtenFrom s (st .stack) (st .names)) (stops-written (st .stack) (st .names))) λ w.
+      stops-bind _ (stops-skim n (afterStep st w (heightPast (writtenAs w) (st .stack)))) λ ws.
       stops-give)
 
 outcome-number : {A : Type 0} (ns : List ℕ) (r : Read A) → ((k p : ℕ) → r ≡ stopped k p → Among ns k) → RefusedWith ns (outcomeOf r)
 outcome-number ns (got a next) h = accepted-with
 outcome-number ns (stopped j q) h = refused-with (h j q refl)
 
--- "Read to the end, rule refusals passed over", a sheet meets no refusal but "1 to 5, 11 and 12".
+-- "Read to the end, rule refusals passed over", a sheet meets no refusal but "1 to 5, 11 and 12", 15 and 16.
 pub skim-numbered : (s : List ℕ) → RefusedWith ofReading (skim s)
 unfolding skim skimFrom
 skim-numbered s = outcome-number ofReading (skimMore s maxSteps (fresh 0) 0) (stops-skim s maxSteps (fresh 0) .number-is 0)
 
--- "Meets none of 1 to 5, 11 and 12", and "has the scratch asked for and 4,992 result bytes for each type left": with such buffers a sheet of
--- any bytes is well-formed, or its reading meets one of these.
-pub well-formed-or-refused : (s result scratch : List ℕ) → ((xs : List Step) → skim s ≡ accepted xs → resultBytes (typesLeft xs) ≤ length result) → scratchBytes ≤ length scratch
+-- "Meets none of 1 to 5, 11 and 12", "neither 15 nor 16", and "has the scratch asked for and 4,992 result bytes for each type left": with such
+-- buffers a sheet of any bytes is well-formed, or its reading meets one of these.
+pub well-formed-or-refused : (s result scratch : List ℕ) → ((ws : List WrittenStep) → skim s ≡ accepted ws → resultBytes (typesLeft (unfolded [] ws)) ≤ length result)
+    → scratchBytes ≤ length scratch
     → ((xs : List Step) × WellFormed s result scratch xs) ⊎ ((k : ℕ) × (p : ℕ) × (skim s ≡ refused k p) × Among ofReading k)
 well-formed-or-refused s result scratch r c = go (skim s) refl
   where
-    go : (o : Outcome (List Step)) → skim s ≡ o → ((xs : List Step) × WellFormed s result scratch xs) ⊎ ((k : ℕ) × (p : ℕ) × (skim s ≡ refused k p) × Among ofReading k)
-    go (accepted xs) e = inl (xs, record { read = e; result-holds = r xs e; scratch-holds = c })
+    go : (o : Outcome (List WrittenStep)) → skim s ≡ o → ((xs : List Step) × WellFormed s result scratch xs) ⊎ ((k : ℕ) × (p : ℕ) × (skim s ≡ refused k p) × Among ofReading k)
+    go (accepted ws) e = inl (unfolded [] ws, record { written = ws; read = e; comes-to = refl; result-holds = r ws e; scratch-holds = c })
     go (refused k p) e = inr (k, p, e, skim-numbered s .number-is k p e)
 
 -- ---- the rules: 5, 8, 9, 10 and 14
@@ -330,7 +347,7 @@ module _ (ns : List ℕ) (ruled : All (Among ns) ofRules) where
   step-refuses x st lacks full =
       ruleOn-refuses (ruleOf x) st
       (λ l. lacks (omega (arith, rule-takes x)))
-      (λ l. full (omega (arith, rule-takes x, lays-one (opcodeOf x))))
+      (λ l. full (omega (arith, rule-takes x, lays-one x)))
       (rule-refuses x)
 
 -- Steps that lack no types and lay down none too many are refused by a rule alone.
@@ -360,7 +377,7 @@ pub well-formed-numbered : (s result scratch : List ℕ) → Bytes s → (xs : L
 well-formed-numbered s result scratch small xs w = go (call-ways s result scratch)
   where
     took : SheetOf s xs × Heights xs 0
-    took = skim-took s small xs (w .read)
+    took = well-formed-took s result scratch small xs w
 
     go : Ways s result scratch → RefusedWith ofRules (answerIn (sheetCall s result scratch))
     go (shortScratch l e) = absurd (omega (arith, w .scratch-holds))
@@ -368,17 +385,23 @@ well-formed-numbered s result scratch small xs w = go (call-ways s result scratc
     go (shortResult l ts r m e) = absurd (omega (arith, w .result-holds, left-fits s xs ts (took .0) r))
     go (typesWritten l ts r room e) = rw e accepted-with
 
--- ---- a sheet, worked: 1 to 5, 8 to 12 and 14
+-- ---- a sheet, worked: 1 to 5, 8 to 12 and 14 to 16
 
-work-refuses : (x : Step) (st : State Stack) → RefusesWith ofSheet (work x st)
-work-refuses x st = go (step x (st .stack)) (step-refuses ofSheet (refl, (refl, (refl, (refl, (refl, tt))))) x (st .stack) (λ l. refl) (λ l. refl))
-  where
-    go : (a : Ruling Stack) → RefusesWith ofSheet a → RefusesWith ofSheet (following a λ b. gives (afterStep st b))
-    go (gives b) h = tt
-    go (refuses k) h = h
+following-refuses : {A B : Type 0} (a : Ruling A) (f : A → Ruling B) → RefusesWith ofSheet a → ((b : A) → RefusesWith ofSheet (f b)) → RefusesWith ofSheet (following a f)
+following-refuses (gives b) f h k = k b
+following-refuses (refuses j) f h k = h
+
+steps-refuse : (xs : List Step) (st : Stack) → RefusesWith ofSheet (steps xs st)
+unfolding steps
+steps-refuse [] st = tt
+steps-refuse (x ∷ xs) st =
+    following-refuses (step x st) _ (step-refuses ofSheet (refl, (refl, (refl, (refl, (refl, tt))))) x st (λ l. refl) (λ l. refl)) λ st₁. steps-refuse xs st₁
+
+work-refuses : (w : WrittenStep) (st : State Stack) → RefusesWith ofSheet (work w st)
+work-refuses w st = let xs = unfoldedStep (st .names) w in following-refuses (steps xs (st .stack)) _ (steps-refuse xs (st .stack)) λ a. tt
 
 reading-sheet : All (Among ofSheet) ofReading
-reading-sheet = (refl, (refl, (refl, (refl, (refl, (refl, (refl, tt)))))))
+reading-sheet = (refl, (refl, (refl, (refl, (refl, (refl, (refl, (refl, (refl, tt)))))))))
 
 stops-placed : {A : Type 0} (ns : List ℕ) (a : Ruling A) (p : ℕ) → RefusesWith ns a → Stops ns (placed a p)
 stops-placed ns (gives a) p h = stops-give
@@ -388,8 +411,8 @@ module _ (s : List ℕ) where
   stops-work : (st : State Stack) (p : ℕ) → Stops ofSheet (workFrom s st p)
   unfolding workFrom
   stops-work st p =
-      stops-bind _ (stops-more ofSheet reading-sheet (stops-step s (length (st .stack)) p)) λ x.
-      stops-placed ofSheet (work x st) p (work-refuses x st)
+      stops-bind _ (stops-more ofSheet reading-sheet (stops-written s (length (st .stack)) (st .names) p)) λ w.
+      stops-placed ofSheet (work w st) p (work-refuses w st)
 
   stops-sheet : (n : ℕ) (st : State Stack) → Stops ofSheet (sheetMore s n st)
   unfolding sheetMore
@@ -407,11 +430,11 @@ run-numbered s =
     let run = sheetMore s maxSteps (fresh []) 0 in
     mapped-numbered (λ st. reverse (st .stack)) (outcomeOf run) (outcome-number ofSheet run (stops-sheet s maxSteps (fresh []) .number-is 0))
 
--- ---- the sheet call: 1 to 5, 7 to 12 and 14
+-- ---- the sheet call: 1 to 5, 7 to 12 and 14 to 16
 
 handed-numbered : (size : ℕ) (o : Outcome (List Ty)) (result scratch : List ℕ) → RefusedWith ofSheet o → RefusedWith ofSheetCall (answerIn (handOver size o result scratch))
 unfolding handOver
-handed-numbered size (refused k p) result scratch h = refused-with (among-more ofSheet ofSheetCall (refl, (refl, (refl, (refl, (refl, (refl, (refl, (refl, (refl, (refl, (refl, tt))))))))))) k (h .number-is k p refl))
+handed-numbered size (refused k p) result scratch h = refused-with (among-more ofSheet ofSheetCall (refl, (refl, (refl, (refl, (refl, (refl, (refl, (refl, (refl, (refl, (refl, (refl, (refl, tt))))))))))))) k (h .number-is k p refl))
 handed-numbered size (accepted ts) result scratch h = go (leb (length (writeTypes ts)) (length result))
   where
     go : (t : Bool)
@@ -419,7 +442,8 @@ handed-numbered size (accepted ts) result scratch h = go (leb (length (writeType
     go true = accepted-with
     go false = refused-with refl
 
--- "A sheet handed in, of any bytes, gets its result or one of" fourteen "numbered refusals": with any two buffers, 1 to 5, 7 to 12 and 14.
+-- "A sheet handed in, of any bytes, gets its result or one of" sixteen "numbered refusals": with any two buffers, 1 to 5, 7 to 12 and
+-- 14 to 16.
 pub call-numbered : (s result scratch : List ℕ) → RefusedWith ofSheetCall (answerIn (sheetCall s result scratch))
 unfolding sheetCall
 call-numbered s result scratch = go (ltb (length scratch) scratchBytes)

@@ -16,7 +16,7 @@ use Rattle.machine.specs.Steps.{Step, put, row, pervading, join, validating, op
 use Rattle.machine.specs.Run.{gives, Stack, step, steps}
 use Rattle.machine.specs.WellFormed.{WellFormed, heightAfter, typesLeft, Heights}
 use Rattle.machine.specs.Real.{RealShape, fits, realPervade, Feed, Feeds, realRow, keeps, ontoReal, realRule, realRuleOn, realStep, goesOn, realRun}
-use Rattle.machine.specs.StepsTook.{skim-took}
+use Rattle.machine.specs.StepsTook.{well-formed-took}
 use Rattle.machine.specs.RunLaws.{following-gives}
 use Rattle.machine.specs.StepsReads.{step-room}
 use Rattle.machine.specs.SheetWorked.{step-height, step-takes}
@@ -86,7 +86,7 @@ step-stops x u rs h e = rule-stops x u rs (ruleOn-stops (realRule x u) rs (rw (r
 -- A step that goes on leaves as many real shapes as it leaves types.
 pub step-many : (x : Step) (u : Feed x) (rs rs₁ : List RealShape) → realStep x u rs ≡ some rs₁ → length rs₁ ≡ heightPast (opcodeOf x) (length rs)
 unfolding realStep
-step-many x u rs rs₁ e = rw (real-takes x u, lays-one (opcodeOf x)) (realRuleOn-height (realRule x u) rs rs₁ e)
+step-many x u rs rs₁ e = rw (real-takes x u, lays-one x) (realRuleOn-height (realRule x u) rs rs₁ e)
 
 -- ---- all steps
 
@@ -119,7 +119,7 @@ run-many (x ∷ xs) f rs left e = go (realStep x (f .0) rs) refl e (λ rs₁ l. 
 module _ (s result scratch : List ℕ) (small : Bytes s) (xs : List Step) (w : WellFormed s result scratch xs) (f : Feeds xs) where
   -- "a well-formed sheet never lacks a shape"
   pub well-formed-stops : realRun xs f [] ≡ none → RunStopsBecause xs f []
-  well-formed-stops e = run-stops xs f [] (skim-took s small xs (w .read) .1) e
+  well-formed-stops e = run-stops xs f [] (well-formed-took s result scratch small xs w .1) e
 
   pub well-formed-many : (left : List RealShape) → realRun xs f [] ≡ some left → length left ≡ typesLeft xs
   well-formed-many left e = run-many xs f [] left e

@@ -7,11 +7,13 @@ use Rattle.model.specs.Refusals.{unpervaded}
 use Rattle.model.specs.Types.{Ty, ty, shapeOf}
 use Rattle.format.specs.Records.{writeShape}
 use Rattle.format.specs.Outcome.{shapeRecord}
-use Rattle.machine.specs.Steps.{Step, SheetOf}
+use Rattle.machine.specs.Steps.{Step}
+use Rattle.machine.specs.Names.{SheetOf}
 use Rattle.machine.specs.Run.{gives, refuses, steps}
+use Rattle.machine.specs.WellFormed.{Heights}
 use Rattle.machine.specs.Conditions.{puts, countClosing}
 use Rattle.machine.specs.Sheets.{left-within}
-use Rattle.machine.specs.StepsTook.{skim-took}
+use Rattle.machine.specs.StepsTook.{well-formed-took}
 use Rattle.orders.specs.Verdicts.{Pervadings, Decided, passes, fails, decided}
 use Rattle.orders.specs.Orders.{order-mismatch, order-shape}
 use Rattle.demand.specs.Claims.{Check, answerTo, Leaves, Mismatched, verdictOf, SecondConditions, SecondHalf, accepts, mismatches, Regrouped}
@@ -24,11 +26,14 @@ not-both c ts l m = let a = l .outcome in let b = m .outcome in let z : _≡_ {A
 -- ---- one sheet
 
 module _ (c : Check) (xs : List Step) (k : SecondConditions c xs) where
+  took : SheetOf (c .sheet) xs × Heights xs 0
+  took = well-formed-took (c .sheet) (c .result) (c .scratch) (k .bytes) xs (k .well-formed)
+
   sheet-of : SheetOf (c .sheet) xs
-  sheet-of = skim-took (c .sheet) (k .bytes) xs (k .well-formed .read) .0
+  sheet-of = took .0
 
   pervadings : Pervadings xs
-  pervadings = record { only = k .puts-and-pervadings; heights = skim-took (c .sheet) (k .bytes) xs (k .well-formed .read) .1; one = k .one-left }
+  pervadings = record { only = k .puts-and-pervadings; heights = took .1; one = k .one-left }
 
   leaves-of : (t : Ty) → steps xs [] ≡ gives (t ∷ []) → Leaves c (t ∷ [])
   leaves-of t e = call-leaves c (k .well-formed .scratch-holds) xs sheet-of (k .well-formed .result-holds) t e

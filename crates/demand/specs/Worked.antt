@@ -22,12 +22,15 @@ use Rattle.validation.specs.CheckShape.{agree, sizesAgree, countTest, namesAll,
 use Rattle.validation.specs.CheckScalar.{checkScalar}
 use Rattle.validation.specs.Validate.{validate}
 use Rattle.machine.specs.SheetLimits.{scratchBytes}
-use Rattle.machine.specs.Steps.{Step, put, row, pervading, join, validating, writeSteps, SheetOf}
-use Rattle.machine.specs.Run.{pervadeTypes, step}
-use Rattle.machine.specs.Sheet.{opcodeFrom, argumentFrom, stepFrom, workFrom, sheetMore, sheetFrom, sheetRun}
+use Rattle.machine.specs.Steps.{Step, put, row, pervading, join, validating}
+use Rattle.machine.specs.Run.{pervadeTypes, step, steps}
+use Rattle.machine.specs.Written.{writeSteps}
+use Rattle.machine.specs.Names.{SheetOf}
+use Rattle.machine.specs.Sheet.{opcodeFrom, argumentFrom, stepFrom, writtenFrom, workFrom, sheetMore, sheetFrom, sheetRun}
 use Rattle.machine.specs.Call.{writeTypes}
 use Rattle.machine.specs.Real.{fits, realPervade, theOneBelow, Feeds, realStep, realRun, Through}
 use Rattle.machine.specs.Conditions.{RowsNoOpenDef, JoinsAlike}
+use Rattle.machine.specs.WrittenOut.{sheet-of-out}
 use Rattle.demand.specs.Claims.{Check, checkOf, Leaves, MakesAccepted, FirstConditions, EachHolds}
 use Rattle.demand.specs.Calls.{run-leaves}
 use Rattle.demand.specs.WorkedWith.{nums, oneSize, nums-within, within3, within4, zeroes, long-enough, as-worked}
@@ -64,11 +67,7 @@ within2? = nums-within (static 2 ∷ unknown ∷ []) (omega arith, (omega arith,
 
 pub worked-sheet : SheetOf workedBytes workedSteps
 unfolding bytesOf code writeShape writeScalar writeTy writeSteps
-worked-sheet = record {
-  bytes = refl;
-  within = (within2?, (tt, (within3, (tt, (within4, (tt, (within3, tt)))))));
-  few = omega arith;
-}
+worked-sheet = sheet-of-out workedBytes workedSteps refl (within2?, (tt, (within3, (tt, (within4, (tt, (within3, tt))))))) (omega arith)
 
 -- ---- it is accepted
 
@@ -76,7 +75,7 @@ worked-run : sheetRun workedBytes ≡ accepted workedLeft
 unfolding inside below byte judged number code kindOf readMark readDim readDims shapeFrom scalarFrom readTy cmpDim larger compatible joinDim isAny
     rowShape mergeDims mergeClosing mergeFrom joinDims joinClosing joinShapes codeOf supersetCodes supersetOf union together walk
     pervadeClosing inSheetsAt pervadeInSheets joinTypes whollyAny rowScalar rowBy agree sizesAgree countTest namesAll mismatch shapeMismatch sidedShape checkShape checkScalar validate pervadeTypes
-    step opcodeFrom argumentFrom stepFrom workFrom sheetMore sheetFrom sheetRun
+    step steps opcodeFrom argumentFrom stepFrom writtenFrom workFrom sheetMore sheetFrom sheetRun
 worked-run = refl
 
 worked-length : length (writeTypes workedLeft) ≡ 15

@@ -19,12 +19,15 @@ use Rattle.rules.specs.Scalars.{supersetCodes, supersetOf, union}
 use Rattle.rules.specs.Pervade.{together, walk, pervadeClosing, pervade}
 use Rattle.rules.specs.PervadeInSheets.{inSheetsAt, pervadeInSheets}
 use Rattle.machine.specs.SheetLimits.{scratchBytes}
-use Rattle.machine.specs.Steps.{Step, put, pervading, writeSteps, SheetOf}
-use Rattle.machine.specs.Run.{pervadeTypes, step}
-use Rattle.machine.specs.Sheet.{opcodeFrom, argumentFrom, stepFrom, workFrom, sheetMore, sheetFrom, sheetRun}
+use Rattle.machine.specs.Steps.{Step, put, pervading}
+use Rattle.machine.specs.Run.{pervadeTypes, step, steps}
+use Rattle.machine.specs.Written.{writeSteps}
+use Rattle.machine.specs.Names.{SheetOf}
+use Rattle.machine.specs.Sheet.{opcodeFrom, argumentFrom, stepFrom, writtenFrom, workFrom, sheetMore, sheetFrom, sheetRun}
 use Rattle.machine.specs.Call.{writeTypes}
 use Rattle.machine.specs.Real.{RealShape, fits, Holds, realPervade, Feeds, realStep, realRun, Through}
 use Rattle.machine.specs.Conditions.{RowsNoOpenDef, JoinsAlike}
+use Rattle.machine.specs.WrittenOut.{sheet-of-out}
 use Rattle.demand.specs.Claims.{Check, checkOf, Leaves, MakesAccepted, FirstConditions, EachHolds}
 use Rattle.demand.specs.Calls.{run-leaves}
 use Rattle.demand.specs.Demand.{first-half}
@@ -87,15 +90,11 @@ anything-within = num-within anyShape ((omega arith, tt), (omega arith, tt))
 
 pub filled-sheet : SheetOf filledBytes filledSteps
 unfolding bytesOf code writeShape writeScalar writeTy writeSteps
-filled-sheet = record {
-  bytes = refl;
-  within = (unknownNums-within, (twelve-within, (tt, (anything-within, (twelve-within, (tt, (unknownNums-within, (twelve-within, (tt, tt)))))))));
-  few = omega arith;
-}
+filled-sheet = sheet-of-out filledBytes filledSteps refl (unknownNums-within, (twelve-within, (tt, (anything-within, (twelve-within, (tt, (unknownNums-within, (twelve-within, (tt, tt))))))))) (omega arith)
 
 filled-run : sheetRun filledBytes ≡ accepted filledLeft
 unfolding inside below byte judged number code kindOf readMark readDim readDims shapeFrom scalarFrom readTy codeOf supersetCodes supersetOf union
-    together walk pervadeClosing inSheetsAt pervadeInSheets pervadeTypes step opcodeFrom argumentFrom stepFrom workFrom sheetMore sheetFrom sheetRun
+    together walk pervadeClosing inSheetsAt pervadeInSheets pervadeTypes step steps opcodeFrom argumentFrom stepFrom writtenFrom workFrom sheetMore sheetFrom sheetRun
 filled-run = refl
 
 filled-length : length (writeTypes filledLeft) ≡ 45

@@ -17,12 +17,15 @@ use Rattle.rules.specs.Order.{codeOf}
 use Rattle.rules.specs.Scalars.{supersetCodes, supersetOf, union}
 use Rattle.rules.specs.Types.{joinTypes, firstField, rowScalar, rowBy}
 use Rattle.machine.specs.SheetLimits.{scratchBytes}
-use Rattle.machine.specs.Steps.{Step, put, row, join, writeSteps, SheetOf}
-use Rattle.machine.specs.Run.{step}
-use Rattle.machine.specs.Sheet.{opcodeFrom, argumentFrom, stepFrom, workFrom, sheetMore, sheetFrom, sheetRun}
+use Rattle.machine.specs.Steps.{Step, put, row, join}
+use Rattle.machine.specs.Run.{step, steps}
+use Rattle.machine.specs.Written.{writeSteps}
+use Rattle.machine.specs.Names.{SheetOf}
+use Rattle.machine.specs.Sheet.{opcodeFrom, argumentFrom, stepFrom, writtenFrom, workFrom, sheetMore, sheetFrom, sheetRun}
 use Rattle.machine.specs.Call.{writeTypes}
 use Rattle.machine.specs.Real.{RealShape, fits, theTop, Feeds, realStep, realRun, Through}
 use Rattle.machine.specs.Conditions.{RowsNoOpenDef, JoinsAlike}
+use Rattle.machine.specs.WrittenOut.{sheet-of-out}
 use Rattle.demand.specs.Claims.{Check, checkOf, Leaves, MakesAccepted, FirstConditions, EachHolds}
 use Rattle.demand.specs.Calls.{run-leaves}
 use Rattle.demand.specs.Demand.{first-half}
@@ -81,12 +84,12 @@ def-within = record { records = (((omega arith, (omega arith, tt)), tt), (tt, om
 
 pub open-sheet : SheetOf openBytes openSteps
 unfolding bytesOf code writeShape writeScalar writeTy writeSteps
-open-sheet = record { bytes = refl; within = (open-within 2 (omega arith), (open-within 3 (omega arith), (tt, (def-within, (tt, tt))))); few = omega arith }
+open-sheet = sheet-of-out openBytes openSteps refl (open-within 2 (omega arith), (open-within 3 (omega arith), (tt, (def-within, (tt, tt))))) (omega arith)
 
 open-run : sheetRun openBytes ≡ accepted openLeft
 unfolding inside below byte judged number code kindOf readMark readDim readDims shapeFrom readName readFields defFrom boxFrom scalarFrom readTy
     joinDim rank rowShape joinDims joinLonger joinEnds joinClosing joinShapes codeOf supersetCodes supersetOf union joinTypes firstField rowScalar
-    rowBy step opcodeFrom argumentFrom stepFrom workFrom sheetMore sheetFrom sheetRun
+    rowBy step steps opcodeFrom argumentFrom stepFrom writtenFrom workFrom sheetMore sheetFrom sheetRun
 open-run = refl
 
 open-length : length (writeTypes openLeft) ≡ 32

@@ -21,13 +21,16 @@ use Rattle.rules.specs.Scalars.{supersetCodes, supersetOf, union}
 use Rattle.rules.specs.Pervade.{againstAbsent, together, walk, pervadeClosing}
 use Rattle.rules.specs.PervadeInSheets.{inSheetsAt, pervadeInSheets}
 use Rattle.machine.specs.SheetLimits.{scratchBytes, resultBytes}
-use Rattle.machine.specs.Steps.{Step, put, pervading, writeSteps, SheetOf}
-use Rattle.machine.specs.Run.{gives, refuses, pervadeTypes, step}
-use Rattle.machine.specs.Sheet.{opcodeFrom, argumentFrom, stepFrom, workFrom, sheetMore, sheetFrom, sheetRun}
+use Rattle.machine.specs.Steps.{Step, put, pervading}
+use Rattle.machine.specs.Run.{gives, refuses, pervadeTypes, step, steps}
+use Rattle.machine.specs.Written.{writeSteps}
+use Rattle.machine.specs.Names.{SheetOf}
+use Rattle.machine.specs.Sheet.{opcodeFrom, argumentFrom, stepFrom, writtenFrom, workFrom, sheetMore, sheetFrom, sheetRun}
 use Rattle.machine.specs.Call.{writeTypes}
 use Rattle.machine.specs.WellFormed.{typesLeft}
 use Rattle.machine.specs.Real.{fits, realPervade, Feeds, realStep, realRun, Through}
 use Rattle.machine.specs.Conditions.{PutOrPervade, puts, SamePuts, countClosing}
+use Rattle.machine.specs.WrittenOut.{sheet-of-out}
 use Rattle.demand.specs.Claims.{Check, checkOf, answerTo, Leaves, Mismatched, verdictOf, SecondConditions, NoneThrough, SecondHalf, Regrouped}
 use Rattle.demand.specs.Calls.{run-leaves, run-mismatched}
 use Rattle.demand.specs.Words.{steps-well-formed}
@@ -36,27 +39,27 @@ use Rattle.demand.specs.WorkedWith.{numOf, nums, oneSize, anySize, lastS
 
 -- ---- how they are written
 
-abbrev put3 : Step
+abbrev pub put3 : Step
 put3 = put (nums (static 3 ∷ []))
 
-abbrev put4 : Step
+abbrev pub put4 : Step
 put4 = put (nums (static 4 ∷ []))
 
-abbrev put? : Step
+abbrev pub put? : Step
 put? = put (nums (unknown ∷ []))
 
 -- put [..n] Num
 abbrev putLast : ℕ → Step
 putLast n = put (numOf (shape [] (some (static n ∷ []))))
 
-abbrev pervade0 : Step
+abbrev pub pervade0 : Step
 pervade0 = pervading false false
 
 -- the bytes of a put of a record, and of pervade 0
-abbrev putting : List ℕ → List ℕ
+abbrev pub putting : List ℕ → List ℕ
 putting r = 0x50 ∷ 0x55 ∷ r
 
-abbrev pervading0 : List ℕ
+abbrev pub pervading0 : List ℕ
 pervading0 = 0x50 ∷ 0x56 ∷ 0x00 ∷ []
 
 -- ---- the sheets
@@ -118,7 +121,7 @@ turned-bytes = are-bytes turnedBytes refl
 
 -- ---- they keep the conditions
 
-within? : Within (nums (unknown ∷ []))
+pub within? : Within (nums (unknown ∷ []))
 within? = nums-within (unknown ∷ []) (omega arith, (tt, tt))
 
 withinLast : (n : ℕ) → DimWithin (static n) → Within (numOf (shape [] (some (static n ∷ []))))
@@ -126,25 +129,25 @@ withinLast n h = num-within (shape [] (some (static n ∷ []))) ((omega arith, t
 
 pub pairs-sheet : SheetOf pairsBytes pairsSteps
 unfolding bytesOf code writeShape writeScalar writeTy writeSteps
-pairs-sheet = record { bytes = refl; within = (within3, (within?, (tt, (withinLast 2 (omega arith), (withinLast 4 (omega arith), (tt, (tt, tt))))))); few = omega arith }
+pairs-sheet = sheet-of-out pairsBytes pairsSteps refl (within3, (within?, (tt, (withinLast 2 (omega arith), (withinLast 4 (omega arith), (tt, (tt, tt))))))) (omega arith)
 
 pub left-sheet : SheetOf leftBytes leftSteps
 unfolding bytesOf code writeShape writeScalar writeTy writeSteps
-left-sheet = record { bytes = refl; within = (within?, (within3, (tt, (withinLast 2 (omega arith), (tt, (withinLast 4 (omega arith), (tt, tt))))))); few = omega arith }
+left-sheet = sheet-of-out leftBytes leftSteps refl (within?, (within3, (tt, (withinLast 2 (omega arith), (tt, (withinLast 4 (omega arith), (tt, tt))))))) (omega arith)
 
 pub right-sheet : SheetOf rightBytes rightSteps
 unfolding bytesOf code writeShape writeScalar writeTy writeSteps
-right-sheet = record { bytes = refl; within = (withinLast 4 (omega arith), (within?, (withinLast 2 (omega arith), (within3, (tt, (tt, (tt, tt))))))); few = omega arith }
+right-sheet = sheet-of-out rightBytes rightSteps refl (withinLast 4 (omega arith), (within?, (withinLast 2 (omega arith), (within3, (tt, (tt, (tt, tt))))))) (omega arith)
 
 pub unlike-sheet : SheetOf unlikeBytes unlikeSteps
 unfolding bytesOf code writeShape writeScalar writeTy writeSteps
-unlike-sheet = record { bytes = refl; within = (within3, (within4, (tt, tt))); few = omega arith }
+unlike-sheet = sheet-of-out unlikeBytes unlikeSteps refl (within3, (within4, (tt, tt))) (omega arith)
 
 pub turned-sheet : SheetOf turnedBytes turnedSteps
 unfolding bytesOf code writeShape writeScalar writeTy writeSteps
-turned-sheet = record { bytes = refl; within = (within4, (within3, (tt, tt))); few = omega arith }
+turned-sheet = sheet-of-out turnedBytes turnedSteps refl (within4, (within3, (tt, tt))) (omega arith)
 
-conditions : (s : List ℕ) (xs : List Step) → Bytes s → SheetOf s xs → areHeights xs 0 ≡ true → All PutOrPervade xs → typesLeft xs ≡ 1 → SecondConditions (checkWith s) xs
+pub conditions : (s : List ℕ) (xs : List Step) → Bytes s → SheetOf s xs → areHeights xs 0 ≡ true → All PutOrPervade xs → typesLeft xs ≡ 1 → SecondConditions (checkWith s) xs
 conditions s xs small sheet heights only one = record {
   bytes = small;
   well-formed = steps-well-formed s (zeroes (resultBytes 1)) (zeroes scratchBytes) xs sheet (are-heights xs 0 heights) (rw one (long-enough (resultBytes 1))) (long-enough scratchBytes);
@@ -180,7 +183,7 @@ one-record = refl
 
 pairs-run : sheetRun pairsBytes ≡ accepted (oneLeft ∷ [])
 unfolding byte judged number code kindOf readMark readDim readDims shapeFrom scalarFrom readTy codeOf supersetCodes supersetOf union againstAbsent
-    together walk pervadeClosing inSheetsAt pervadeInSheets pervadeTypes step opcodeFrom argumentFrom stepFrom workFrom sheetMore sheetFrom sheetRun
+    together walk pervadeClosing inSheetsAt pervadeInSheets pervadeTypes step steps opcodeFrom argumentFrom stepFrom writtenFrom workFrom sheetMore sheetFrom sheetRun
 pairs-run = refl
 
 one-length : length (writeTypes (oneLeft ∷ [])) ≡ 15
@@ -195,7 +198,7 @@ pairs-leaves =
 -- [3] and [4] are refused at the pervading.
 unlike-run : sheetRun unlikeBytes ≡ refused unpervaded 34
 unfolding byte judged number code kindOf readMark readDim readDims shapeFrom scalarFrom readTy cmpDim codeOf supersetCodes supersetOf union together
-    walk pervadeClosing inSheetsAt pervadeInSheets pervadeTypes step opcodeFrom argumentFrom stepFrom workFrom sheetMore sheetFrom sheetRun
+    walk pervadeClosing inSheetsAt pervadeInSheets pervadeTypes step steps opcodeFrom argumentFrom stepFrom writtenFrom workFrom sheetMore sheetFrom sheetRun
 unlike-run = refl
 
 pub unlike-mismatched : Mismatched (checkWith unlikeBytes)

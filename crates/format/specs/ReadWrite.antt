@@ -151,7 +151,7 @@ module _ (s : List ℕ) (small : Bytes s) where
         ((leb-true a maxSizes (i .1), h .1), k .within),
       ))
 
-  took-name : (k p at : ℕ) (r : List ℕ) (n : ℕ) → readName s k p at ≡ got r n → Took s at r n × All Printing r × (length r ≡ k)
+  pub took-name : (k p at : ℕ) (r : List ℕ) (n : ℕ) → readName s k p at ≡ got r n → Took s at r n × All Printing r × (length r ≡ k)
   unfolding readName
   took-name zero p at r n e = gave e λ x y. rw (← x, ← y) (took-none, tt, refl)
   took-name (suc k) p at r n e =

@@ -102,7 +102,7 @@ module _ (s : List ℕ) where
       (reads-bind _ (reads-dims p o (h .0 .1))
       (reads-last _ (reads-closing p c few each) (ap (shape o) (optional-ok maxSizes (lit< tt) c few))))))
 
-  reads-name : (p : ℕ) (n : List ℕ) → All Printing n → Reads s (readName s (length n) p) n n
+  pub reads-name : (p : ℕ) (n : List ℕ) → All Printing n → Reads s (readName s (length n) p) n n
   unfolding readName
   reads-name p [] h = reads-give
   reads-name p (b ∷ n) h = reads-judged isPrinting p _ (rw (le-leb firstPrinting b (h .0 .0), le-leb b lastPrinting (h .0 .1))) (reads-last _ (reads-name p n (h .1)) refl)

@@ -11,7 +11,7 @@ pub const UNKNOWN: u64 = 18446744073709551615;
 // Opening sizes of a shape, and closing sizes.
 pub const MAX_SIZES: usize = 8;
 
-// Bytes of a name; fields of a Def.
+// Bytes of a name, a Def's or a table's; fields of a Def.
 pub const MAX_NAME: u64 = 16;
 
 pub const MAX_FIELDS: u64 = 31;
@@ -29,10 +29,12 @@ pub const MAX_DEPTH: u64 = 8;
 // Bytes that suffice for any type.
 pub const MAX_BYTES: usize = 4992;
 
-// Steps of a sheet; types on the stack.
+// Steps of a sheet; types on the stack; names in force.
 pub const MAX_STEPS: usize = 64;
 
 pub const MAX_STACK: usize = 6;
+
+pub const MAX_NAMES: usize = 16;
 
 // Bytes of a size as it lies in the scratch, the number that stands for an unknown one there, and bytes that suffice for any type.
 pub const PACKED_SIZE: usize = 7;

@@ -45,3 +45,13 @@ pub const VALIDATE: Mark = Mark {
     first: 0x56,
     second: 0x41,
 };
+
+pub const DECLARE: Mark = Mark {
+    first: 0x4E,
+    second: 0x4D,
+};
+
+pub const USE: Mark = Mark {
+    first: 0x55,
+    second: 0x53,
+};

@@ -27,3 +27,7 @@ pub const OVERFLOW: u8 = 12;
 pub const NOT_A_SIZE: u8 = 13;
 
 pub const WRONG_COUNT: u8 = 14;
+
+pub const UNDECLARED: u8 = 15;
+
+pub const TOO_MANY_NAMES: u8 = 16;

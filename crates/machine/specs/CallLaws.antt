@@ -3,7 +3,7 @@
 use Prim.Native.Nat.{ℕ, _≤_, _<_}
 use native.Mathlib.Omega.{arith}
 use mathlib.Core.Bool.{Bool, true, false}
-use mathlib.Core.List.{List, [], _∷_, reverse}
+use mathlib.Core.List.{List, [], reverse}
 use mathlib.Core.Path.{_≡_, refl, _∙_}
 use lib.ListN.{length, take, drop, length-reverse}
 use lib.Seq.{take-append-seam}
@@ -15,14 +15,13 @@ use Rattle.model.specs.Within.{All, Within}
 use Rattle.format.specs.Reader.{Bytes}
 use Rattle.format.specs.Outcome.{Outcome, accepted, refused}
 use Rattle.machine.specs.SheetLimits.{maxStack, scratchBytes, resultBytes}
-use Rattle.machine.specs.Steps.{Step, SheetOf}
-use Rattle.machine.specs.Run.{gives, Stack, step, steps}
+use Rattle.machine.specs.Steps.{Step}
+use Rattle.machine.specs.Names.{SheetOf}
 use Rattle.machine.specs.Sheet.{sheetRun}
 use Rattle.machine.specs.Call.{tally, called, writeTypes, zeroed, atFront, leftWith, handOver, sheetCall}
 use Rattle.machine.specs.WellFormed.{typesLeft}
-use Rattle.machine.specs.RunLaws.{following-gives}
 use Rattle.machine.specs.StepsWithin.{writeTypes-suffices}
-use Rattle.machine.specs.StepsReads.{step-room}
+use Rattle.machine.specs.StepsReads.{steps-room}
 use Rattle.machine.specs.Sheets.{accepted-steps, left-within, left-many}
 
 -- ---- the ways out of the call
@@ -77,11 +76,6 @@ module _ (s result scratch : List ℕ) where
 
 -- ---- no more types are left than the stack has places
 
-steps-few : (xs : List Step) (st st₁ : Stack) → length st ≤ maxStack → steps xs st ≡ gives st₁ → length st₁ ≤ maxStack
-unfolding steps
-steps-few [] st st₁ h e = let w : st ≡ st₁ = cc in rw (← w) h
-steps-few (x ∷ xs) st st₁ h e = following-gives (step x st) e λ st₂ e₁ e₂. steps-few xs st₂ st₁ (step-room x st st₂ h e₁) e₂
-
 -- What the types left of a sheet keep to.
 pub record Few (ts : List Ty) : Type 0 where
   pub within : All Within ts
@@ -92,7 +86,7 @@ pub run-few : (s : List ℕ) → Bytes s → (ts : List Ty) → sheetRun s ≡ a
 run-few s small ts e =
     let (xs, h, k) = accepted-steps s small ts e in
     let w : All Within ts = left-within s xs ts h e .1 in
-    let n : length ts ≤ maxStack = omega (arith, steps-few xs [] (reverse ts) (omega arith) k, length-reverse ts) in
+    let n : length ts ≤ maxStack = omega (arith, steps-room xs [] (reverse ts) (omega arith) k, length-reverse ts) in
     record { within = w; few = n; suffices = omega (arith, writeTypes-suffices ts w) }
 
 -- `resultBytes` of the types that are counted on the reading suffice.

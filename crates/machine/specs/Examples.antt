@@ -26,10 +26,12 @@ use Rattle.validation.specs.CheckShape.{agree, equalDim, sizesAgree, countTest,
 use Rattle.validation.specs.AsFields.{keepsLimits}
 use Rattle.validation.specs.CheckScalar.{onAll, checkScalar}
 use Rattle.validation.specs.Validate.{validate}
-use Rattle.machine.specs.SheetLimits.{maxSteps, maxStack, scratchBytes, resultBytes, programBytes}
-use Rattle.machine.specs.Steps.{Step, put, row, pervading, join, validating, markOf, opcodes, takes, lays, flagByte, maxFlag, writeSteps}
-use Rattle.machine.specs.Run.{pervadeTypes, step}
-use Rattle.machine.specs.Sheet.{opcodeFrom, argumentFrom, stepFrom, workFrom, sheetMore, skimMore, sheetFrom, skimFrom, sheetRun, skim}
+use Rattle.machine.specs.SheetLimits.{maxSteps, maxStack, maxNames, scratchBytes, resultBytes, programBytes}
+use Rattle.machine.specs.Steps.{Step, put, row, pervading, join, validating, markOf, opcodes, takes, lays, flagByte, maxFlag}
+use Rattle.machine.specs.Run.{pervadeTypes, step, steps}
+use Rattle.machine.specs.Written.{writeSteps, writtenOut}
+use Rattle.machine.specs.Names.{unfolded}
+use Rattle.machine.specs.Sheet.{opcodeFrom, nameFrom, argumentFrom, stepFrom, writtenFrom, workFrom, sheetMore, skimMore, sheetFrom, skimFrom, sheetRun, skim}
 use Rattle.machine.specs.Call.{tally, called, writeTypes, zeroed, handOver, sheetCall}
 use Rattle.machine.specs.WellFormed.{WellFormed, typesLeft}
 use Rattle.machine.specs.Real.{RealShape, fits, realPervade, theTop, theOneBelow, Feeds, realStep, realRun}
@@ -38,7 +40,7 @@ use Rattle.machine.specs.Conditions.{Alike, PutOrPervade}
 pub data Example : Type 0 where
   -- a sheet's bytes, and the bytes of the types left
   theBytes : List ℕ → List ℕ → Example
-  -- steps, and the types left, bottom first
+  -- steps, written as they are worked, and the types left, bottom first
   theTypes : List Step → List Ty → Example
   -- a sheet's bytes, and its refusal with the place
   theRefusal : List ℕ → ℕ → ℕ → Example
@@ -47,25 +49,31 @@ pub data Example : Type 0 where
   -- a sheet's bytes, and the refusal of that reading with the place
   theUnread : List ℕ → ℕ → ℕ → Example
 
+-- the bytes of steps that are written as they are worked
+abbrev pub bytesOfSteps : List Step → List ℕ
+bytesOfSteps xs = writeSteps (writtenOut xs)
+
 abbrev pub Shown : Example → Type 0
 Shown (theBytes s w) = mapped writeTypes (sheetRun s) ≡ accepted w
-Shown (theTypes xs ts) = sheetRun (writeSteps xs) ≡ accepted ts
+Shown (theTypes xs ts) = sheetRun (bytesOfSteps xs) ≡ accepted ts
 Shown (theRefusal s k p) = sheetRun s ≡ refused k p
-Shown (theSteps s xs) = skim s ≡ accepted xs
+Shown (theSteps s xs) = skim s ≡ accepted (writtenOut xs)
 Shown (theUnread s k p) = skim s ≡ refused k p
 
 -- ---- limits, marks and flags as they stand in the paper, once
 
--- 64 steps, a stack of six, 25,728 bytes for the scratch, 4,992 of a result for each type left, and 49,152 for the program
-pub sheet-limited : _≡_ {A = List ℕ} (maxSteps ∷ maxStack ∷ scratchBytes ∷ resultBytes 1 ∷ programBytes ∷ []) (64 ∷ 6 ∷ 25728 ∷ 4992 ∷ 49152 ∷ [])
+-- 64 steps, a stack of six, 16 names, 25,728 bytes for the scratch, 4,992 of a result for each type left, and 49,152 for the program
+pub sheet-limited : _≡_ {A = List ℕ} (maxSteps ∷ maxStack ∷ maxNames ∷ scratchBytes ∷ resultBytes 1 ∷ programBytes ∷ []) (64 ∷ 6 ∷ 16 ∷ 25728 ∷ 4992 ∷ 49152 ∷ [])
 sheet-limited = refl
 
 -- what each takes and what it lays down
-pub heights-are : _≡_ {A = List (ℕ × ℕ)} (map (λ c. (takes c, lays c)) opcodes) ((0, 1) ∷ (1, 1) ∷ (2, 1) ∷ (2, 1) ∷ (1, 1) ∷ [])
+pub heights-are : _≡_ {A = List (ℕ × ℕ)} (map (λ c. (takes c, lays c)) opcodes) ((0, 1) ∷ (1, 1) ∷ (2, 1) ∷ (2, 1) ∷ (1, 1) ∷ (0, 0) ∷ (0, 1) ∷ [])
 heights-are = refl
 
--- 50 55 put, 52 57 row, 50 56 pervade, 4A 4E join, 56 41 validate
-pub marks-are : map (λ c. markBytes (markOf c)) opcodes ≡ (0x50 ∷ 0x55 ∷ []) ∷ (0x52 ∷ 0x57 ∷ []) ∷ (0x50 ∷ 0x56 ∷ []) ∷ (0x4A ∷ 0x4E ∷ []) ∷ (0x56 ∷ 0x41 ∷ []) ∷ []
+-- 50 55 put, 52 57 row, 50 56 pervade, 4A 4E join, 56 41 validate, 4E 4D declare, 55 53 use
+pub marks-are :
+    map (λ c. markBytes (markOf c)) opcodes
+    ≡ (0x50 ∷ 0x55 ∷ []) ∷ (0x52 ∷ 0x57 ∷ []) ∷ (0x50 ∷ 0x56 ∷ []) ∷ (0x4A ∷ 0x4E ∷ []) ∷ (0x56 ∷ 0x41 ∷ []) ∷ (0x4E ∷ 0x4D ∷ []) ∷ (0x55 ∷ 0x53 ∷ []) ∷ []
 marks-are = refl
 
 -- bit 0 fills the top, bit 1 the one below, and 3 both
@@ -112,7 +120,7 @@ examples =
     -- Bit 0 fills the top, bit 1 the one below.
     ∷ theTypes (put (nums (4 ∷ [])) ∷ put (nums (3 ∷ [])) ∷ pervading true false ∷ []) (nums (4 ∷ []) ∷ [])
     ∷ theTypes (put (nums (3 ∷ [])) ∷ put (nums (4 ∷ [])) ∷ pervading false true ∷ []) (nums (4 ∷ []) ∷ [])
-    ∷ theRefusal (writeSteps (put (nums []) ∷ put (nums (4 ∷ [])) ∷ put (nums (3 ∷ [])) ∷ pervading false true ∷ [])) unpervaded 43
+    ∷ theRefusal (bytesOfSteps (put (nums []) ∷ put (nums (4 ∷ [])) ∷ put (nums (3 ∷ [])) ∷ pervading false true ∷ [])) unpervaded 43
     -- 12 on top, filled, meets ? below it and is ?; it stays 12 where the one below is filled.
     ∷ theTypes (put unknownNums ∷ put (nums (12 ∷ [])) ∷ pervading true false ∷ []) (unknownNums ∷ [])
     ∷ theTypes (put unknownNums ∷ put (nums (12 ∷ [])) ∷ pervading false true ∷ []) (nums (12 ∷ []) ∷ [])
@@ -123,24 +131,24 @@ examples =
     ∷ theTypes (put (nums (2 ∷ 3 ∷ [])) ∷ row ∷ []) (nums (3 ∷ []) ∷ [])
     ∷ theTypes (put (nums (2 ∷ [])) ∷ put (nums (2 ∷ 3 ∷ [])) ∷ join ∷ []) (nums (2 ∷ []) ∷ [])
     ∷ theTypes (put (nums (3 ∷ [])) ∷ validating unknownNums ∷ []) (nums (3 ∷ []) ∷ [])
-    ∷ theRefusal (writeSteps (put (of char []) ∷ validating (nums []) ∷ [])) wrongScalar 9
-    ∷ theRefusal (writeSteps (put (nums (3 ∷ [])) ∷ validating (nums (2 ∷ [])) ∷ [])) wrongShape 17
+    ∷ theRefusal (bytesOfSteps (put (of char []) ∷ validating (nums []) ∷ [])) wrongScalar 9
+    ∷ theRefusal (bytesOfSteps (put (nums (3 ∷ [])) ∷ validating (nums (2 ∷ [])) ∷ [])) wrongShape 17
     -- A mark is judged once both its bytes are there; the place is the step's mark.
     ∷ theRefusal (0x58 ∷ []) ended 0
     ∷ theRefusal (0x58 ∷ 0x58 ∷ []) unmarked 0
     -- Inside a type the place is its reader's; a flag belongs to its step's mark.
     ∷ theRefusal (0x50 ∷ 0x55 ∷ []) ended 2
-    ∷ theRefusal (writeSteps (put (nums []) ∷ put (nums []) ∷ []) ++ (0x50 ∷ 0x56 ∷ [])) ended 18
-    ∷ theRefusal (writeSteps (put (nums []) ∷ put (nums []) ∷ []) ++ (0x50 ∷ 0x56 ∷ 0x04 ∷ [])) outOfRange 18
+    ∷ theRefusal (bytesOfSteps (put (nums []) ∷ put (nums []) ∷ []) ++ (0x50 ∷ 0x56 ∷ [])) ended 18
+    ∷ theRefusal (bytesOfSteps (put (nums []) ∷ put (nums []) ∷ []) ++ (0x50 ∷ 0x56 ∷ 0x04 ∷ [])) outOfRange 18
     -- The stack comes before the step's bytes.
     ∷ theRefusal (0x52 ∷ 0x57 ∷ []) underflow 0
     ∷ theRefusal (0x50 ∷ 0x56 ∷ 0x09 ∷ []) underflow 0
     ∷ theRefusal (0x56 ∷ 0x41 ∷ []) underflow 0
     -- 64 steps and no byte more; one byte more is step 65, whatever it is.
     ∷ theTypes (put (nums []) ∷ replicate 63 row) (nums [] ∷ [])
-    ∷ theRefusal (writeSteps (put (nums []) ∷ replicate 63 row) ++ (0x52 ∷ [])) overflow 135
+    ∷ theRefusal (bytesOfSteps (put (nums []) ∷ replicate 63 row) ++ (0x52 ∷ [])) overflow 135
     -- Read to the end, a rule's refusal is passed over.
-    ∷ theSteps (writeSteps (put (nums (3 ∷ [])) ∷ put (nums (4 ∷ [])) ∷ pervading false false ∷ row ∷ [])) (put (nums (3 ∷ [])) ∷ put (nums (4 ∷ [])) ∷ pervading false false ∷ row ∷ [])
+    ∷ theSteps (bytesOfSteps (put (nums (3 ∷ [])) ∷ put (nums (4 ∷ [])) ∷ pervading false false ∷ row ∷ [])) (put (nums (3 ∷ [])) ∷ put (nums (4 ∷ [])) ∷ pervading false false ∷ row ∷ [])
     ∷ []
 
 -- Six on the stack (document 02, 2026-04).
@@ -150,24 +158,24 @@ stackExamples =
     theTypes (replicate 6 putNum) (replicate 6 (nums []))
     ∷ theTypes (replicate 6 putNum ++ (row ∷ validating (nums []) ∷ pervading false false ∷ join ∷ [])) (replicate 4 (nums []))
     -- The put of a seventh is 12 at its mark, whether its type is whole, damaged or missing; 1 and 2 for its mark come before.
-    ∷ theRefusal (writeSteps (replicate 7 putNum)) overflow 54
-    ∷ theRefusal (writeSteps (replicate 6 putNum) ++ (0x50 ∷ 0x55 ∷ 0x53 ∷ 0x48 ∷ 0x09 ∷ [])) overflow 54
-    ∷ theRefusal (writeSteps (replicate 6 putNum) ++ (0x50 ∷ 0x55 ∷ [])) overflow 54
-    ∷ theRefusal (writeSteps (replicate 6 putNum) ++ (0x50 ∷ [])) ended 54
-    ∷ theRefusal (writeSteps (replicate 6 putNum) ++ (0x50 ∷ 0x58 ∷ [])) unmarked 54
+    ∷ theRefusal (bytesOfSteps (replicate 7 putNum)) overflow 54
+    ∷ theRefusal (bytesOfSteps (replicate 6 putNum) ++ (0x50 ∷ 0x55 ∷ 0x53 ∷ 0x48 ∷ 0x09 ∷ [])) overflow 54
+    ∷ theRefusal (bytesOfSteps (replicate 6 putNum) ++ (0x50 ∷ 0x55 ∷ [])) overflow 54
+    ∷ theRefusal (bytesOfSteps (replicate 6 putNum) ++ (0x50 ∷ [])) ended 54
+    ∷ theRefusal (bytesOfSteps (replicate 6 putNum) ++ (0x50 ∷ 0x58 ∷ [])) unmarked 54
     -- Up to six, down and up again, and then one too many.
     ∷ theTypes upAgain (replicate 6 (nums []))
-    ∷ theRefusal (writeSteps (upAgain ++ (putNum ∷ []))) overflow 78
+    ∷ theRefusal (bytesOfSteps (upAgain ++ (putNum ∷ []))) overflow 78
     -- Seven puts manage with six places if two are pervaded before the last; all put first they do not, on the reading alone too.
     ∷ theTypes (replicate 6 putNum ++ (pervading false false ∷ putNum ∷ replicate 5 (pervading false false))) (nums [] ∷ [])
-    ∷ theUnread (writeSteps (replicate 7 putNum ++ replicate 6 (pervading false false))) overflow 54
+    ∷ theUnread (bytesOfSteps (replicate 7 putNum ++ replicate 6 (pervading false false))) overflow 54
     ∷ []
 
 unfoldable pub mismatchExamples : List Example
 mismatchExamples =
     -- 14 is at the step's mark too, of the type itself and of what a box holds.
-    theRefusal (writeSteps (put (ty (shape (static 2 ∷ []) (some [])) (plain num)) ∷ validating (nums (2 ∷ 3 ∷ [])) ∷ [])) wrongCount 17
-    ∷ theRefusal (writeSteps (put (ty (shape [] none) (boxAll (shape (static 2 ∷ static 3 ∷ []) none) (plain num))) ∷ validating (ty (shape [] none) (boxAll (shape (static 2 ∷ []) none) (plain num))) ∷ [])) wrongCount 35
+    theRefusal (bytesOfSteps (put (ty (shape (static 2 ∷ []) (some [])) (plain num)) ∷ validating (nums (2 ∷ 3 ∷ [])) ∷ [])) wrongCount 17
+    ∷ theRefusal (bytesOfSteps (put (ty (shape [] none) (boxAll (shape (static 2 ∷ static 3 ∷ []) none) (plain num))) ∷ validating (ty (shape [] none) (boxAll (shape (static 2 ∷ []) none) (plain num))) ∷ [])) wrongCount 35
     ∷ []
 
 pub examples-shown : All Shown examples × All Shown stackExamples × All Shown mismatchExamples
@@ -175,7 +183,7 @@ unfolding examples stackExamples mismatchExamples inside below byte judged numbe
     readFields defFrom boxFrom scalarFrom readTy cmpDim larger compatible joinDim isAny rank rowShape mergeDims mergeClosing mergeFrom joinDims
     joinLonger joinEnds joinClosing joinShapes codeOf supersetCodes supersetOf union againstAbsent together walk pervadeClosing inSheetsAt
     pervadeInSheets joinTypes whollyAny rowScalar rowBy agree equalDim sizesAgree countTest namesAll mismatch shapeMismatch sidedShape checkShape keepsLimits onAll checkScalar validate
-    writeSteps pervadeTypes step opcodeFrom argumentFrom stepFrom workFrom sheetMore skimMore sheetFrom skimFrom sheetRun skim writeTypes
+    writeSteps pervadeTypes step steps opcodeFrom nameFrom argumentFrom stepFrom writtenFrom workFrom sheetMore skimMore sheetFrom skimFrom sheetRun skim writeTypes
 examples-shown = (
   (refl, (refl, (refl, (refl, (refl, (refl, (refl, (refl, (refl, (refl, (refl, (refl, (refl, (refl, (refl, (refl, (refl, (refl, (refl, (refl, (refl, (refl, (refl, (refl, (refl, (refl, tt)))))))))))))))))))))))))),
   (refl, (refl, (refl, (refl, (refl, (refl, (refl, (refl, (refl, (refl, (refl, tt))))))))))),
@@ -204,18 +212,18 @@ module _ (scratch : List ℕ) (enough : scratchBytes ≤ length scratch) where
 
   -- The bytes go to the front of the result, and one past them stays.
   pub call-one : sheetCall oneSheet (replicate 8 7) scratch ≡ called (accepted (tally 1 7)) (oneRecord ++ (7 ∷ [])) (zeroed scratch)
-  unfolding sheetCall sheetRun sheetFrom sheetMore workFrom stepFrom opcodeFrom argumentFrom step handOver writeTypes byte judged number bytesOf code
+  unfolding sheetCall sheetRun sheetFrom sheetMore workFrom writtenFrom stepFrom opcodeFrom argumentFrom step steps handOver writeTypes byte judged number bytesOf code
       kindOf writeShape writeScalar writeTy readMark readDim readDims shapeFrom scalarFrom readTy
   call-one = rw (le-ltb (length scratch) scratchBytes enough)
 
   -- A refusal writes nothing to the result: a row first.
   pub call-refused : sheetCall (0x52 ∷ 0x57 ∷ []) (replicate 8 7) scratch ≡ called (refused underflow 0) (replicate 8 7) (zeroed scratch)
-  unfolding sheetCall sheetRun sheetFrom sheetMore workFrom stepFrom opcodeFrom handOver byte
+  unfolding sheetCall sheetRun sheetFrom sheetMore workFrom writtenFrom stepFrom opcodeFrom handOver byte
   call-refused = rw (le-ltb (length scratch) scratchBytes enough)
 
   -- A result that is one byte too short stays as lent, and is found at the sheet's length.
   pub call-short : sheetCall oneSheet (replicate 6 7) scratch ≡ called (refused tooShort 9) (replicate 6 7) (zeroed scratch)
-  unfolding sheetCall sheetRun sheetFrom sheetMore workFrom stepFrom opcodeFrom argumentFrom step handOver writeTypes byte judged number bytesOf code
+  unfolding sheetCall sheetRun sheetFrom sheetMore workFrom writtenFrom stepFrom opcodeFrom argumentFrom step steps handOver writeTypes byte judged number bytesOf code
       kindOf writeShape writeScalar writeTy readMark readDim readDims shapeFrom scalarFrom readTy
   call-short = rw (le-ltb (length scratch) scratchBytes enough)
 
@@ -230,18 +238,18 @@ oneLeft = put (nums (3 ∷ [])) ∷ put (nums (4 ∷ [])) ∷ pervading false fa
 
 module _ (result scratch : List ℕ) where
   -- Lent so much scratch and so much of a result, and no less, steps that are read back make a well-formed sheet.
-  lent-exactly : (xs : List Step) (n : ℕ) → skim (writeSteps xs) ≡ accepted xs → resultBytes (typesLeft xs) ≡ n
-      → ((25728 ≤ length scratch) × (n ≤ length result)) ↔ WellFormed (writeSteps xs) result scratch xs
-  lent-exactly xs n read e =
-      (λ l. record { read = read; scratch-holds = omega (arith, l .0); result-holds = omega (arith, l .1) }, λ w. (omega (arith, w .scratch-holds), omega (arith, w .result-holds)))
+  lent-exactly : (xs : List Step) (n : ℕ) → skim (bytesOfSteps xs) ≡ accepted (writtenOut xs) → unfolded [] (writtenOut xs) ≡ xs → resultBytes (typesLeft xs) ≡ n
+      → ((25728 ≤ length scratch) × (n ≤ length result)) ↔ WellFormed (bytesOfSteps xs) result scratch xs
+  lent-exactly xs n read comes e =
+      (λ l. record { written = writtenOut xs; read = read; comes-to = comes; scratch-holds = omega (arith, l .0); result-holds = omega (arith, l .1) }, λ w. (omega (arith, w .scratch-holds), omega (arith, w .result-holds)))
 
   -- "The scratch asked for and 4,992 result bytes for each type left", and not one fewer: of a sheet that leaves two and of one that leaves one.
   pub well-formed-lent :
-      (((25728 ≤ length scratch) × (9984 ≤ length result)) ↔ WellFormed (writeSteps twoLeft) result scratch twoLeft)
-      × (((25728 ≤ length scratch) × (4992 ≤ length result)) ↔ WellFormed (writeSteps oneLeft) result scratch oneLeft)
+      (((25728 ≤ length scratch) × (9984 ≤ length result)) ↔ WellFormed (bytesOfSteps twoLeft) result scratch twoLeft)
+      × (((25728 ≤ length scratch) × (4992 ≤ length result)) ↔ WellFormed (bytesOfSteps oneLeft) result scratch oneLeft)
   unfolding byte judged number bytesOf code kindOf writeShape writeScalar writeTy readMark readDim readDims shapeFrom scalarFrom readTy writeSteps
-      opcodeFrom argumentFrom stepFrom skimMore skimFrom skim
-  well-formed-lent = (lent-exactly twoLeft 9984 refl refl, lent-exactly oneLeft 4992 refl refl)
+      opcodeFrom nameFrom argumentFrom stepFrom writtenFrom skimMore skimFrom skim unfolded
+  well-formed-lent = (lent-exactly twoLeft 9984 refl refl refl, lent-exactly oneLeft 4992 refl refl refl)
 
 -- ---- real shapes
 

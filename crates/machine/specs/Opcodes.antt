@@ -9,7 +9,7 @@ use borrow.Author.Tests.{eqb-true, leb-true}
 use Rattle.model.specs.Within.{All}
 use Rattle.format.specs.Records.{markBytes}
 use Rattle.validation.specs.OutcomeLaws.{both-true}
-use Rattle.machine.specs.Steps.{Opcode, aPut, aRow, aPervading, aJoin, aValidating, opcodes, markOf, takes, lays}
+use Rattle.machine.specs.Steps.{Opcode, aPut, aRow, aPervading, aJoin, aValidating, aDeclaration, aUse, opcodes, markOf, takes, lays}
 
 abbrev allPass : (Opcode → Bool) → List Opcode → Bool
 allPass test [] = true
@@ -26,6 +26,8 @@ listed P h aRow = h .1 .0
 listed P h aPervading = h .1 .1 .0
 listed P h aJoin = h .1 .1 .1 .0
 listed P h aValidating = h .1 .1 .1 .1 .0
+listed P h aDeclaration = h .1 .1 .1 .1 .1 .0
+listed P h aUse = h .1 .1 .1 .1 .1 .1 .0
 
 pub each-opcode : (test : Opcode → Bool) → allPass test opcodes ≡ true → (c : Opcode) → test c ≡ true
 each-opcode test h c = listed (λ c. test c ≡ true) (each-listed test opcodes h) c

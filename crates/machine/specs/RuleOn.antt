@@ -7,17 +7,16 @@ use mathlib.Core.List.{List, [], _∷_}
 use mathlib.Core.Option.{Option, none, some}
 use mathlib.Core.Path.{_≡_, refl}
 use lib.ListN.{length}
-use lib.Dec.{eqb, ltb}
-use borrow.Author.Tests.{eqb-true, le-ltb}
+use lib.Dec.{ltb}
+use borrow.Author.Tests.{le-ltb}
 use Rattle.model.specs.Refusals.{underflow, overflow}
 use Rattle.model.specs.Types.{Ty}
 use Rattle.model.specs.Within.{All}
 use Rattle.machine.specs.SheetLimits.{maxStack}
-use Rattle.machine.specs.Steps.{Step, put, row, pervading, join, validating, Opcode, opcodeOf, takes, lays, Rule, ofNone, ofOne, ofTwo}
+use Rattle.machine.specs.Steps.{Step, put, row, pervading, join, validating, opcodeOf, takes, lays, Rule, ofNone, ofOne, ofTwo}
 use Rattle.machine.specs.Run.{Ruling, gives, refuses, Stack, onto, ruleOf, ruleOn}
 use Rattle.machine.specs.Real.{RealShape, Feed, ontoReal, realRule, realRuleOn}
 use Rattle.machine.specs.RunLaws.{following-gives}
-use Rattle.machine.specs.Opcodes.{each-opcode}
 
 -- ---- how many it takes
 
@@ -40,9 +39,13 @@ real-takes (pervading a b) f = refl
 real-takes join f = refl
 real-takes (validating spec) f = refl
 
--- Each lays one down.
-pub lays-one : (c : Opcode) → lays c ≡ 1
-lays-one c = eqb-true (lays c) 1 (each-opcode (λ c. eqb (lays c) 1) refl c)
+-- Each that is worked lays one down.
+pub lays-one : (x : Step) → lays (opcodeOf x) ≡ 1
+lays-one (put t) = refl
+lays-one row = refl
+lays-one (pervading f g) = refl
+lays-one join = refl
+lays-one (validating spec) = refl
 
 -- ---- types
 

@@ -1,6 +1,6 @@
 -- The run of a sheet's steps on a stack of types, top first (document 01, "The sheet, added"): what each step's rule makes of the
 -- stack, or the number of its refusal. The top is the Rust's first.
-use Prim.Native.Nat.{ℕ, suc, _-_}
+use Prim.Native.Nat.{ℕ}
 use mathlib.Core.Bool.{Bool, cond}
 use mathlib.Core.List.{List, [], _∷_, reverse}
 use mathlib.Core.Option.{Option, none, some}
@@ -14,7 +14,7 @@ use Rattle.rules.specs.Scalars.{union}
 use Rattle.rules.specs.Types.{joinTypes, intoRow}
 use Rattle.validation.specs.CheckShape.{unsided}
 use Rattle.validation.specs.Validate.{validate}
-use Rattle.machine.specs.SheetLimits.{maxSteps, maxStack}
+use Rattle.machine.specs.SheetLimits.{maxStack}
 use Rattle.machine.specs.Steps.{Step, put, row, pervading, join, validating, Rule, ofNone, ofOne, ofTwo}
 
 -- What a rule answers, the place aside: a value, or the number of a refusal.
@@ -37,30 +37,6 @@ aside (refused k p) = refuses k
 
 abbrev pub Stack : Type 0
 Stack = List Ty
-
--- ---- the state
-
--- The state of a run: what is known of the stack, which is its types or, where the rules are left out, its height alone; and how many
--- steps were taken.
-pub record State (A : Type 0) : Type 0 where
-  pub stack : A
-  pub taken : ℕ
-
--- before the first step, with this on the stack
-abbrev pub fresh : {A : Type 0} → A → State A
-fresh a = record { stack = a; taken = 0 }
-
--- one step later, with this on the stack
-abbrev pub afterStep : {A : Type 0} → State A → A → State A
-afterStep st a = record { stack = a; taken = suc (st .taken) }
-
--- the same state, but for what is known of the stack
-abbrev pub onStack : {A B : Type 0} → (A → B) → State A → State B
-onStack f st = record { stack = f (st .stack); taken = st .taken }
-
--- how many steps may yet be taken
-abbrev pub stepsLeft : {A : Type 0} → State A → ℕ
-stepsLeft st = maxSteps - st .taken
 
 -- ---- the rules
 
@@ -91,10 +67,6 @@ ruleOn (ofTwo f) (t ∷ u ∷ st) = onto st (f t u)
 
 unfoldable pub step : Step → Stack → Ruling Stack
 step x st = ruleOn (ruleOf x) st
-
--- One step of a run: its rule, and one step more is taken.
-abbrev pub work : Step → State Stack → Ruling (State Stack)
-work x st = following (step x (st .stack)) λ a. gives (afterStep st a)
 
 -- ---- a list of steps
 

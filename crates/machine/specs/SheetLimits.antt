@@ -1,4 +1,4 @@
--- The limits of a sheet (document 01, "The sheet, added"; document 02, 2026-04 and 2026-05), each named once and derived from its parts
+-- The limits of a sheet (document 01, "The sheet, added"; document 02, 2026-04 to 2026-06), each named once and derived from its parts
 -- where it has some. Definitions and theorems cite the names and never the numbers, which Examples sets beside the names.
 use Prim.Native.Nat.{ℕ, _*_}
 use Rattle.model.specs.Limits.{maxBytes}
@@ -10,6 +10,10 @@ maxSteps = 64
 -- types on the stack: "six becomes the limit"
 abbrev pub maxStack : ℕ
 maxStack = 6
+
+-- names in force: "up to 16 different names"; how long one may be stands in `model` (Limits)
+abbrev pub maxNames : ℕ
+maxNames = 16
 
 -- bytes of scratch that suffice for any type there; its parts are `packing`'s (PackedLaws)
 abbrev pub maxPacked : ℕ

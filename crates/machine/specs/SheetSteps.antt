@@ -2,17 +2,20 @@
 -- the steps after it; and of one step, what each part of its reading answers in turn, and then its rule.
 use Prim.Native.Nat.{ℕ, zero, suc, _-_, _≤_, _<_}
 use native.Mathlib.Omega.{arith}
+use mathlib.Core.Bool.{true, false}
 use mathlib.Core.List.{List}
 use mathlib.Core.Path.{_≡_}
 use lib.ListN.{length}
 use borrow.Author.Tests.{lt-ltb, le-ltb, le-leb, lt-leb}
-use Rattle.model.specs.Refusals.{underflow, overflow}
+use Rattle.model.specs.Refusals.{underflow, overflow, undeclared, tooManyNames}
 use Rattle.format.specs.Reader.{got, stopped, Reader}
-use Rattle.format.specs.ReaderLaws.{split}
+use Rattle.format.specs.ReaderLaws.{split, needed, gave}
 use Rattle.machine.specs.SheetLimits.{maxSteps, maxStack}
-use Rattle.machine.specs.Steps.{Step, Opcode, takes, heightPast}
-use Rattle.machine.specs.Run.{Ruling, gives, refuses, Stack, State, afterStep, stepsLeft, step, work}
-use Rattle.machine.specs.Sheet.{placed, opcodeFrom, argumentFrom, stepFrom, workFrom, toEnd, sheetMore, sheetFrom}
+use Rattle.machine.specs.Steps.{Opcode, takes, heightPast}
+use Rattle.machine.specs.Run.{Ruling, gives, refuses, Stack, steps}
+use Rattle.machine.specs.Written.{WrittenStep}
+use Rattle.machine.specs.Names.{Names, isKnown, hasRoom, unfoldedStep}
+use Rattle.machine.specs.Sheet.{State, afterStep, stepsLeft, work, placed, opcodeFrom, argumentFrom, stepFrom, writtenFrom, workFrom, toEnd, sheetMore, skimMore, sheetFrom}
 use Rattle.machine.specs.RunLaws.{following-gives}
 
 -- ---- a rule's answer
@@ -34,11 +37,11 @@ module _ (s : List ℕ) where
   pub work-taken : (st st₁ : State Stack) (p at n : ℕ) → workFrom s st p at ≡ got st₁ n → st₁ .taken ≡ suc (st .taken)
   unfolding workFrom
   work-taken st st₁ p at n e =
-      split (stepFrom s (length (st .stack)) p at) e λ x m e₁ e₂.
-      placed-got (work x st) p m e₂ λ e₃ _.
-      following-gives (step x (st .stack)) e₃ λ a _ e₄.
-      let w : afterStep st a ≡ st₁ = cc in
-      rw (← w)
+      split (writtenFrom s (length (st .stack)) (st .names) p at) e λ w m e₁ e₂.
+      placed-got (work w st) p m e₂ λ e₃ _.
+      following-gives (steps (unfoldedStep (st .names) w) (st .stack)) e₃ λ a _ e₄.
+      let v : afterStep st w a ≡ st₁ = cc in
+      rw (← v)
 
   more-end : (n : ℕ) (st : State Stack) (at : ℕ) → length s ≤ at → sheetMore s n st at ≡ got st at
   unfolding sheetMore
@@ -95,13 +98,53 @@ module _ (s : List ℕ) where
       unfolding stepFrom
       step-argument l r = rw (marked, le-leb (takes c) h l, le-leb (heightPast c h) maxStack r)
 
+  -- with the names in force
+  module _ (h : ℕ) (names : Names) (p at : ℕ) where
+    pub written-unread : (k q : ℕ) → stepFrom s h p at ≡ stopped k q → writtenFrom s h names p at ≡ stopped k q
+    unfolding writtenFrom
+    written-unread k q e = rw e
+
+    module _ (w : WrittenStep) (end : ℕ) (e : stepFrom s h p at ≡ got w end) where
+      pub written-unknown : isKnown w names ≡ false → writtenFrom s h names p at ≡ stopped undeclared p
+      unfolding writtenFrom
+      written-unknown u = rw (e, u)
+
+      pub written-crowded : isKnown w names ≡ true → hasRoom w names ≡ false → writtenFrom s h names p at ≡ stopped tooManyNames p
+      unfolding writtenFrom
+      written-crowded u l = rw (e, u, l)
+
+      pub written-read : isKnown w names ≡ true → hasRoom w names ≡ true → writtenFrom s h names p at ≡ got w end
+      unfolding writtenFrom
+      written-read u l = rw (e, u, l)
+
+    -- what was read is known, and not one too many
+    pub written-got : {C : Type 0} {w : WrittenStep} {n : ℕ} → writtenFrom s h names p at ≡ got w n
+        → (stepFrom s h p at ≡ got w n → isKnown w names ≡ true → hasRoom w names ≡ true → C) → C
+    unfolding writtenFrom
+    written-got {w = w} {n = n} e k =
+        split (stepFrom s h p at) e λ v m e₁ e₂.
+        needed (isKnown v names) undeclared p m _ e₂ λ a e₃.
+        needed (hasRoom v names) tooManyNames p m _ e₃ λ b e₄.
+        gave e₄ λ x y.
+        k (rw (← x, ← y) e₁) (rw (← x) a) (rw (← x) b)
+
+  -- Read with the rules passed over, a sheet still meets 15 and 16.
+  module _ (most : ℕ) (st : State ℕ) (at : ℕ) (w : WrittenStep) (end : ℕ) (more : at < length s) (e : stepFrom s (st .stack) at at ≡ got w end) where
+    pub skim-unknown : isKnown w (st .names) ≡ false → skimMore s (suc most) st at ≡ stopped undeclared at
+    unfolding skimMore
+    skim-unknown u = rw (lt-ltb at (length s) more, written-unknown (st .stack) (st .names) at at w end e u)
+
+    pub skim-crowded : isKnown w (st .names) ≡ true → hasRoom w (st .names) ≡ false → skimMore s (suc most) st at ≡ stopped tooManyNames at
+    unfolding skimMore
+    skim-crowded u l = rw (lt-ltb at (length s) more, written-crowded (st .stack) (st .names) at at w end e u l)
+
   -- as it is worked from a state
   module _ (st : State Stack) (p at : ℕ) where
-    pub work-unread : (k q : ℕ) → stepFrom s (length (st .stack)) p at ≡ stopped k q → workFrom s st p at ≡ stopped k q
+    pub work-unread : (k q : ℕ) → writtenFrom s (length (st .stack)) (st .names) p at ≡ stopped k q → workFrom s st p at ≡ stopped k q
     unfolding workFrom
     work-unread k q e = rw e
 
-    module _ (x : Step) (end : ℕ) (e : stepFrom s (length (st .stack)) p at ≡ got x end) where
-      pub work-rule : workFrom s st p at ≡ placed (work x st) p end
+    module _ (w : WrittenStep) (end : ℕ) (e : writtenFrom s (length (st .stack)) (st .names) p at ≡ got w end) where
+      pub work-rule : workFrom s st p at ≡ placed (work w st) p end
       unfolding workFrom
       work-rule = rw e

@@ -1,15 +1,13 @@
--- The steps of a sheet and their bytes (document 01, "The sheet, added"): two mark bytes, then a type, a flag byte or nothing.
-use Prim.Native.Nat.{ℕ, _+_, _-_, _/_, _%_, _≤_}
+-- The steps that are worked (document 01, "The sheet, added"), five kinds of them, and what is said of a step by its mark alone. What is
+-- written has two kinds more (document 02, 2026-06); it stands in Written, and Names says which steps it comes to.
+use Prim.Native.Nat.{ℕ, _+_, _-_, _/_, _%_}
 use mathlib.Core.Bool.{Bool, true, _&&_, cond}
-use mathlib.Core.List.{List, [], _∷_, _++_}
+use mathlib.Core.List.{List, [], _∷_}
 use mathlib.Core.Option.{Option, none, some}
-use mathlib.Core.Path.{_≡_}
-use lib.ListN.{length}
 use lib.Dec.{eqb}
 use Rattle.model.specs.Types.{Ty}
-use Rattle.model.specs.Within.{All, Within}
-use Rattle.format.specs.Records.{Mark, mark, markBytes, writeTy}
-use Rattle.machine.specs.SheetLimits.{maxSteps}
+use Rattle.model.specs.Within.{Within}
+use Rattle.format.specs.Records.{Mark, mark, writeTy}
 
 pub data Step : Type 0 where
   put : Ty → Step
@@ -21,9 +19,9 @@ pub data Step : Type 0 where
 
 -- ---- marks
 
--- Which step it is, without what follows its mark.
+-- Which step it is, without what follows its mark: one that is worked, or one of the two about names.
 pub data Opcode : Type 0 where
-  aPut aRow aPervading aJoin aValidating : Opcode
+  aPut aRow aPervading aJoin aValidating aDeclaration aUse : Opcode
 
 abbrev pub opcodeOf : Step → Opcode
 opcodeOf (put t) = aPut
@@ -38,10 +36,12 @@ markOf aRow = mark 0x52 0x57
 markOf aPervading = mark 0x50 0x56
 markOf aJoin = mark 0x4A 0x4E
 markOf aValidating = mark 0x56 0x41
+markOf aDeclaration = mark 0x4E 0x4D
+markOf aUse = mark 0x55 0x53
 
--- The marks of these five are all the marks of steps.
+-- The marks of these seven are all the marks of steps.
 abbrev pub opcodes : List Opcode
-opcodes = aPut ∷ aRow ∷ aPervading ∷ aJoin ∷ aValidating ∷ []
+opcodes = aPut ∷ aRow ∷ aPervading ∷ aJoin ∷ aValidating ∷ aDeclaration ∷ aUse ∷ []
 
 -- ---- which step it is
 
@@ -62,13 +62,16 @@ putBy (validating spec) = none
 
 -- ---- heights
 
--- How many types a step takes off the stack, and how many it lays down.
+-- How many types a step takes off the stack, and how many it lays down. A use lays one down, as a put; "a declaration [...] leaves the
+-- stack as it is" (document 02, 2026-06).
 abbrev pub takes : Opcode → ℕ
 takes aPut = 0
 takes aRow = 1
 takes aPervading = 2
 takes aJoin = 2
 takes aValidating = 1
+takes aDeclaration = 0
+takes aUse = 0
 
 abbrev pub lays : Opcode → ℕ
 lays aPut = 1
@@ -76,6 +79,8 @@ lays aRow = 1
 lays aPervading = 1
 lays aJoin = 1
 lays aValidating = 1
+lays aDeclaration = 0
+lays aUse = 1
 
 -- The height that a step leaves of height h.
 abbrev pub heightPast : Opcode → ℕ → ℕ
@@ -122,14 +127,7 @@ writeArgument noArgument = []
 writeArgument (aType t) = writeTy t
 writeArgument (flags f g) = flagByte f g ∷ []
 
-abbrev pub writeStep : Step → List ℕ
-writeStep x = markBytes (markOf (opcodeOf x)) ++ writeArgument (argumentOf x)
-
-unfoldable pub writeSteps : List Step → List ℕ
-writeSteps [] = []
-writeSteps (x ∷ xs) = writeStep x ++ writeSteps xs
-
--- ---- which bytes are those of steps
+-- ---- limits
 
 -- A type that follows the mark keeps every limit.
 abbrev pub ArgumentWithin : Argument → Type 0
@@ -139,9 +137,3 @@ ArgumentWithin (flags f g) = Unit {0}
 
 abbrev pub StepWithin : Step → Type 0
 StepWithin x = ArgumentWithin (argumentOf x)
-
--- These are the bytes of a list of steps within the limits.
-pub record SheetOf (s : List ℕ) (xs : List Step) : Type 0 where
-  pub bytes : s ≡ writeSteps xs
-  pub within : All StepWithin xs
-  pub few : length xs ≤ maxSteps

@@ -1,5 +1,5 @@
--- The bytes of a list of steps, read as a sheet: they get what the steps get, the place aside; and where no step lacks types or
--- lays down one too many, the reading gives the steps back.
+-- The bytes of a written list, read as a sheet: they get what the steps that it comes to get, the place aside; and where no step lacks types
+-- or lays down one too many, the reading gives the list back.
 use Prim.Native.Nat.{ℕ, zero, suc, _+_, _≤_, _<_}
 use native.Mathlib.Omega.{arith}
 use mathlib.Core.Bool.{Bool, true, false}
@@ -8,22 +8,27 @@ use mathlib.Core.Path.{_≡_, refl, sym, _∙_, ap}
 use lib.ListN.{length, drop, length-drop, length-append}
 use lib.Dec.{leb}
 use borrow.Author.Tests.{le-leb, leb-true, leb-false}
+use Rattle.model.specs.Limits.{maxName}
 use Rattle.model.specs.Refusals.{underflow, overflow}
 use Rattle.model.specs.Within.{All}
-use Rattle.format.specs.Reader.{got, stop, here, Reads}
+use Rattle.format.specs.Reader.{got, stopped, stop, here, Reads}
 use Rattle.format.specs.ReaderLaws.{drop-past, reads-give, reads-bind, reads-byte, reads-need, reads-judged, reads-last}
 use Rattle.format.specs.Records.{markBytes, isCount}
-use Rattle.format.specs.WriteRead.{write-read}
+use Rattle.format.specs.WriteRead.{reads-name, write-read}
 use Rattle.machine.specs.SheetLimits.{maxStack}
-use Rattle.machine.specs.Steps.{Step, put, row, pervading, join, validating, Opcode, aPut, aRow, aPervading, aJoin, aValidating, opcodeOf, markOf, takes, heightPast}
-use Rattle.machine.specs.Steps.{flagByte, maxFlag, fillsTop, fillsBelow, argumentOf, writeArgument, writeStep, writeSteps, StepWithin}
-use Rattle.machine.specs.Run.{gives, refuses, Stack, ruleOf, State, afterStep, step, work, steps}
-use Rattle.machine.specs.Sheet.{placed, opcodeFrom, argumentFrom, stepFrom, workFrom, sheetMore, skimMore}
+use Rattle.machine.specs.Steps.{Step, put, row, pervading, join, validating, Opcode, aPut, aRow, aPervading, aJoin, aValidating, aDeclaration, aUse, opcodeOf, markOf, takes}
+use Rattle.machine.specs.Steps.{heightPast, flagByte, maxFlag, fillsTop, fillsBelow}
+use Rattle.machine.specs.Run.{gives, refuses, Stack, ruleOf, step, steps}
+use Rattle.machine.specs.Written.{TableName, WrittenStep, working, declaring, usingName, writtenAs, writeName, writeRest, writeStep, writeSteps, isNameLength, TableNameWithin, WrittenWithin}
+use Rattle.machine.specs.Names.{Names, typeInForce, namesPast, isKnown, hasRoom, NamesHold, unfoldedStep, unfolded}
+use Rattle.machine.specs.Sheet.{State, afterStep, work, placed, opcodeFrom, nameFrom, argumentFrom, stepFrom, workFrom, sheetMore, skimMore}
 use Rattle.machine.specs.WellFormed.{Heights}
 use Rattle.machine.specs.RuleOn.{rule-takes, lays-one, ruleOn-lacks, ruleOn-full}
+use Rattle.machine.specs.RunLaws.{steps-append, following-gives}
 use Rattle.machine.specs.Opcodes.{mark-two, takes-few, lays-few}
+use Rattle.machine.specs.NamesLaws.{known-use, heights-back}
 use Rattle.machine.specs.SheetWorked.{SameAnswer, same-after, step-height, workAndMore}
-use Rattle.machine.specs.SheetSteps.{toEnd-end, toEnd-more, work-rule}
+use Rattle.machine.specs.SheetSteps.{toEnd-end, toEnd-more, step-lacks, step-overfull, written-unread, written-read, work-unread, work-rule}
 use Rattle.machine.specs.StepsTook.{stepAndMore}
 
 -- ---- one step
@@ -34,7 +39,7 @@ flag-few true false = refl
 flag-few false true = refl
 flag-few true true = refl
 
-flag-fills : (f g : Bool) → pervading (fillsTop (flagByte f g)) (fillsBelow (flagByte f g)) ≡ pervading f g
+flag-fills : (f g : Bool) → working (pervading (fillsTop (flagByte f g)) (fillsBelow (flagByte f g))) ≡ working (pervading f g)
 flag-fills false false = refl
 flag-fills true false = refl
 flag-fills false true = refl
@@ -48,22 +53,30 @@ module _ (s : List ℕ) where
   reads-opcode aPervading p = reads-byte p _ (reads-byte p _ reads-give)
   reads-opcode aJoin p = reads-byte p _ (reads-byte p _ reads-give)
   reads-opcode aValidating p = reads-byte p _ (reads-byte p _ reads-give)
+  reads-opcode aDeclaration p = reads-byte p _ (reads-byte p _ reads-give)
+  reads-opcode aUse p = reads-byte p _ (reads-byte p _ reads-give)
 
-  reads-argument : (x : Step) (p : ℕ) → StepWithin x → Reads s (argumentFrom s (opcodeOf x) p) (writeArgument (argumentOf x)) x
+  pub reads-named : (n : TableName) (p : ℕ) → TableNameWithin n → Reads s (nameFrom s p) (writeName n) n
+  unfolding nameFrom
+  reads-named n p h = reads-judged isNameLength p _ (rw (le-leb 1 (length n) (h .0), le-leb (length n) maxName (h .1 .0))) (reads-name s p n (h .1 .1))
+
+  reads-argument : (w : WrittenStep) (p : ℕ) → WrittenWithin w → Reads s (argumentFrom s (writtenAs w) p) (writeRest w) w
   unfolding argumentFrom
-  reads-argument (put t) p h = reads-last _ (write-read s t h) refl
-  reads-argument row p h = reads-give
-  reads-argument (pervading f g) p h = reads-judged (isCount maxFlag) p _ (flag-few f g) (rw (flag-fills f g) reads-give)
-  reads-argument join p h = reads-give
-  reads-argument (validating spec) p h = reads-last _ (write-read s spec h) refl
+  reads-argument (working (put t)) p h = reads-last _ (write-read s t h) refl
+  reads-argument (working row) p h = reads-give
+  reads-argument (working (pervading f g)) p h = reads-judged (isCount maxFlag) p _ (flag-few f g) (rw (flag-fills f g) reads-give)
+  reads-argument (working join) p h = reads-give
+  reads-argument (working (validating spec)) p h = reads-last _ (write-read s spec h) refl
+  reads-argument (declaring n t) p h = reads-bind _ (reads-named n p (h .0)) (reads-last _ (write-read s t (h .1)) refl)
+  reads-argument (usingName n) p h = reads-last _ (reads-named n p h) refl
 
-  reads-step : (x : Step) (h p : ℕ) → StepWithin x → takes (opcodeOf x) ≤ h → heightPast (opcodeOf x) h ≤ maxStack → Reads s (stepFrom s h p) (writeStep x) x
+  reads-step : (w : WrittenStep) (h p : ℕ) → WrittenWithin w → takes (writtenAs w) ≤ h → heightPast (writtenAs w) h ≤ maxStack → Reads s (stepFrom s h p) (writeStep w) w
   unfolding stepFrom
-  reads-step x h p w l r =
-      reads-bind _ (reads-opcode (opcodeOf x) p)
-      (reads-need (leb (takes (opcodeOf x)) h) underflow p (le-leb (takes (opcodeOf x)) h l)
-      (reads-need (leb (heightPast (opcodeOf x) h) maxStack) overflow p (le-leb (heightPast (opcodeOf x) h) maxStack r)
-      (reads-argument x p w)))
+  reads-step w h p v l r =
+      reads-bind _ (reads-opcode (writtenAs w) p)
+      (reads-need (leb (takes (writtenAs w)) h) underflow p (le-leb (takes (writtenAs w)) h l)
+      (reads-need (leb (heightPast (writtenAs w) h) maxStack) overflow p (le-leb (heightPast (writtenAs w) h) maxStack r)
+      (reads-argument w p v)))
 
 -- ---- the stack
 
@@ -74,7 +87,7 @@ lacks x st h = ruleOn-lacks (ruleOf x) st (omega (arith, rule-takes x))
 
 overfull : (x : Step) (st : Stack) → length st ≤ maxStack → takes (opcodeOf x) ≤ length st → maxStack < heightPast (opcodeOf x) (length st) → step x st ≡ refuses overflow
 unfolding step
-overfull x st h k l = ruleOn-full (ruleOf x) st h (omega (arith, rule-takes x)) (omega (arith, rule-takes x, lays-one (opcodeOf x)))
+overfull x st h k l = ruleOn-full (ruleOf x) st h (omega (arith, rule-takes x)) (omega (arith, rule-takes x, lays-one x))
 
 -- what an accepted step leaves is not too high
 pub step-room : (x : Step) (st st₁ : Stack) → length st ≤ maxStack → step x st ≡ gives st₁ → length st₁ ≤ maxStack
@@ -85,67 +98,106 @@ step-room x st st₁ h e = go (leb (takes (opcodeOf x)) (length st)) (leb (heigh
     go true false a b = let k = overfull x st h (leb-true (takes (opcodeOf x)) (length st) a) (leb-false (heightPast (opcodeOf x) (length st)) maxStack b) in let z : _≡_ {A = ℕ} 0 1 = cc in absurd (omega arith)
     go true true a b = rw (step-height x st st₁ e) (leb-true (heightPast (opcodeOf x) (length st)) maxStack b)
 
+pub steps-room : (xs : List Step) (st st₁ : Stack) → length st ≤ maxStack → steps xs st ≡ gives st₁ → length st₁ ≤ maxStack
+unfolding steps
+steps-room [] st st₁ h e = let w : st ≡ st₁ = cc in rw (← w) h
+steps-room (x ∷ xs) st st₁ h e = following-gives (step x st) e λ st₂ e₁ e₂. steps-room xs st₂ st₁ (step-room x st st₂ h e₁) e₂
+
+-- The same of a written step, by what it comes to.
+unfolded-lacks : (ns : Names) (w : WrittenStep) (st : Stack) → length st < takes (writtenAs w) → steps (unfoldedStep ns w) st ≡ refuses underflow
+unfolding steps
+unfolded-lacks ns (working x) st h = rw (lacks x st h)
+unfolded-lacks ns (declaring n t) st h = absurd (omega arith)
+unfolded-lacks ns (usingName n) st h = absurd (omega arith)
+
+unfolded-overfull : (ns : Names) (w : WrittenStep) (st : Stack) → isKnown w ns ≡ true → length st ≤ maxStack → takes (writtenAs w) ≤ length st → maxStack < heightPast (writtenAs w) (length st)
+    → steps (unfoldedStep ns w) st ≡ refuses overflow
+unfolding steps
+unfolded-overfull ns (working x) st known h k l = rw (overfull x st h k l)
+unfolded-overfull ns (declaring n t) st known h k l = absurd (omega arith)
+unfolded-overfull ns (usingName n) st known h k l = known-use (typeInForce ns n) known λ t e. rw (e, overfull (put t) st h k l)
+
 -- ---- all steps
 
 module _ (s : List ℕ) where
   -- a step has bytes
-  longer : (x : Step) (at : ℕ) (rest : List ℕ) → drop at s ≡ writeStep x ++ rest → at < length s
-  longer x at rest e = omega (arith, length-drop at s, ap length e, length-append (writeStep x) rest, length-append (markBytes (markOf (opcodeOf x))) (writeArgument (argumentOf x)), mark-two (opcodeOf x))
+  longer : (w : WrittenStep) (at : ℕ) (rest : List ℕ) → drop at s ≡ writeStep w ++ rest → at < length s
+  longer w at rest e = omega (arith, length-drop at s, ap length e, length-append (writeStep w) rest, length-append (markBytes (markOf (writtenAs w))) (writeRest w), mark-two (writtenAs w))
 
-  worked : (st : State Stack) (x : Step) (p at : ℕ) (rest : List ℕ) → length (st .stack) ≤ maxStack → StepWithin x → drop at s ≡ writeStep x ++ rest
-      → workFrom s st p at ≡ placed (work x st) p (at + length (writeStep x))
-  unfolding workFrom stepFrom
-  worked st x p at rest h w e = go (leb c h₀) (leb (heightPast (opcodeOf x) h₀) maxStack) refl refl
+  worked : (st : State Stack) (w : WrittenStep) (p at : ℕ) (rest : List ℕ) → length (st .stack) ≤ maxStack → WrittenWithin w → isKnown w (st .names) ≡ true
+      → hasRoom w (st .names) ≡ true → drop at s ≡ writeStep w ++ rest → workFrom s st p at ≡ placed (work w st) p (at + length (writeStep w))
+  worked st w p at rest h v known crowd e = go (leb c h₀) (leb (heightPast (writtenAs w) h₀) maxStack) refl refl
     where
-      -- what it takes, and the height
+      -- what it takes, the height, and the place after it
       c : ℕ
-      c = takes (opcodeOf x)
+      c = takes (writtenAs w)
 
       h₀ : ℕ
       h₀ = length (st .stack)
 
-      e₁ : opcodeFrom s p at ≡ got (opcodeOf x) (at + length (markBytes (markOf (opcodeOf x))))
-      e₁ = reads-opcode s (opcodeOf x) p .run at (writeArgument (argumentOf x) ++ rest) (e ∙ append-assoc (markBytes (markOf (opcodeOf x))) (writeArgument (argumentOf x)) rest)
+      end : ℕ
+      end = at + length (writeStep w)
 
-      go : (t u : Bool) → leb c h₀ ≡ t → leb (heightPast (opcodeOf x) h₀) maxStack ≡ u → workFrom s st p at ≡ placed (work x st) p (at + length (writeStep x))
-      go false u a b = rw (e₁, a, lacks x (st .stack) (leb-false c h₀ a))
-      go true false a b = rw (e₁, a, b, overfull x (st .stack) h (leb-true c h₀ a) (leb-false (heightPast (opcodeOf x) h₀) maxStack b))
+      next : ℕ
+      next = at + length (markBytes (markOf (writtenAs w)))
+
+      e₁ : opcodeFrom s p at ≡ got (writtenAs w) next
+      e₁ = reads-opcode s (writtenAs w) p .run at (writeRest w ++ rest) (e ∙ append-assoc (markBytes (markOf (writtenAs w))) (writeRest w) rest)
+
+      unread : (k q : ℕ) → stepFrom s h₀ p at ≡ stopped k q → workFrom s st p at ≡ stopped k q
+      unread k q u = work-unread s st p at k q (written-unread s h₀ (st .names) p at k q u)
+
+      go : (t u : Bool) → leb c h₀ ≡ t → leb (heightPast (writtenAs w) h₀) maxStack ≡ u → workFrom s st p at ≡ placed (work w st) p end
+      go false u a b =
+          let less : h₀ < c = leb-false c h₀ a in
+          unread underflow p (step-lacks s h₀ p at (writtenAs w) next e₁ less) ∙ rw (unfolded-lacks (st .names) w (st .stack) less)
+      go true false a b =
+          let enough : c ≤ h₀ = leb-true c h₀ a in
+          let full : maxStack < heightPast (writtenAs w) h₀ = leb-false (heightPast (writtenAs w) h₀) maxStack b in
+          unread overflow p (step-overfull s h₀ p at (writtenAs w) next e₁ enough full) ∙ rw (unfolded-overfull (st .names) w (st .stack) known h enough full)
       go true true a b =
-          let r = reads-step s x h₀ p w (leb-true c h₀ a) (leb-true (heightPast (opcodeOf x) h₀) maxStack b) .run at rest e in
-          work-rule s st p at x (at + length (writeStep x)) r
+          let r = reads-step s w h₀ p v (leb-true c h₀ a) (leb-true (heightPast (writtenAs w) h₀) maxStack b) .run at rest e in
+          work-rule s st p at w end (written-read s h₀ (st .names) p at w end r known crowd)
 
-  -- The bytes of a list of steps get what the steps get.
-  pub written-worked : (xs : List Step) (st : State Stack) (most at : ℕ) → length xs ≤ most → length (st .stack) ≤ maxStack → All StepWithin xs → drop at s ≡ writeSteps xs
-      → SameAnswer (steps xs (st .stack)) (sheetMore s most st at)
-  unfolding writeSteps steps sheetMore
-  written-worked [] st zero at l h w e = (st, at, toEnd-end s st (here (stop overflow)) at (omega (arith, length-drop at s, ap length e)), refl)
-  written-worked [] st (suc most) at l h w e = (st, at, toEnd-end s st (workAndMore s most st) at (omega (arith, length-drop at s, ap length e)), refl)
-  written-worked (x ∷ xs) st zero at l h w e = absurd (omega arith)
-  written-worked (x ∷ xs) st (suc most) at l h w e =
-      rw (toEnd-more s st (workAndMore s most st) at (longer x at (writeSteps xs) e), worked st x at at (writeSteps xs) h (w .0) e)
-      (same-after s most xs st (step x (st .stack)) at (at + length (writeStep x)) λ a k.
-      written-worked xs (afterStep st a) most (at + length (writeStep x)) (omega arith) (step-room x (st .stack) a h k) (w .1) (drop-past s at (writeStep x) (writeSteps xs) e))
+  -- The bytes of a written list get what the steps that it comes to get.
+  pub written-worked : (ws : List WrittenStep) (st : State Stack) (most at : ℕ) → length ws ≤ most → length (st .stack) ≤ maxStack → All WrittenWithin ws → NamesHold (st .names) ws
+      → drop at s ≡ writeSteps ws → SameAnswer (steps (unfolded (st .names) ws) (st .stack)) (sheetMore s most st at)
+  unfolding writeSteps unfolded steps sheetMore
+  written-worked [] st zero at l h v o e = (st, at, toEnd-end s st (here (stop overflow)) at (omega (arith, length-drop at s, ap length e)), refl)
+  written-worked [] st (suc most) at l h v o e = (st, at, toEnd-end s st (workAndMore s most st) at (omega (arith, length-drop at s, ap length e)), refl)
+  written-worked (w ∷ ws) st zero at l h v o e = absurd (omega arith)
+  written-worked (w ∷ ws) st (suc most) at l h v o e =
+      let xs = unfoldedStep (st .names) w in
+      let end = at + length (writeStep w) in
+      rw (toEnd-more s st (workAndMore s most st) at (longer w at (writeSteps ws) e), worked st w at at (writeSteps ws) h (v .0) (o .0) (o .1) e, steps-append xs (unfolded (namesPast w (st .names)) ws) (st .stack))
+      (same-after s most (unfolded (namesPast w (st .names)) ws) st w (steps xs (st .stack)) at end λ a k.
+      written-worked ws (afterStep st w a) most end (omega arith) (steps-room xs (st .stack) a h k) (v .1) (o .2) (drop-past s at (writeStep w) (writeSteps ws) e))
 
-  -- Read to the end, they are given back.
-  pub written-skims : (xs : List Step) (st : State ℕ) (most at : ℕ) → length xs ≤ most → Heights xs (st .stack) → All StepWithin xs → drop at s ≡ writeSteps xs
-      → (n : ℕ) × (skimMore s most st at ≡ got xs n)
-  unfolding writeSteps skimMore
-  written-skims [] st zero at l k w e = (at, toEnd-end s [] (here (stop overflow)) at (omega (arith, length-drop at s, ap length e)))
-  written-skims [] st (suc most) at l k w e = (at, toEnd-end s [] (stepAndMore s most st) at (omega (arith, length-drop at s, ap length e)))
-  written-skims (x ∷ xs) st zero at l k w e = absurd (omega arith)
-  written-skims (x ∷ xs) st (suc most) at l k w e =
-      let (n, r) = written-skims xs (afterStep st (heightPast (opcodeOf x) (st .stack))) most (at + length (writeStep x)) (omega arith) (k .2) (w .1) (drop-past s at (writeStep x) (writeSteps xs) e) in
-      (n, toEnd-more s [] (stepAndMore s most st) at (longer x at (writeSteps xs) e) ∙ rw (reads-step s x (st .stack) at (w .0) (k .0) (k .1) .run at (writeSteps xs) e, r))
+  -- Read to the end, it is given back.
+  pub written-skims : (ws : List WrittenStep) (st : State ℕ) (most at : ℕ) → length ws ≤ most → st .stack ≤ maxStack → Heights (unfolded (st .names) ws) (st .stack) → All WrittenWithin ws
+      → NamesHold (st .names) ws → drop at s ≡ writeSteps ws → (n : ℕ) × (skimMore s most st at ≡ got ws n)
+  unfolding writeSteps unfolded skimMore
+  written-skims [] st zero at l h k v o e = (at, toEnd-end s [] (here (stop overflow)) at (omega (arith, length-drop at s, ap length e)))
+  written-skims [] st (suc most) at l h k v o e = (at, toEnd-end s [] (stepAndMore s most st) at (omega (arith, length-drop at s, ap length e)))
+  written-skims (w ∷ ws) st zero at l h k v o e = absurd (omega arith)
+  written-skims (w ∷ ws) st (suc most) at l h k v o e =
+      let (enough, room, rest) = heights-back (st .names) w (st .stack) (unfolded (namesPast w (st .names)) ws) (o .0) h k in
+      let end = at + length (writeStep w) in
+      let read = written-read s (st .stack) (st .names) at at w end (reads-step s w (st .stack) at (v .0) enough room .run at (writeSteps ws) e) (o .0) (o .1) in
+      let after = afterStep st w (heightPast (writtenAs w) (st .stack)) in
+      let (n, r) = written-skims ws after most end (omega arith) room rest (v .1) (o .2) (drop-past s at (writeStep w) (writeSteps ws) e) in
+      (n, toEnd-more s [] (stepAndMore s most st) at (longer w at (writeSteps ws) e) ∙ rw (read, r))
 
--- ---- steps are told by their bytes
+-- ---- written steps are told by their bytes
 
-pub writeSteps-same : (xs ys : List Step) → All StepWithin xs → All StepWithin ys → writeSteps xs ≡ writeSteps ys → xs ≡ ys
+pub writeSteps-same : (ws vs : List WrittenStep) → All WrittenWithin ws → All WrittenWithin vs → writeSteps ws ≡ writeSteps vs → ws ≡ vs
 unfolding writeSteps
-writeSteps-same [] [] v w e = refl
-writeSteps-same [] (y ∷ ys) v w e = absurd (omega (arith, longer [] y 0 (writeSteps ys) e))
-writeSteps-same (x ∷ xs) [] v w e = absurd (omega (arith, longer [] x 0 (writeSteps xs) (sym e)))
-writeSteps-same (x ∷ xs) (y ∷ ys) v w e =
-    let a = reads-step (writeStep x ++ writeSteps xs) x 2 0 (v .0) (takes-few (opcodeOf x)) (omega (arith, takes-few (opcodeOf x), lays-few (opcodeOf x))) .run 0 (writeSteps xs) refl in
-    let b = reads-step (writeStep x ++ writeSteps xs) y 2 0 (w .0) (takes-few (opcodeOf y)) (omega (arith, takes-few (opcodeOf y), lays-few (opcodeOf y))) .run 0 (writeSteps ys) e in
-    let z : x ≡ y = cc in
-    rw (z, writeSteps-same xs ys (v .1) (w .1) (append-cancel-left (writeStep y) (writeSteps xs) (writeSteps ys) (rw z at e)))
+writeSteps-same [] [] g h e = refl
+writeSteps-same [] (v ∷ vs) g h e = absurd (omega (arith, longer [] v 0 (writeSteps vs) e))
+writeSteps-same (w ∷ ws) [] g h e = absurd (omega (arith, longer [] w 0 (writeSteps ws) (sym e)))
+writeSteps-same (w ∷ ws) (v ∷ vs) g h e =
+    let s = writeStep w ++ writeSteps ws in
+    let a = reads-step s w 2 0 (g .0) (takes-few (writtenAs w)) (omega (arith, takes-few (writtenAs w), lays-few (writtenAs w))) .run 0 (writeSteps ws) refl in
+    let b = reads-step s v 2 0 (h .0) (takes-few (writtenAs v)) (omega (arith, takes-few (writtenAs v), lays-few (writtenAs v))) .run 0 (writeSteps vs) e in
+    let z : w ≡ v = cc in
+    rw (z, writeSteps-same ws vs (g .1) (h .1) (append-cancel-left (writeStep v) (writeSteps ws) (writeSteps vs) (rw z at e)))

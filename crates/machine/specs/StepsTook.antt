@@ -1,4 +1,5 @@
--- What an accepted reading of steps took: the bytes of the steps that it gives, which keep every limit and every height.
+-- What an accepted reading of steps took: the bytes of the written steps that it gives, which keep every limit and every height and are
+-- in order.
 use Prim.Native.Nat.{ℕ, zero, suc, _≤_, _<_}
 use native.Mathlib.Omega.{arith}
 use mathlib.Core.Bool.{Bool, true, false, _&&_, cond}
@@ -9,18 +10,22 @@ use lib.ListN.{length, drop-of-length-le}
 use lib.Dec.{eqb, leb, ltb}
 use borrow.Author.Tests.{eqb-true, leb-true, ltb-true, ltb-false}
 use Rattle.model.specs.Refusals.{unmarked, underflow, overflow}
+use Rattle.model.specs.Limits.{maxName}
 use Rattle.model.specs.Within.{All}
 use Rattle.format.specs.Reader.{Bytes, Read, got, stopped, Reader, _>>=_, give, stop, here, byte, judged, Took}
 use Rattle.format.specs.ReaderLaws.{took-none, took-join, split, needed, gave, took-byte, took-judged}
 use Rattle.format.specs.Records.{Mark, mark, markBytes, isCount, orStop, readType}
-use Rattle.format.specs.ReadWrite.{read-write}
+use Rattle.format.specs.ReadWrite.{took-name, read-write}
 use Rattle.format.specs.Outcome.{accepted}
+use Rattle.validation.specs.OutcomeLaws.{both-true}
 use Rattle.machine.specs.SheetLimits.{maxSteps, maxStack}
-use Rattle.machine.specs.Steps.{Step, Opcode, aPut, aRow, aPervading, aJoin, aValidating, opcodeOf, markOf, opcodes, takes, heightPast, flagByte, maxFlag, fillsTop}
-use Rattle.machine.specs.Steps.{fillsBelow, argumentOf, writeArgument, writeStep, writeSteps, StepWithin, SheetOf}
-use Rattle.machine.specs.Run.{State, fresh, afterStep}
-use Rattle.machine.specs.Sheet.{isMark, opcodeIn, opcodeFrom, argumentFrom, stepFrom, toEnd, skimMore, skimFrom, outcomeOf, skim}
-use Rattle.machine.specs.WellFormed.{Heights}
+use Rattle.machine.specs.Steps.{Step, Opcode, aPut, aRow, aPervading, aJoin, aValidating, aDeclaration, aUse, markOf, opcodes, takes, heightPast, flagByte, maxFlag, fillsTop, fillsBelow}
+use Rattle.machine.specs.Written.{TableName, WrittenStep, writtenAs, writeName, writeRest, writeStep, writeSteps, isNameLength, TableNameWithin, WrittenWithin}
+use Rattle.machine.specs.Names.{namesPast, NamesHold, unfolded, SheetOf}
+use Rattle.machine.specs.Sheet.{State, fresh, afterStep, isMark, opcodeIn, opcodeFrom, nameFrom, argumentFrom, stepFrom, writtenFrom, toEnd, skimMore, skimFrom, outcomeOf, skim}
+use Rattle.machine.specs.WellFormed.{WellFormed, Heights}
+use Rattle.machine.specs.SheetSteps.{written-got}
+use Rattle.machine.specs.NamesLaws.{heights-of}
 
 -- ---- marks and flags
 
@@ -54,11 +59,11 @@ orStop-got (some b) k p at e f = f (cc) (cc)
 -- ---- one step
 
 -- What is known of a step that was read on a stack of height h, from place `at` up to place n.
-pub record Took-step (s : List ℕ) (h at : ℕ) (x : Step) (n : ℕ) : Type 0 where
-  pub bytes : Took s at (writeStep x) n
-  pub within : StepWithin x
-  pub enough : takes (opcodeOf x) ≤ h
-  pub room : heightPast (opcodeOf x) h ≤ maxStack
+pub record Took-step (s : List ℕ) (h at : ℕ) (w : WrittenStep) (n : ℕ) : Type 0 where
+  pub bytes : Took s at (writeStep w) n
+  pub within : WrittenWithin w
+  pub enough : takes (writtenAs w) ≤ h
+  pub room : heightPast (writtenAs w) h ≤ maxStack
 
 module _ (s : List ℕ) (small : Bytes s) where
   took-opcode : (p at : ℕ) (c : Opcode) (n : ℕ) → opcodeFrom s p at ≡ got c n → Took s at (markBytes (markOf c)) n
@@ -69,34 +74,55 @@ module _ (s : List ℕ) (small : Bytes s) where
       orStop-got (opcodeIn opcodes x y) unmarked p m₂ e₄ λ h w.
       rw (← opcode-back opcodes x y c h, ← w) (took-join (took-byte s small p at x m₁ e₁ .0) (took-byte s small p m₁ y m₂ e₃ .0))
 
-  took-argument : (c : Opcode) (p at : ℕ) (x : Step) (n : ℕ) → argumentFrom s c p at ≡ got x n → (opcodeOf x ≡ c) × Took s at (writeArgument (argumentOf x)) n × StepWithin x
-  unfolding argumentFrom
-  took-argument aPut p at x n e =
-      split (readType s at) e λ t m e₁ e₂.
-      gave e₂ λ w y.
-      let (took, within) = read-write s small at t m e₁ in
-      rw (← w, ← y) (refl, took, within)
-  took-argument aRow p at x n e = gave e λ w y. rw (← w, ← y) (refl, took-none, tt)
-  took-argument aPervading p at x n e =
-      split (judged s (isCount maxFlag) p at) e λ b m e₁ e₂.
-      gave e₂ λ w y.
-      let (took, few) = took-judged s small (isCount maxFlag) p at b m e₁ in
-      rw (← w, ← y) (refl, rw (flag-back b (leb-true b maxFlag few)) took, tt)
-  took-argument aJoin p at x n e = gave e λ w y. rw (← w, ← y) (refl, took-none, tt)
-  took-argument aValidating p at x n e =
-      split (readType s at) e λ t m e₁ e₂.
-      gave e₂ λ w y.
-      let (took, within) = read-write s small at t m e₁ in
-      rw (← w, ← y) (refl, took, within)
+  pub took-named : (p at : ℕ) (name : TableName) (n : ℕ) → nameFrom s p at ≡ got name n → Took s at (writeName name) n × TableNameWithin name
+  unfolding nameFrom
+  took-named p at name n e =
+      split (judged s isNameLength p at) e λ k m e₁ e₂.
+      let (took, counted) = took-judged s small isNameLength p at k m e₁ in
+      let (any, few) = both-true (leb 1 k) (isCount maxName k) counted in
+      let (rest, printing, long) = took-name s small k p m name n e₂ in
+      (rw long (took-join took rest), (rw long (leb-true 1 k any), (rw long (leb-true k maxName few), printing)))
 
-  pub took-step : (h p at : ℕ) (x : Step) (n : ℕ) → stepFrom s h p at ≡ got x n → Took-step s h at x n
+  took-argument : (c : Opcode) (p at : ℕ) (w : WrittenStep) (n : ℕ) → argumentFrom s c p at ≡ got w n → (writtenAs w ≡ c) × Took s at (writeRest w) n × WrittenWithin w
+  unfolding argumentFrom
+  took-argument aPut p at w n e =
+      split (readType s at) e λ t m e₁ e₂.
+      gave e₂ λ v y.
+      let (took, within) = read-write s small at t m e₁ in
+      rw (← v, ← y) (refl, took, within)
+  took-argument aRow p at w n e = gave e λ v y. rw (← v, ← y) (refl, took-none, tt)
+  took-argument aPervading p at w n e =
+      split (judged s (isCount maxFlag) p at) e λ b m e₁ e₂.
+      gave e₂ λ v y.
+      let (took, few) = took-judged s small (isCount maxFlag) p at b m e₁ in
+      rw (← v, ← y) (refl, rw (flag-back b (leb-true b maxFlag few)) took, tt)
+  took-argument aJoin p at w n e = gave e λ v y. rw (← v, ← y) (refl, took-none, tt)
+  took-argument aValidating p at w n e =
+      split (readType s at) e λ t m e₁ e₂.
+      gave e₂ λ v y.
+      let (took, within) = read-write s small at t m e₁ in
+      rw (← v, ← y) (refl, took, within)
+  took-argument aDeclaration p at w n e =
+      split (nameFrom s p at) e λ name m e₁ e₂.
+      split (readType s m) e₂ λ t m₂ e₃ e₄.
+      gave e₄ λ v y.
+      let (called, given) = took-named p at name m e₁ in
+      let (took, within) = read-write s small m t m₂ e₃ in
+      rw (← v, ← y) (refl, took-join called took, (given, within))
+  took-argument aUse p at w n e =
+      split (nameFrom s p at) e λ name m e₁ e₂.
+      gave e₂ λ v y.
+      let (called, given) = took-named p at name m e₁ in
+      rw (← v, ← y) (refl, called, given)
+
+  pub took-step : (h p at : ℕ) (w : WrittenStep) (n : ℕ) → stepFrom s h p at ≡ got w n → Took-step s h at w n
   unfolding stepFrom
-  took-step h p at x n e =
+  took-step h p at w n e =
       split (opcodeFrom s p at) e λ c m e₁ e₂.
       needed (leb (takes c) h) underflow p m _ e₂ λ u e₃.
       needed (leb (heightPast c h) maxStack) overflow p m _ e₃ λ v e₄.
-      let (same, took, within) = took-argument c p m x n e₄ in
-      let start : Took s at (markBytes (markOf (opcodeOf x))) m = rw same (took-opcode p at c m e₁) in
+      let (same, took, within) = took-argument c p m w n e₄ in
+      let start : Took s at (markBytes (markOf (writtenAs w))) m = rw same (took-opcode p at c m e₁) in
       record {
         bytes = took-join start took;
         within = within;
@@ -116,53 +142,70 @@ ended-or {A = A} {C = C} s a more at {b} {n} e k l = go (ltb at (length s)) refl
     go false h e = k (ltb-false at (length s) h) (cc) (cc)
 
 -- a step, and at most `most` after it
-abbrev pub stepAndMore : List ℕ → ℕ → State ℕ → Reader (List Step)
+abbrev pub stepAndMore : List ℕ → ℕ → State ℕ → Reader (List WrittenStep)
 stepAndMore s most st = do
-  x ← here (stepFrom s (st .stack))
-  xs ← skimMore s most (afterStep st (heightPast (opcodeOf x) (st .stack)))
-  give (x ∷ xs)
+  w ← here (writtenFrom s (st .stack) (st .names))
+  ws ← skimMore s most (afterStep st w (heightPast (writtenAs w) (st .stack)))
+  give (w ∷ ws)
 
--- What is known of steps that were read from height h on to the end.
-pub record Took-steps (s : List ℕ) (most h at : ℕ) (xs : List Step) (n : ℕ) : Type 0 where
-  pub bytes : Took s at (writeSteps xs) n
-  pub within : All StepWithin xs
-  pub heights : Heights xs h
-  pub few : length xs ≤ most
+-- What is known of steps that were read from a state on to the end.
+pub record Took-steps (s : List ℕ) (most : ℕ) (st : State ℕ) (at : ℕ) (ws : List WrittenStep) (n : ℕ) : Type 0 where
+  pub bytes : Took s at (writeSteps ws) n
+  pub within : All WrittenWithin ws
+  pub names-hold : NamesHold (st .names) ws
+  pub heights : Heights (unfolded (st .names) ws) (st .stack)
+  pub few : length ws ≤ most
   pub to-end : length s ≤ n
 
 module _ (s : List ℕ) (small : Bytes s) where
-  pub took-steps : (most : ℕ) (st : State ℕ) (at : ℕ) (xs : List Step) (n : ℕ) → skimMore s most st at ≡ got xs n → Took-steps s most (st .stack) at xs n
-  unfolding skimMore writeSteps
-  took-steps zero st at xs n e =
+  pub took-steps : (most : ℕ) (st : State ℕ) (at : ℕ) (ws : List WrittenStep) (n : ℕ) → skimMore s most st at ≡ got ws n → Took-steps s most st at ws n
+  unfolding skimMore writeSteps unfolded
+  took-steps zero st at ws n e =
       ended-or s [] (here (stop overflow)) at e
-      (λ end x y. rw (← x, ← y) record { bytes = took-none; within = tt; heights = tt; few = omega arith; to-end = end })
+      (λ end x y. rw (← x, ← y) record { bytes = took-none; within = tt; names-hold = tt; heights = tt; few = omega arith; to-end = end })
       (λ _ e₁. let z : _≡_ {A = ℕ} 0 1 = cc in absurd (omega arith))
-  took-steps (suc most) st at xs n e =
+  took-steps (suc most) st at ws n e =
       ended-or s [] (stepAndMore s most st) at e
-      (λ end x y. rw (← x, ← y) record { bytes = took-none; within = tt; heights = tt; few = omega arith; to-end = end })
+      (λ end x y. rw (← x, ← y) record { bytes = took-none; within = tt; names-hold = tt; heights = tt; few = omega arith; to-end = end })
       (λ _ e₁.
-      split (stepFrom s (st .stack) at at) e₁ λ x m e₂ e₃.
-      split (skimMore s most (afterStep st (heightPast (opcodeOf x) (st .stack))) m) e₃ λ ys n′ e₄ e₅.
-      gave e₅ λ w y.
-      let k = took-step s small (st .stack) at at x m e₂ in
-      let r = took-steps most (afterStep st (heightPast (opcodeOf x) (st .stack))) m ys n′ e₄ in
+      split (writtenFrom s (st .stack) (st .names) at at) e₁ λ w m e₂ e₃.
+      written-got s (st .stack) (st .names) at at e₂ λ read known crowd.
+      let after = afterStep st w (heightPast (writtenAs w) (st .stack)) in
+      split (skimMore s most after m) e₃ λ vs n′ e₄ e₅.
+      gave e₅ λ x y.
+      let k = took-step s small (st .stack) at at w m read in
+      let r = took-steps most after m vs n′ e₄ in
       let few = r .few in
-      rw (← w, ← y) record {
+      rw (← x, ← y) record {
         bytes = took-join (k .bytes) (r .bytes);
         within = (k .within, r .within);
-        heights = (k .enough, k .room, r .heights);
+        names-hold = (known, crowd, r .names-hold);
+        heights = heights-of (st .names) w (st .stack) (unfolded (namesPast w (st .names)) vs) known (k .enough) (k .room) (r .heights);
         few = omega arith;
         to-end = r .to-end;
       })
 
 -- Steps that were read to the end are all of the bytes.
-pub skim-took : (s : List ℕ) → Bytes s → (xs : List Step) → skim s ≡ accepted xs → SheetOf s xs × Heights xs 0
+pub skim-took : (s : List ℕ) → Bytes s → (ws : List WrittenStep) (xs : List Step) → skim s ≡ accepted ws → unfolded [] ws ≡ xs → SheetOf s xs × Heights xs 0
 unfolding skim skimFrom
-skim-took s small xs e = go (skimMore s maxSteps (fresh 0) 0) refl e
+skim-took s small ws xs e comes = go (skimMore s maxSteps (fresh 0) 0) refl e
   where
-    go : (r : Read (List Step)) → skimMore s maxSteps (fresh 0) 0 ≡ r → outcomeOf r ≡ accepted xs → SheetOf s xs × Heights xs 0
+    go : (r : Read (List WrittenStep)) → skimMore s maxSteps (fresh 0) 0 ≡ r → outcomeOf r ≡ accepted ws → SheetOf s xs × Heights xs 0
     go (stopped k p) h e = let z : _≡_ {A = ℕ} 0 1 = cc in absurd (omega arith)
-    go (got ys n) h e =
-        let w : ys ≡ xs = cc in
-        let t = took-steps s small maxSteps (fresh 0) 0 ys n h in
-        rw (← w) (record { bytes = t .bytes .is ∙ rw (drop-of-length-le s (t .to-end), append-nil); within = t .within; few = t .few }, t .heights)
+    go (got vs n) h e =
+        let v : vs ≡ ws = cc in
+        let t = took-steps s small maxSteps (fresh 0) 0 ws n (rw (← v) h) in (
+          record {
+            written = ws;
+            bytes = t .bytes .is ∙ rw (drop-of-length-le s (t .to-end), append-nil);
+            within = t .within;
+            few = t .few;
+            names-hold = t .names-hold;
+            comes-to = comes;
+          },
+          rw (← comes) (t .heights),
+        )
+
+-- So are those of a well-formed sheet.
+pub well-formed-took : (s result scratch : List ℕ) → Bytes s → (xs : List Step) → WellFormed s result scratch xs → SheetOf s xs × Heights xs 0
+well-formed-took s result scratch small xs w = skim-took s small (w .written) xs (w .read) (w .comes-to)

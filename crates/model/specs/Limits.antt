@@ -14,7 +14,7 @@ ones = 18446744073709551615
 abbrev pub maxSizes : ℕ
 maxSizes = 8
 
--- bytes of a Def's name; its fields
+-- bytes of a name, a Def's or a table's (document 02, 2026-06); fields of a Def
 abbrev pub maxName : ℕ
 maxName = 16
 

@@ -1,4 +1,4 @@
--- The ways of saying no (document 01, "Thirteen ways of saying no", and the number that document 02 adds): each refusal's number, with a
+-- The ways of saying no (document 01, "Thirteen ways of saying no", and the numbers that document 02 adds): each refusal's number, with a
 -- name for it. Definitions cite the names; the numbers stand here alone.
 use Prim.Native.Nat.{ℕ}
 use mathlib.Core.Bool.{Bool, true, false, _||_}
@@ -59,11 +59,18 @@ notASize = 13
 abbrev pub wrongCount : ℕ
 wrongCount = 14
 
+-- a name never declared before its use; a seventeenth name (document 02, 2026-06)
+abbrev pub undeclared : ℕ
+undeclared = 15
+
+abbrev pub tooManyNames : ℕ
+tooManyNames = 16
+
 -- ---- lists of them
 
--- all of them, fourteen
+-- all of them, sixteen
 abbrev pub refusals : List ℕ
-refusals = ended ∷ unmarked ∷ outOfRange ∷ oversized ∷ tooMany ∷ trailing ∷ tooShort ∷ unpervaded ∷ wrongScalar ∷ wrongShape ∷ underflow ∷ overflow ∷ notASize ∷ wrongCount ∷ []
+refusals = ended ∷ unmarked ∷ outOfRange ∷ oversized ∷ tooMany ∷ trailing ∷ tooShort ∷ unpervaded ∷ wrongScalar ∷ wrongShape ∷ underflow ∷ overflow ∷ notASize ∷ wrongCount ∷ undeclared ∷ tooManyNames ∷ []
 
 -- a number is one of a list
 abbrev pub isAmong : List ℕ → ℕ → Bool

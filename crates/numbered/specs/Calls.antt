@@ -1,4 +1,4 @@
--- Demand 1, "gets its result or one of" fourteen "numbered refusals", of every public call: the 48 that the library exports, what each
+-- Demand 1, "gets its result or one of" sixteen "numbered refusals", of every public call: the 48 that the library exports, what each
 -- answers, as in its contract (`velgrodis/src`), and a table of the numbers that it can be refused with.
 use Prim.Native.Nat.{ℕ}
 use mathlib.Core.List.{List, [], _∷_}

@@ -1,5 +1,5 @@
 -- Refusals of public calls by computation: the reading of a type, and what the kinds of calls add to it. Not every number of every call
--- is here; those of a sheet but 7 are worked in `machine` (Examples).
+-- is here; those of a sheet but 7 are worked in `machine` (Examples, NameExamples).
 use Prim.Native.Nat.{ℕ, zero, suc, _^_}
 use mathlib.Core.List.{List, [], _∷_, _++_}
 use mathlib.Core.Path.{_≡_, refl}

@@ -1,5 +1,5 @@
 -- Demand 1, of every public call: whatever is handed in and lent, an answer that is a refusal has one of the numbers that the table
--- says of the call, and these are of the fourteen.
+-- says of the call, and these are of the sixteen.
 use Prim.Native.Nat.{ℕ, zero, suc}
 use native.Mathlib.Omega.{arith}
 use mathlib.Core.Bool.{Bool}
@@ -198,7 +198,7 @@ shape-checked-with = shape-with refl refl
 
 -- ---- every call
 
--- "Gets its result or one of" fourteen "numbered refusals": each call, one of its own.
+-- "Gets its result or one of" sixteen "numbered refusals": each call, one of its own.
 pub call-refuses-only : (c : Call) → RefusesOnly (numbersOf c) (replyTo c)
 unfolding replyTo
 call-refuses-only (vg-dim-cmp a b) = compared-only ofSizes (cmpCall a b) (sizes-with cmpDim a b)
@@ -272,7 +272,7 @@ call-refuses-only (vg-as-dims kind x list t sizes) =
     (bound-numbered valueAsDims (handedIn kind x list t) (handed-with lone-sizes-written kind x list t) (as-dims-with (refl, (refl, (refl, tt)))))
 call-refuses-only (vg-check-sheet sheet result scratch) = sheet-only ofSheetCall (sheetCall sheet result scratch) (call-numbered sheet result scratch)
 
--- ---- the lists are of the fourteen
+-- ---- the lists are of the sixteen
 
 sizes-known : All (Among refusals) ofSizes
 sizes-known = (refl, tt)
@@ -302,7 +302,7 @@ result-known : All (Among refusals) ofResult
 result-known = (refl, tt)
 
 sheet-call-known : All (Among refusals) ofSheetCall
-sheet-call-known = (refl, (refl, (refl, (refl, (refl, (refl, (refl, (refl, (refl, (refl, (refl, (refl, tt))))))))))))
+sheet-call-known = (refl, (refl, (refl, (refl, (refl, (refl, (refl, (refl, (refl, (refl, (refl, (refl, (refl, (refl, tt))))))))))))))
 
 pub numbers-known : (c : Call) → All (Among refusals) (numbersOf c)
 numbers-known (vg-dim-cmp a b) = sizes-known
@@ -354,6 +354,6 @@ numbers-known (vg-as-dim kind x list t) = size-known
 numbers-known (vg-as-dims kind x list t sizes) = sizes-written-known
 numbers-known (vg-check-sheet sheet result scratch) = sheet-call-known
 
--- "One of" fourteen.
+-- "One of" sixteen.
 pub call-known : (c : Call) → RefusesOnly refusals (replyTo c)
 call-known c = λ e. among-more (numbersOf c) refusals (numbers-known c) (replyTo c .number) (call-refuses-only c e)

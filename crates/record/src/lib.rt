@@ -7,6 +7,7 @@ mod whole;
 
 pub use bytes::list_count;
 pub use bytes::number_at;
+pub use bytes::read_name;
 pub use bytes::wide;
 use limits::MAX_SIZES;
 pub use types::read_type;

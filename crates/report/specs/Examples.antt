@@ -11,8 +11,8 @@ use Rattle.rules.specs.Order.{codeOf}
 use Rattle.rules.specs.Scalars.{supersetCodes, supersetOf, union}
 use Rattle.rules.specs.Pervade.{againstAbsent, together, walk, pervadeClosing}
 use Rattle.rules.specs.PervadeInSheets.{inSheetsAt, pervadeInSheets}
-use Rattle.machine.specs.Run.{pervadeTypes, step}
-use Rattle.machine.specs.Sheet.{opcodeFrom, argumentFrom, stepFrom, workFrom, sheetMore, sheetFrom, sheetRun}
+use Rattle.machine.specs.Run.{pervadeTypes, step, steps}
+use Rattle.machine.specs.Sheet.{opcodeFrom, argumentFrom, stepFrom, writtenFrom, workFrom, sheetMore, sheetFrom, sheetRun}
 use Rattle.machine.specs.Call.{writeTypes}
 use Rattle.text.specs.Digits.{hexOf, decimalWithin}
 use Rattle.report.specs.Report.{lineFeed, headed, typeLine, typeLines, reported}
@@ -65,6 +65,6 @@ pub examples-shown : All Shown examples
 unfolding examples inside below byte judged number bytesOf code kindOf writeShape writeScalar writeTy
     readMark readDim readDims shapeFrom readName readFields defFrom boxFrom scalarFrom readTy
     cmpDim larger compatible joinDim codeOf supersetCodes supersetOf union againstAbsent together walk pervadeClosing inSheetsAt pervadeInSheets
-    pervadeTypes step opcodeFrom argumentFrom stepFrom workFrom sheetMore sheetFrom sheetRun writeTypes
+    pervadeTypes step steps opcodeFrom argumentFrom stepFrom writtenFrom workFrom sheetMore sheetFrom sheetRun writeTypes
     hexOf decimalWithin headed typeLine typeLines reported
 examples-shown = (refl, (refl, (refl, (refl, (refl, tt)))))

@@ -13,75 +13,99 @@ use Rattle.model.specs.Refusals.{tooShort, overflow}
 use Rattle.model.specs.Types.{Ty}
 use Rattle.format.specs.Reader.{Read, stopped}
 use Rattle.format.specs.Outcome.{Outcome, accepted, refused, Delivery, delivery, deliver}
-use Rattle.machine.specs.SheetLimits.{maxSteps, maxStack, scratchBytes}
-use Rattle.machine.specs.Run.{Stack, State, fresh}
-use Rattle.machine.specs.Sheet.{workFrom, sheetFrom, sheetRun}
+use Rattle.machine.specs.SheetLimits.{maxSteps, maxStack, maxNames, scratchBytes}
+use Rattle.machine.specs.Run.{Stack}
+use Rattle.machine.specs.Sheet.{State, fresh, workFrom, sheetFrom, sheetRun}
 use Rattle.machine.specs.SheetSteps.{work-taken, sheetFrom-end, sheetFrom-over, sheetFrom-step, sheetFrom-stop}
 use Rattle.machine.specs.Call.{Called, called, tally, writeTypes, firstZero, zeroed, atFront, handOver, sheetCall}
+use Rattle.names.specs.Table.{HasNames}
+use Rattle.names.specs.TableLaws.{none-in-force}
 use Rattle.stack.specs.Stack.{Memory, memory, fullTrays, size, Stacked, HasStack, Keeps}
 use Rattle.stack.specs.StackLaws.{stacked-none, stacked-sizes}
-use Rattle.run.specs.Answers.{InState, Works, Going, ReadOn, Runs, calledOf}
-use Rattle.run.specs.declared.Worked.{Worked}
+use Rattle.run.specs.Answers.{NameTable, nameTable, InState, StepsTo, Going, ReadOn, Runs, calledOf}
+use Rattle.run.specs.declared.Stepped.{Stepped}
 use Rattle.run.specs.declared.Ran.{Ran}
 use Rattle.run.specs.declared.Reached.the-variants.{At, Refused}
 use Rattle.run.specs.declared.SheetAnswer.{SheetAnswer}
 use Rattle.run.specs.declared.SheetAnswer.the-variants.{Accepted, Refused as Refuses}
 
--- ---- the stack of a state
+-- ---- the stack and the names of a state
 
--- there is one, wherever its types lie
-module _ {st : State Stack} {m : Memory} {count taken : ℕ} (h : InState m count taken st) where
+-- there are such, wherever the types lie
+module _ {st : State Stack} {m : Memory} {t : NameTable} {count named taken : ℕ} (h : InState m t count named taken st) where
   pub state-has : HasStack m count
   state-has = record { types = st .stack; stacked = h .stacked }
 
-  pub state-kept : {m₁ : Memory} → Keeps m count m₁ → InState m₁ count taken st
-  state-kept kept = record { stacked = kept (st .stack) (h .stacked); steps = h .steps }
+  pub state-names : HasNames (m .sheet) (t .places) (t .bounds) named
+  state-names = record { names = st .names; in-force = h .in-force }
 
--- and where there is one, it is that of some state
-module _ {m : Memory} {count : ℕ} (has : HasStack m count) (taken : ℕ) where
+  pub state-kept : {m₁ : Memory} → m₁ .sheet ≡ m .sheet → Keeps m count m₁ → InState m₁ t count named taken st
+  state-kept same kept = record { stacked = kept (st .stack) (h .stacked); in-force = rw same (h .in-force); steps = h .steps }
+
+-- and where there are, they are those of some state
+module _ {m : Memory} {t : NameTable} {count named : ℕ} (has : HasStack m count) (names : HasNames (m .sheet) (t .places) (t .bounds) named) (taken : ℕ) where
   abbrev pub some-state : State Stack
-  some-state = record { stack = has .types; taken = taken }
+  some-state = record { stack = has .types; names = names .names; taken = taken }
 
-  pub some-here : InState m count taken some-state
-  some-here = record { stacked = has .stacked; steps = refl }
+  pub some-here : InState m t count named taken some-state
+  some-here = record { stacked = has .stacked; in-force = names .in-force; steps = refl }
 
--- at first it is empty, whatever the trays and the scratch hold
-pub state-fresh : (lengths s trays scratch : List ℕ) → maxStack ≤ length lengths → scratchBytes ≤ length scratch → InState (memory (replicate {A = ℕ} maxStack 0) lengths s trays scratch) 0 0 (fresh [])
+-- zeroes for so many places, as a call begins with them
+abbrev places-for : ℕ → List ℕ
+places-for n = replicate {A = ℕ} n 0
+
+-- at first both are empty, whatever the trays and the scratch hold
+pub state-fresh : (lengths s trays scratch : List ℕ) → maxStack ≤ length lengths → scratchBytes ≤ length scratch
+    → InState (memory (places-for maxStack) lengths s trays scratch) (nameTable (places-for maxNames) (places-for maxNames)) 0 0 0 (fresh [])
 state-fresh lengths s trays scratch measured room =
-    let ended : maxStack ≤ length (replicate {A = ℕ} maxStack 0) = omega (arith, length-replicate {A = ℕ} maxStack 0) in
-    record { stacked = stacked-none (memory (replicate {A = ℕ} maxStack 0) lengths s trays scratch) room ended measured; steps = refl }
+    let ended : maxStack ≤ length (places-for maxStack) = omega (arith, length-replicate {A = ℕ} maxStack 0) in
+    let kept : maxNames ≤ length (places-for maxNames) = omega (arith, length-replicate {A = ℕ} maxNames 0) in
+    record {
+      stacked = stacked-none (memory (places-for maxStack) lengths s trays scratch) room ended measured;
+      in-force = none-in-force s (places-for maxNames) (places-for maxNames) kept kept;
+      steps = refl;
+    }
 
 -- ---- all steps
 
-module _ (whole : Read (State Stack)) {m : Memory} {count taken at : ℕ} (g : Going whole m count taken at) where
+module _ (whole : Read (State Stack)) {m : Memory} {t : NameTable} {count named taken at : ℕ} (g : Going whole m t count named taken at) where
   pub going-over : maxSteps ≤ taken → at < length (m .sheet) → whole ≡ stopped overflow at
   going-over l h = g .same ∙ sheetFrom-over (m .sheet) (g .state) at (omega (arith, g .here .steps)) h
 
-  pub going-rest : (length (m .sheet) ≤ at) ⊎ (length (m .trays) < fullTrays) → ReadOn m count taken at whole
+  pub going-rest : (length (m .sheet) ≤ at) ⊎ (length (m .trays) < fullTrays) → ReadOn m t count named taken at whole
   going-rest rest = record { going = g; rest = rest }
 
   -- one step more
-  module _ (few : taken < maxSteps) (more : at < length (m .sheet)) (r : Worked) (m₁ : Memory) (kept : m₁ .sheet ≡ m .sheet) (works : Works (r .answer) m₁ (r .count) (workFrom (m .sheet) (g .state) at at)) where
-    pub going-step : {n : ℕ} → r .answer ≡ At n → Going whole m₁ (r .count) (taken + 1) n
-    going-step {n} is = go (rw is at works)
+  module _ (few : taken < maxSteps) (more : at < length (m .sheet)) (r : Stepped) (m₁ : Memory) (t₁ : NameTable) (kept : m₁ .sheet ≡ m .sheet)
+      (to : StepsTo (r .answer) m₁ t₁ (r .count) (r .named) (workFrom (m .sheet) (g .state) at at)) where
+    pub going-step : {n : ℕ} → r .answer ≡ At n → Going whole m₁ t₁ (r .count) (r .named) (taken + 1) n
+    going-step {n} is = go (rw is at to)
       where
-        go : Works (At n) m₁ (r .count) (workFrom (m .sheet) (g .state) at at) → Going whole m₁ (r .count) (taken + 1) n
-        go (st, e, stacked) = record {
+        go : StepsTo (At n) m₁ t₁ (r .count) (r .named) (workFrom (m .sheet) (g .state) at at) → Going whole m₁ t₁ (r .count) (r .named) (taken + 1) n
+        go (st, e, stacked, force) = record {
           state = st;
-          here = record { stacked = stacked; steps = omega (arith, work-taken (m .sheet) (g .state) st at at n e, g .here .steps) };
+          here = record { stacked = stacked; in-force = force; steps = omega (arith, work-taken (m .sheet) (g .state) st at at n e, g .here .steps) };
           same = rw kept (g .same ∙ sheetFrom-step (m .sheet) (g .state) at st n (omega (arith, g .here .steps)) more e);
         }
 
     pub going-stop : {k p : ℕ} → r .answer ≡ Refused k p → whole ≡ stopped k p
-    going-stop {k} {p} is = g .same ∙ sheetFrom-stop (m .sheet) (g .state) at k p (omega (arith, g .here .steps)) more (rw is at works)
+    going-stop {k} {p} is = g .same ∙ sheetFrom-stop (m .sheet) (g .state) at k p (omega (arith, g .here .steps)) more (rw is at to)
 
--- The same from whatever state the stack was of.
-abbrev pub GoingFrom : Memory → ℕ → ℕ → ℕ → Memory → ℕ → ℕ → ℕ → Type 0
-GoingFrom m₀ count₀ taken₀ start m count taken at =
-    (st : State Stack) → InState m₀ count₀ taken₀ st → Going (sheetFrom (m₀ .sheet) st start) m count taken at
+-- The same from whatever state stack and names were of.
+abbrev pub GoingFrom : Memory → NameTable → ℕ → ℕ → ℕ → ℕ → Memory → NameTable → ℕ → ℕ → ℕ → ℕ → Type 0
+GoingFrom m₀ t₀ count₀ named₀ taken₀ start m t count named taken at =
+    (st : State Stack) → InState m₀ t₀ count₀ named₀ taken₀ st → Going (sheetFrom (m₀ .sheet) st start) m t count named taken at
 
-pub going-has : (m₀ : Memory) (count₀ taken₀ start : ℕ) {m : Memory} {count taken at : ℕ} → HasStack m₀ count₀ → GoingFrom m₀ count₀ taken₀ start m count taken at → HasStack m count
-going-has m₀ count₀ taken₀ start has from = state-has (from (some-state has taken₀) (some-here has taken₀) .here)
+module _ (m₀ : Memory) (t₀ : NameTable) (count₀ named₀ taken₀ start : ℕ) {m : Memory} {t : NameTable} {count named taken at : ℕ} (has : HasStack m₀ count₀)
+    (names : HasNames (m₀ .sheet) (t₀ .places) (t₀ .bounds) named₀) (from : GoingFrom m₀ t₀ count₀ named₀ taken₀ start m t count named taken at) where
+  reached : InState m t count named taken (from (some-state has names taken₀) (some-here has names taken₀) .state)
+  reached = from (some-state has names taken₀) (some-here has names taken₀) .here
+
+  pub going-has : HasStack m count
+  going-has = state-has reached
+
+  pub going-names : HasNames (m .sheet) (t .places) (t .bounds) named
+  going-names = state-names reached
 
 -- ---- what they come to
 
@@ -90,12 +114,15 @@ pub run-left : (s : List ℕ) (st : State Stack) (at : ℕ) → length s ≤ at 
 unfolding sheetRun
 run-left s st at h e = rw (e ∙ sheetFrom-end s st at h)
 
-module _ (r : Ran) (m : Memory) (whole : Read (State Stack)) (runs : Runs (r .answer) m (r .count) (r .taken) whole) where
-  pub run-stopped : {n : ℕ} → r .answer ≡ At n → ReadOn m (r .count) (r .taken) n whole
+module _ (r : Ran) (m : Memory) (t : NameTable) (whole : Read (State Stack)) (runs : Runs (r .answer) m t (r .count) (r .named) (r .taken) whole) where
+  pub run-stopped : {n : ℕ} → r .answer ≡ At n → ReadOn m t (r .count) (r .named) (r .taken) n whole
   run-stopped is = rw is at runs
 
   pub stopped-has : {n : ℕ} → r .answer ≡ At n → HasStack m (r .count)
   stopped-has is = state-has (run-stopped is .going .here)
+
+  pub stopped-names : {n : ℕ} → r .answer ≡ At n → HasNames (m .sheet) (t .places) (t .bounds) (r .named)
+  stopped-names is = state-names (run-stopped is .going .here)
 
   -- of a whole sheet
   module _ (all : sheetFrom (m .sheet) (fresh []) 0 ≡ whole) where

@@ -24,9 +24,17 @@ pub struct Worked {
     pub count: usize,
 }
 
+// The same, and how many names are then in force.
+pub struct Stepped {
+    pub answer: Reached,
+    pub count: usize,
+    pub named: usize,
+}
+
 // The same of the steps worked, and how many were taken.
 pub struct Ran {
     pub answer: Reached,
     pub count: usize,
+    pub named: usize,
     pub taken: usize,
 }

@@ -5,6 +5,7 @@ use crate::SheetAnswer;
 use crate::steps::work_step;
 use lent::Written;
 use limits::MAX_BYTES;
+use limits::MAX_NAMES;
 use limits::MAX_STACK;
 use limits::MAX_STEPS;
 use limits::SCRATCH_BYTES;
@@ -23,11 +24,12 @@ ghost use lib.ListN.{length};
 ghost use Rattle.model.specs.Limits.{maxBytes};
 ghost use Rattle.format.specs.Outcome.{accepted};
 ghost use Rattle.machine.specs.SheetLimits.{maxStack, scratchBytes};
-ghost use Rattle.machine.specs.Run.{Stack, State, fresh};
-ghost use Rattle.machine.specs.Sheet.{sheetFrom, sheetRun};
+ghost use Rattle.machine.specs.Run.{Stack};
+ghost use Rattle.machine.specs.Sheet.{State, fresh, sheetFrom, sheetRun};
 ghost use Rattle.machine.specs.Call.{sheetCall};
+ghost use Rattle.names.specs.Table.{HasNames};
 ghost use Rattle.stack.specs.Stack.{memory, Stacked, HasStack, NoneInTray};
-ghost use Rattle.run.specs.Answers.{InState, Runs, Measures, Answers, calledOf};
+ghost use Rattle.run.specs.Answers.{nameTable, InState, Runs, Measures, Answers, calledOf};
 
 // Checks a sheet. The types left go to the result, bottom first; the scratch is zero afterwards, as far as it was asked for.
 pub fn check_sheet(sheet: &[u8], result: &mut [u8], scratch: &mut [u8]) -> SheetAnswer
@@ -75,6 +77,8 @@ fn run_sheet(
     ensures { λ r. ⌜ Answers r (now (result .exit)) (now (lengths .exit)) (now (sheet .entry)) (now (result .entry)) ⌝ }
 {
     let mut ends = [0usize; MAX_STACK];
+    let mut places = [0usize; MAX_NAMES];
+    let mut bounds = [0usize; MAX_NAMES];
     let mut out = [0u8; MAX_BYTES];
     let mut trays = [0u8; SMALL_TRAYS];
     let ran = run_steps(
@@ -82,23 +86,30 @@ fn run_sheet(
         0,
         0,
         0,
+        0,
         &mut ends,
         &mut *lengths,
+        &mut places,
+        &mut bounds,
         &mut trays,
         &mut *scratch,
         &mut out,
     );
     let answer = ran.answer;
     let count = ran.count;
+    let named = ran.named;
     let taken = ran.taken;
     match answer {
         Reached::At(at) => run_rest(
             sheet,
             at,
             count,
+            named,
             taken,
             &mut ends,
             &mut *lengths,
+            &mut places,
+            &mut bounds,
             &trays,
             &mut *scratch,
             &mut out,
@@ -113,16 +124,21 @@ fn run_rest<'a>(
     sheet: &'a [u8],
     at: usize,
     count: usize,
+    named: usize,
     taken: usize,
     ends: &mut [usize],
     lengths: &mut [usize],
+    places: &mut [usize],
+    bounds: &mut [usize],
     small: &'a [u8],
     scratch: &mut [u8],
     out: &mut [u8],
     result: &mut [u8],
 ) -> SheetAnswer
-    requires { ⌜ (maxBytes ≤ length (now out)) × HasStack (memory (now ends) (now lengths) (now sheet) (now small) (now scratch)) count ⌝ }
-    ensures { λ r. ⌜ ((st : State Stack) → InState (memory (now (ends .entry)) (now (lengths .entry)) (now (sheet .entry)) (now (small .entry)) (now (scratch .entry))) count taken st
+    requires { ⌜ (maxBytes ≤ length (now out)) × HasStack (memory (now ends) (now lengths) (now sheet) (now small) (now scratch)) count
+        × HasNames (now sheet) (now places) (now bounds) named ⌝ }
+    ensures { λ r. ⌜ ((st : State Stack) → InState (memory (now (ends .entry)) (now (lengths .entry)) (now (sheet .entry)) (now (small .entry)) (now (scratch .entry)))
+        (nameTable (now (places .entry)) (now (bounds .entry))) count named taken st
         → sheetFrom (now (sheet .entry)) (fresh []) 0 ≡ sheetFrom (now (sheet .entry)) st at
         → Answers r (now (result .exit)) (now (lengths .exit)) (now (sheet .entry)) (now (result .entry))) ⌝ }
 {
@@ -142,9 +158,12 @@ fn run_rest<'a>(
         sheet,
         at,
         count,
+        named,
         taken,
         &mut *ends,
         &mut *lengths,
+        &mut *places,
+        &mut *bounds,
         &mut *scratch,
         &mut *out,
         &mut *result,
@@ -156,16 +175,20 @@ fn run_large(
     sheet: &[u8],
     at: usize,
     count: usize,
+    named: usize,
     taken: usize,
     ends: &mut [usize],
     lengths: &mut [usize],
+    places: &mut [usize],
+    bounds: &mut [usize],
     scratch: &mut [u8],
     out: &mut [u8],
     result: &mut [u8],
 ) -> SheetAnswer
     requires { ⌜ (maxBytes ≤ length (now out)) × ((h : List ℕ) × HasStack (memory (now ends) (now lengths) (now sheet) h (now scratch)) count)
-        × NoneInTray (now ends) count ⌝ }
-    ensures { λ r. ⌜ ((h : List ℕ) (st : State Stack) → InState (memory (now (ends .entry)) (now (lengths .entry)) (now (sheet .entry)) h (now (scratch .entry))) count taken st
+        × HasNames (now sheet) (now places) (now bounds) named × NoneInTray (now ends) count ⌝ }
+    ensures { λ r. ⌜ ((h : List ℕ) (st : State Stack) → InState (memory (now (ends .entry)) (now (lengths .entry)) (now (sheet .entry)) h (now (scratch .entry)))
+        (nameTable (now (places .entry)) (now (bounds .entry))) count named taken st
         → sheetFrom (now (sheet .entry)) (fresh []) 0 ≡ sheetFrom (now (sheet .entry)) st at
         → Answers r (now (result .exit)) (now (lengths .exit)) (now (sheet .entry)) (now (result .entry))) ⌝ }
 {
@@ -174,9 +197,12 @@ fn run_large(
         sheet,
         at,
         count,
+        named,
         taken,
         &mut *ends,
         &mut *lengths,
+        &mut *places,
+        &mut *bounds,
         &mut trays,
         &mut *scratch,
         &mut *out,
@@ -198,24 +224,31 @@ fn run_large(
 }
 
 // The steps from a place on, one after the other, each from the state that the one before left, and the first from any state: so many
-// types on the stack, so many steps taken. They stop early where a type that may be worked on next is too long
+// types on the stack, so many names in force, so many steps taken. They stop early where a type that may be worked on next is too long
 // for the trays.
 fn run_steps(
     s: &[u8],
     start: usize,
     count: usize,
+    named: usize,
     taken: usize,
     ends: &mut [usize],
     lengths: &mut [usize],
+    places: &mut [usize],
+    bounds: &mut [usize],
     trays: &mut [u8],
     scratch: &mut [u8],
     out: &mut [u8],
 ) -> Ran
-    requires { ⌜ (maxBytes ≤ length (now out)) × HasStack (memory (now ends) (now lengths) (now s) (now trays) (now scratch)) count ⌝ }
-    ensures { λ r. ⌜ ((st : State Stack) → InState (memory (now (ends .entry)) (now (lengths .entry)) (now (s .entry)) (now (trays .entry)) (now (scratch .entry))) count taken st
-        → Runs (r .answer) (memory (now (ends .exit)) (now (lengths .exit)) (now (s .entry)) (now (trays .exit)) (now (scratch .exit))) (r .count) (r .taken) (sheetFrom (now (s .entry)) st start)) ⌝ }
+    requires { ⌜ (maxBytes ≤ length (now out)) × HasStack (memory (now ends) (now lengths) (now s) (now trays) (now scratch)) count
+        × HasNames (now s) (now places) (now bounds) named ⌝ }
+    ensures { λ r. ⌜ ((st : State Stack) → InState (memory (now (ends .entry)) (now (lengths .entry)) (now (s .entry)) (now (trays .entry)) (now (scratch .entry)))
+        (nameTable (now (places .entry)) (now (bounds .entry))) count named taken st
+        → Runs (r .answer) (memory (now (ends .exit)) (now (lengths .exit)) (now (s .entry)) (now (trays .exit)) (now (scratch .exit)))
+        (nameTable (now (places .exit)) (now (bounds .exit))) (r .count) (r .named) (r .taken) (sheetFrom (now (s .entry)) st start)) ⌝ }
 {
     let mut height = count;
+    let mut in_force = named;
     let mut steps = taken;
     let mut at = start;
     while at < s.len() {
@@ -226,6 +259,7 @@ fn run_steps(
                     place: at,
                 },
                 count: height,
+                named: in_force,
                 taken: steps,
             };
         }
@@ -235,6 +269,7 @@ fn run_steps(
             return Ran {
                 answer: stopped,
                 count: height,
+                named: in_force,
                 taken: steps,
             };
         }
@@ -242,8 +277,11 @@ fn run_steps(
             s,
             at,
             height,
+            in_force,
             &mut *ends,
             &mut *lengths,
+            &mut *places,
+            &mut *bounds,
             &mut *trays,
             &mut *scratch,
             &mut *out,
@@ -253,16 +291,19 @@ fn run_steps(
             return Ran {
                 answer,
                 count: height,
+                named: in_force,
                 taken: steps,
             };
         };
         height = worked.count;
+        in_force = worked.named;
         at = next;
         steps += 1;
     }
     Ran {
         answer: Reached::At(at),
         count: height,
+        named: in_force,
         taken: steps,
     }
 }

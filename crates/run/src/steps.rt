@@ -1,6 +1,7 @@
-// One step: it is read, then its rule is worked on the stack. A rule is told the step's fields and gets its operands from `stack`, which may
-// find them in the sheet.
+// One step: it is read, then its name is looked at or its rule is worked on the stack. A rule is told the step's fields and gets its
+// operands from `stack`, which may find them in the sheet.
 use crate::Reached;
+use crate::Stepped;
 use crate::Worked;
 use crate::tops::join_top;
 use crate::tops::pervade_top;
@@ -9,6 +10,11 @@ use crate::tops::validate_top;
 use cursor::StepRead;
 use cursor::step_at;
 use lent::Written;
+use limits::MAX_NAMES;
+use limits::refusal::TOO_MANY_NAMES;
+use limits::refusal::UNDECLARED;
+use names::LookedUp;
+use names::look_up;
 use stack::store;
 use stack::unpack_top;
 use stack::unpack_two;
@@ -23,81 +29,213 @@ ghost use Rattle.format.specs.Views.{Stands};
 ghost use Rattle.format.specs.Outcome.{Outcome, accepted, lone};
 ghost use Rattle.machine.specs.SheetLimits.{maxStack};
 ghost use Rattle.machine.specs.Steps as steps;
-ghost use Rattle.machine.specs.Run.{Stack, State};
-ghost use Rattle.machine.specs.Sheet.{workFrom};
+ghost use Rattle.machine.specs.Run.{Stack};
+ghost use Rattle.machine.specs.Written.{TableName};
+ghost use Rattle.machine.specs.Names.{Names, typeInForce, declare};
+ghost use Rattle.machine.specs.Sheet.{State, workFrom};
+ghost use Rattle.names.specs.Table.{NameStands, Declares, InForce, HasNames};
 ghost use Rattle.stack.specs.Stack.{memory, size, Stacked, HasStack};
-ghost use Rattle.run.specs.Answers.{Works, Ready, StepWorks, Ruled, LaysDown};
+ghost use Rattle.run.specs.Answers.{nameTable, StepsTo, NameKept, Ready, StepWorks, UseWorks, Ruled, LaysDown};
 
 // The step whose mark stands at a place. `out` is a buffer that holds any type.
 pub fn work_step(
     s: &[u8],
     at: usize,
     count: usize,
+    named: usize,
     ends: &mut [usize],
     lengths: &mut [usize],
+    places: &mut [usize],
+    bounds: &mut [usize],
     trays: &mut [u8],
     scratch: &mut [u8],
     out: &mut [u8],
-) -> Worked
-    requires { ⌜ Ready 0 (memory (now ends) (now lengths) (now s) (now trays) (now scratch)) count (now out) ⌝ }
+) -> Stepped
+    requires { ⌜ Ready 0 (memory (now ends) (now lengths) (now s) (now trays) (now scratch)) count (now out)
+        × HasNames (now s) (now places) (now bounds) named ⌝ }
     ensures { λ r. ⌜ ((st : State Stack) → Stacked (memory (now (ends .entry)) (now (lengths .entry)) (now (s .entry)) (now (trays .entry)) (now (scratch .entry))) count (st .stack)
-        → Works (r .answer) (memory (now (ends .exit)) (now (lengths .exit)) (now (s .entry)) (now (trays .exit)) (now (scratch .exit))) (r .count) (workFrom (now (s .entry)) st at at)) ⌝ }
+        → InForce (now (s .entry)) (now (places .entry)) (now (bounds .entry)) named (st .names)
+        → StepsTo (r .answer) (memory (now (ends .exit)) (now (lengths .exit)) (now (s .entry)) (now (trays .exit)) (now (scratch .exit)))
+        (nameTable (now (places .exit)) (now (bounds .exit))) (r .count) (r .named) (workFrom (now (s .entry)) st at at)) ⌝ }
 {
     let read = step_at(s, at, count);
     match read {
-        StepRead::Put { start, next } => put(start, next, count, &mut *ends, &mut *lengths),
-        StepRead::Row { next } => row(
-            at,
-            next,
-            count,
-            s,
-            &mut *ends,
-            &mut *lengths,
-            &mut *trays,
-            &mut *scratch,
-            &mut *out,
-        ),
+        StepRead::Put { start, next } => {
+            let worked = put(start, next, next, count, &mut *ends, &mut *lengths);
+            keep_names(worked, named)
+        }
+        StepRead::Row { next } => {
+            let worked = row(
+                at,
+                next,
+                count,
+                s,
+                &mut *ends,
+                &mut *lengths,
+                &mut *trays,
+                &mut *scratch,
+                &mut *out,
+            );
+            keep_names(worked, named)
+        }
         StepRead::Pervading {
             top_fill,
             below_fill,
             next,
-        } => pervade(
-            top_fill,
-            below_fill,
+        } => {
+            let worked = pervade(
+                top_fill,
+                below_fill,
+                at,
+                next,
+                count,
+                s,
+                &mut *ends,
+                &mut *lengths,
+                &mut *trays,
+                &mut *scratch,
+                &mut *out,
+            );
+            keep_names(worked, named)
+        }
+        StepRead::Join { next } => {
+            let worked = join(
+                at,
+                next,
+                count,
+                s,
+                &mut *ends,
+                &mut *lengths,
+                &mut *trays,
+                &mut *scratch,
+                &mut *out,
+            );
+            keep_names(worked, named)
+        }
+        StepRead::Validating { start, next } => {
+            let worked = validate(
+                &s[start..next],
+                at,
+                next,
+                count,
+                s,
+                &mut *ends,
+                &mut *lengths,
+                &mut *trays,
+                &mut *scratch,
+                &mut *out,
+            );
+            keep_names(worked, named)
+        }
+        StepRead::Declaring { name, next } => declare_name(
+            s,
+            name,
             at,
             next,
             count,
-            s,
-            &mut *ends,
-            &mut *lengths,
-            &mut *trays,
-            &mut *scratch,
-            &mut *out,
+            named,
+            &mut *places,
+            &mut *bounds,
         ),
-        StepRead::Join { next } => join(
-            at,
+        StepRead::Using { name, next } => {
+            let worked = use_name(
+                s,
+                name,
+                at,
+                next,
+                count,
+                named,
+                &mut *ends,
+                &mut *lengths,
+                &*places,
+                &*bounds,
+            );
+            keep_names(worked, named)
+        }
+        StepRead::Refused { number, place } => {
+            let worked = refuse(count, number, place);
+            keep_names(worked, named)
+        }
+    }
+}
+
+// What a step comes to that declares no name: as many are in force as before.
+fn keep_names(worked: Worked, named: usize) -> Stepped
+    ensures { λ r. ⌜ (r .answer ≡ worked .answer) × (r .count ≡ worked .count) × (r .named ≡ named) ⌝ }
+{
+    let answer = worked.answer;
+    let count = worked.count;
+    Stepped {
+        answer,
+        count,
+        named,
+    }
+}
+
+// A declaration leaves the stack as it is. A name too many is found once its type is read.
+fn declare_name(
+    s: &[u8],
+    name: usize,
+    at: usize,
+    next: usize,
+    count: usize,
+    named: usize,
+    places: &mut [usize],
+    bounds: &mut [usize],
+) -> Stepped
+    requires { ⌜ HasNames (now s) (now places) (now bounds) named × ((n : TableName) × (t : Ty) × Declares (now s) name next n t) ⌝ }
+    ensures { λ r. ⌜ (r .count ≡ count) × ((ns : Names) (n : TableName) (t : Ty) → InForce (now (s .entry)) (now (places .entry)) (now (bounds .entry)) named ns
+        → Declares (now (s .entry)) name next n t
+        → NameKept (r .answer) (now (s .entry)) (nameTable (now (places .exit)) (now (bounds .exit))) (r .named) at next (declare ns n t)) ⌝ }
+{
+    let many = names::declare(s, &mut *places, &mut *bounds, named, name, next);
+    if MAX_NAMES < many {
+        return Stepped {
+            answer: Reached::Refused {
+                number: TOO_MANY_NAMES,
+                place: at,
+            },
+            count,
+            named,
+        };
+    }
+    Stepped {
+        answer: Reached::At(next),
+        count,
+        named: many,
+    }
+}
+
+// A use puts the type in force, which stays where it was declared.
+fn use_name(
+    s: &[u8],
+    name: usize,
+    at: usize,
+    next: usize,
+    count: usize,
+    named: usize,
+    ends: &mut [usize],
+    lengths: &mut [usize],
+    places: &[usize],
+    bounds: &[usize],
+) -> Worked
+    requires { ⌜ (count < maxStack) × (maxStack ≤ length (now ends)) × (maxStack ≤ length (now lengths)) × HasNames (now s) (now places) (now bounds) named
+        × ((n : TableName) × NameStands (now s) name n) ⌝ }
+    ensures { λ r. ⌜ ((h d : List ℕ) (ns : Names) (n : TableName) → InForce (now (s .entry)) (now (places .entry)) (now (bounds .entry)) named ns → NameStands (now (s .entry)) name n
+        → UseWorks (typeInForce ns n) at next (memory (now (ends .entry)) (now (lengths .entry)) (now (s .entry)) h d) count r
+        (memory (now (ends .exit)) (now (lengths .exit)) (now (s .entry)) h d)) ⌝ }
+{
+    let found = look_up(s, places, bounds, named, name);
+    match found {
+        LookedUp::Declared { start, end } => put(
+            start,
+            end,
             next,
             count,
-            s,
             &mut *ends,
             &mut *lengths,
-            &mut *trays,
-            &mut *scratch,
-            &mut *out,
         ),
-        StepRead::Validating { start, next } => validate(
-            &s[start..next],
-            at,
-            next,
-            count,
-            s,
-            &mut *ends,
-            &mut *lengths,
-            &mut *trays,
-            &mut *scratch,
-            &mut *out,
-        ),
-        StepRead::Refused { number, place } => refuse(count, number, place),
+        LookedUp::Undeclared => refuse(count, UNDECLARED, at),
     }
 }
 
@@ -110,13 +248,20 @@ fn refuse(count: usize, number: u8, place: usize) -> Worked
     }
 }
 
-// A put has nothing to refuse: its reading found room for the type, which stays where it stands.
-fn put(start: usize, next: usize, count: usize, ends: &mut [usize], lengths: &mut [usize]) -> Worked
-    requires { ⌜ (count < maxStack) × (start ≤ next) × (maxStack ≤ length (now ends)) × (maxStack ≤ length (now lengths)) ⌝ }
-    ensures { λ r. ⌜ ((s h d : List ℕ) (t : Ty) (at : ℕ) → Within t → next ≡ start + size t → Stands s start (writeTy t)
+// A put has nothing to refuse: its reading found room for the type, which stays where it stands, from start to end.
+fn put(
+    start: usize,
+    end: usize,
+    next: usize,
+    count: usize,
+    ends: &mut [usize],
+    lengths: &mut [usize],
+) -> Worked
+    requires { ⌜ (count < maxStack) × (start ≤ end) × (maxStack ≤ length (now ends)) × (maxStack ≤ length (now lengths)) ⌝ }
+    ensures { λ r. ⌜ ((s h d : List ℕ) (t : Ty) (at : ℕ) → Within t → end ≡ start + size t → Stands s start (writeTy t)
         → StepWorks (steps.put t) at next (memory (now (ends .entry)) (now (lengths .entry)) s h d) count r (memory (now (ends .exit)) (now (lengths .exit)) s h d)) ⌝ }
 {
-    stack::put(&mut *ends, &mut *lengths, count, start, next);
+    stack::put(&mut *ends, &mut *lengths, count, start, end);
     Worked {
         answer: Reached::At(next),
         count: count + 1,

@@ -1,4 +1,4 @@
-use Prim.Native.Nat.{_-_}
+use mathlib.Core.Path.{refl}
 use Rattle.run.proofs.SheetLaws.{state-kept, run-left}
 use Rattle.run.proofs.StepLaws.{has-kept}
 use borrow.Author.Needs.{needs}
@@ -28,23 +28,21 @@ same-length-4 c = search needs
 returns : tie.Need-returns
 returns c =
     let at-hand-over = c .before .before in
-    let entry = c .before .before .before .before .before .before .before .before .before .before .before .before .before .before .before in
-    let at-if1 = c .before .before .before .before .before .before .before in
+    let at-if1 = at-hand-over .before .before .before .before .before in
+    let entry = at-if1 .before .before .before .before .before .before .before .before .before .before in
     let args = entry .args in
     λ st h same. at-hand-over .hand-over .ensures (st .stack) (h .stacked) (run-left (args .sheet .now) st (args .at) (at-if1 .if1 .taken) same)
 
 empty-trays-requires : tie.Need-empty-trays-requires
-empty-trays-requires c κs =
-    let entry = c .before .before .before .before .before .before .before .before .before .before .before in
-    let args = entry .args in
-    (args .sheet .now, entry .pre .1)
+empty-trays-requires c κs = search needs
 
 run-large-requires : tie.Need-run-large-requires
 run-large-requires c κs =
-    let entry = c .before .before .before .before .before .before .before .before .before .before .before .before .before .before .before .before .before .before .before .before .before in
-    let at-empty-trays = c .before .before .before .before .before .before .before .before .before in
+    let at-empty-trays = c .before .before .before .before .before .before .before .before .before .before .before in
+    let entry = at-empty-trays .before .before .before .before .before .before .before .before .before .before .before .before .before .before in
     let args = entry .args in
-    (entry .pre .0, (args .small .now, has-kept _ _ (args .count) (at-empty-trays .empty-trays .ensures .0 (args .sheet .now)) (entry .pre .1)), at-empty-trays .empty-trays .ensures .1)
+    let kept = at-empty-trays .empty-trays .ensures .0 (args .sheet .now) in
+    (entry .pre .0, (args .small .now, has-kept _ _ (args .count) kept (entry .pre .1)), entry .pre .2, at-empty-trays .empty-trays .ensures .1)
 
 same-length-5 : tie.Need-same-length-5
 same-length-5 c = search needs
@@ -61,14 +59,19 @@ same-length-8 c = search needs
 same-length-9 : tie.Need-same-length-9
 same-length-9 c = search needs
 
+same-length-10 : tie.Need-same-length-10
+same-length-10 c = search needs
+
+same-length-11 : tie.Need-same-length-11
+same-length-11 c = search needs
+
 returns-2 : tie.Need-returns-2
 returns-2 c =
-    let at-run-large = c .before .before .before .before .before .before .before .before .before .before in
-    let entry = c .before .before .before .before .before .before .before .before .before .before .before .before .before .before .before .before .before .before .before .before
-    .before .before .before .before .before .before .before .before .before .before .before .before in
-    let at-empty-trays = c .before .before .before .before .before .before .before .before .before .before .before .before .before .before .before .before .before .before .before .before in
+    let at-run-large = c .before .before .before .before .before .before .before .before .before .before .before .before .before .before in
+    let at-empty-trays = at-run-large .before .before .before .before .before .before .before .before .before .before .before .before in
+    let entry = at-empty-trays .before .before .before .before .before .before .before .before .before .before .before .before .before .before in
     let args = entry .args in
-    λ st h same. at-run-large .run-large .ensures (args .small .now) st (state-kept h (at-empty-trays .empty-trays .ensures .0 (args .sheet .now))) same
+    λ st h same. at-run-large .run-large .ensures (args .small .now) st (state-kept h refl (at-empty-trays .empty-trays .ensures .0 (args .sheet .now))) same
 
 pub run-rest-spec : {M : Type 1} → statement M
 run-rest-spec =
@@ -87,4 +90,6 @@ run-rest-spec =
     same-length-7
     same-length-8
     same-length-9
+    same-length-10
+    same-length-11
     returns-2)

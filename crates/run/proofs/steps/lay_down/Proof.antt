@@ -3,7 +3,6 @@ use mathlib.Core.List.{_∷_}
 use mathlib.Core.Path.{sym}
 use lib.ListN.{drop}
 use lib.Seq.{length-take-le}
-use Rattle.machine.specs.Run.{afterStep}
 use Rattle.run.proofs.RuleLaws.{rule-wrote, rule-refused}
 use borrow.Author.Needs.{needs}
 use Rattle.run.proofs.steps.lay_down.Statement.{statement}
@@ -59,17 +58,17 @@ returns c =
     let at-w = c .before .before .before .before .before .before .before .before .before .before .before .before .before .before .before in
     let at-store = c .before .before .before .before .before .before .before .before in
     let args = entry .args in
-    λ s st o h ruled.
+    λ s ts o h ruled.
     rule-wrote o (args .w) (args .out .now) (at-w .w .given .1) (ruled .given) λ t e bytes fits.
-    let below = drop (args .count - args .k) (st .stack) in
-    (afterStep st (t ∷ below), rw e, at-store .store .ensures s (args .count) t (ruled .there) (ruled .within t e) bytes (st .stack) h)
+    let below = drop (args .count - args .k) ts in
+    (t ∷ below, rw e, at-store .store .ensures s (args .count) t (ruled .there) (ruled .within t e) bytes ts h)
 
 returns-2 : tie.Need-returns-2
 returns-2 c =
     let entry = c .before .before .before .before .before .before .before .before .before in
     let at-w2 = c .before .before in
     let args = entry .args in
-    λ s st o h ruled. rw (c .refuse .ensures, rule-refused o (args .w) (args .out .now) (at-w2 .w2 .given .1) (ruled .given))
+    λ s ts o h ruled. rw (c .refuse .ensures, rule-refused o (args .w) (args .out .now) (at-w2 .w2 .given .1) (ruled .given))
 
 pub lay-down-spec : {M : Type 1} → statement M
 lay-down-spec =

@@ -2,7 +2,6 @@ use Prim.Native.Nat.{_-_}
 use native.Mathlib.Omega.{arith}
 use mathlib.Core.List.{_∷_}
 use mathlib.Core.Path.{_≡_}
-use Rattle.machine.specs.Run.{afterStep}
 use Rattle.stack.specs.Stack.{memory}
 use Rattle.stack.specs.StackLaws.{stacked-count}
 use Rattle.run.proofs.StepLaws.{put-worked}
@@ -16,8 +15,8 @@ use Rattle.stack.proofs.put.Reads as put-reads
 put-requires : tie.Need-put-requires
 put-requires c κs = search needs
 
-add-t12 : tie.Need-add-t12
-add-t12 c = search needs
+add-t13 : tie.Need-add-t13
+add-t13 c = search needs
 
 same-length : tie.Need-same-length
 same-length c = search needs
@@ -30,10 +29,10 @@ returns c =
     let entry = c .before .before .before .before .before .before .before .before .before in
     let at-put = c .before .before .before .before in
     let args = entry .args in
-    λ s h d t p within long stands st stacked.
+    λ s h d t p within long stands ts stacked.
     let n = stacked-count (memory (args .ends .now) (args .lengths .now) s h d) (args .count) stacked in
     let z : args .count - args .count ≡ 0 = omega arith in
-    (afterStep st (t ∷ st .stack), put-worked t st p (args .next) (omega (arith, entry .pre .0)), rw z at (at-put .put .ensures s h d t within long stands (st .stack) stacked))
+    (t ∷ ts, put-worked t ts p (args .next) (omega (arith, entry .pre .0)), rw z at (at-put .put .ensures s h d t within long stands ts stacked))
 
 pub put-spec : {M : Type 1} → statement M
-put-spec = tie.close (tie.spec put-requires add-t12 same-length same-length-2 returns)
+put-spec = tie.close (tie.spec put-requires add-t13 same-length same-length-2 returns)

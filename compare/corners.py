@@ -1,5 +1,5 @@
 #!/usr/bin/env python3
-"""Prints requests at the corners of the rules: of sizes, shapes, scalars, types, values, validation, sheets and the table of kinds.
+"""Prints requests at the corners of the rules: of sizes, shapes, scalars, types, values, validation, sheets, names in them and the table of kinds.
 
 The paper's cases (a) to (m) come first, then each rule's corners, then those of bytes and of lines.
 Bytes are built from the paper's notation: `num("2 ?..3")` is [2 ?..3] Num.
@@ -11,7 +11,7 @@ import sys
 
 sys.dont_write_bytecode = True
 
-from limits import LARGEST, LENT, LINE, NAME, RESULT, SCRATCH, SHEET, STACK, STEPS, TYPE, TYPES, UNKNOWN
+from limits import LARGEST, LENT, LETTERS, LINE, NAME, NAMES, RESULT, SCRATCH, SHEET, STACK, STEPS, TYPE, TYPES, UNKNOWN
 from records import boxed, full, kind, largest, named, nested, of, word
 
 BOOL, NAT, INT, NUM, COMPLEX, ASCII, CHAR, STREAM = KINDS = [kind(code) for code in range(8)]
@@ -596,6 +596,209 @@ def largest_types():
     yield from (sheet_lent(validated, down * (STACK - 1)) for down in (JOIN, PERVADE))
 
 
+# ---- names in sheets
+
+def declare(name, a):
+    return b"NM" + bytes([len(name)]) + name + a
+
+
+def use(*names):
+    return b"".join(b"US" + bytes([len(name)]) + name for name in names)
+
+
+def cut(whole):
+    """A sheet and each of its beginnings."""
+    yield from (sheet(whole[:end]) for end in range(len(whole) + 1))
+
+
+def spelled():
+    """A name's length and bytes, judged one by one: 1 or 3 at the step's mark."""
+    three, n = num("3"), declare(b"n", num("4"))
+    names = [b"n" * length for length in (0, 1, 2, LETTERS - 1, LETTERS, LETTERS + 1, 254, 255)]
+    # first, in the middle, last and alone
+    for byte in (bytes([code]) for code in (0, 31, 32, 126, 127, 128, 255)):
+        names += (byte, byte + b"nn", b"n" + byte + b"n", b"nn" + byte, byte + b"n" * (LETTERS - 1), b"n" * (LETTERS - 1) + byte)
+    for name in names:
+        yield from (sheet(declare(name, three), use(name)), sheet(n, declare(name, three)), sheet(n, put(three), use(name)))
+    # what is wrong before what is missing, the name before the type
+    rests = (b"", b"\0", b"\x11", b"\xff", b"\x01", b"\x02n", b"\x02\x1f", b"\x02\x7f", b"\x02n\x1f", b"\x10" + b"n" * 15, b"\x10" + b"n" * 14 + b"\x7f", b"\x01\x1fSX", b"\0SX")
+    for mark in (b"NM", b"US"):
+        yield from (sheet(n, mark + rest) for rest in rests)
+    # half a mark, and marks that are nearly these
+    yield from (sheet(n, step) for step in (b"N", b"U", b"NN", b"MN", b"MM", b"UU", b"SU", b"SS", b"nm", b"us", b"UM", b"NS"))
+    # where a type is due there is no use and no declaration
+    for step in (b"PU", b"VA", b"NM\x01n", b"PUSH\0\xffSC\x08BX\x01"):
+        yield from (sheet(n, use(b"n"), step + other) for other in (use(b"n"), n))
+
+
+def cut_off():
+    """Sheets with names, cut at each byte."""
+    char = ty("", CHAR)
+    yield from cut(declare(b"act", num("3")) + use(b"act") + declare(b"acts", num("?")) + use(b"acts") + PERVADE + declare(b"act", char) + use(b"act") + JOIN)
+    yield from cut(declare(b"sixteen letters!", ty("2", box(num("..3")))) + use(b"sixteen letters!") + ROW)
+    yield from cut(b"".join(declare(b"%d" % n, char) for n in range(NAMES + 1)) + use(b"0"))
+
+
+# two names: one is the beginning of the other, or they differ in one byte, at either end or in their case, or in a space; some look like steps
+PAIRS = (
+    (b"act", b"acts"), (b"act", b"a"), (b"act 1", b"act 2"), (b"1 act", b"2 act"), (b"act", b"Act"), (b"act", b"act "), (b"act", b" act"), (b" ", b"  "),
+    (b" ", b"~"), (b"aa", b"ab"), (b"ab", b"ba"), (b"a" * 15, b"a" * 16), (b"a" * 15 + b"b", b"a" * 16), (b"b" + b"a" * 15, b"a" * 16), (b"PU", b"US"),
+    (b"NM", b"US"), (b"SH", b"SC"), (b"sixteen letters!", b"sixteen letters"),
+)  # fmt: skip
+
+
+def told_by_name():
+    """A use puts the type in force under just that name. A name never declared before is 15, whatever comes after."""
+    three, four, char = num("3"), ty("?", INT), ty("", CHAR)
+    for one, other in (pair for a, b in PAIRS for pair in ((a, b), (b, a))):
+        first, second = declare(one, three), declare(other, four)
+        yield from (sheet(first, use(other)), sheet(first, use(one, other), use(one)))
+        yield sheet(first, second, use(one, other, one))
+        yield sheet(first, second, declare(one, char), use(other, one), PERVADE)
+    # before its declaration, and with none at all
+    n = declare(b"n", three)
+    for steps in (use(b"n"), use(b"n") + n, put(three) + use(b"n") + n + use(b"n"), n + use(b"n", b"m"), use(b"n") + b"XX", put(three) * 2 + use(b"n") + PERVADE):
+        yield sheet(steps)
+    # a name that a Def in the type has declares nothing, and a type may have its own name
+    inside = ty("..", fields(num("3"), name=b"m"))
+    yield from (sheet(declare(b"n", inside), use(name)) for name in (b"n", b"m"))
+    yield sheet(declare(b"m", inside), use(b"m"), ROW)
+
+
+def superseded():
+    """A later declaration counts for the uses after it; what was put before stays as it is, put or worked on, on top or under others."""
+    three, four, char, some = num("3"), num("4 5"), ty("", CHAR), check(ty("..", ANY))
+    types = (three, four, char, ty("2", box(num("..3"))), ty("..", fields(num("2"), ty("", NAT), name=b"n")), ty("..", ANY))
+    for a, b in ((a, b) for a in types for b in types):
+        first, again = declare(b"n", a) + use(b"n"), declare(b"n", b)
+        yield sheet(first, again, use(b"n"))
+        yield sheet(first, again)
+        yield sheet(first, again, declare(b"n", a), use(b"n"), JOIN)
+    # what is worked out of a use changes no declaration
+    for step in (ROW, some, check(num("? ?")), put(num("?")) + PERVADE, put(num("4")) + JOIN):
+        yield sheet(declare(b"n", four), use(b"n"), step, use(b"n"))
+        yield sheet(declare(b"n", four), use(b"n"), step, declare(b"n", char), use(b"n"), JOIN)
+    # a declaration that is refused, and one of a name that nobody uses
+    for a in (b"", b"SX", three[:-1], num(str(LARGEST + 1)), nested(8)):
+        yield sheet(declare(b"n", three), use(b"n"), declare(b"n", a), use(b"n"))
+    yield from (sheet(steps) for steps in (declare(b"n", three), declare(b"n", three) * 2, put(char) + declare(b"n", three), declare(b"n", three) + put(char) + ROW))
+    # each of as many uses as the stack holds has another type
+    pile = b"".join(declare(b"n", a) + use(b"n") for a in types)
+    assert len(types) == STACK
+    yield from (sheet_lent(pile, step) for step in (b"", ROW, some, declare(b"n", three), JOIN * 2, PERVADE, use(b"n")))
+
+
+def crowded():
+    """As many names as there may be, and one more: 16 at its mark, after its type is read. One that is there may be declared again."""
+    names, three, char = [b"%d" % n for n in range(NAMES + 2)], num("3"), ty("", CHAR)
+    each = [declare(name, num(str(n))) for n, name in enumerate(names)]
+    whole, more = b"".join(each[:NAMES]), names[NAMES]
+    for count in range(NAMES - 1, NAMES + 3):
+        yield from (sheet(*each[:count], last) for last in (b"", use(names[0]), use(more), use(names[NAMES - 1], names[1]), b"XX"))
+    yield from (sheet(whole, use(name)) for name in names)
+    # the last that there may be, one too many, and one that is there, with a type that is wrong; a name that is wrong
+    over = (b"", b"S", b"SX", b"SH", b"SH\x09", b"SH\0\x09", num(str(LARGEST + 1)), three[:-1], three[:-3] + b"SX\3", of(kind(10)), of(boxed(3)))
+    many = of(named(None, [of(NUM)] * 30 + [around(1, of(NUM))]))
+    for a in (*over, of(named(b"n" * 17)), of(named(b"\x7f")), nested(8), many):
+        yield from (sheet(*each[:NAMES - 1], declare(more, a)), sheet(whole, declare(more, a)), sheet(whole, declare(names[7], a)))
+    yield from (sheet(whole, declare(name, three)) for name in (b"", b"\x1f", b"n" * 17))
+    # first, in the middle, last: declared again and used, and still there is no place for one more
+    for again in (names[0], names[7], names[NAMES - 1]):
+        yield sheet(whole, declare(again, char), use(again, names[0], names[7], names[NAMES - 1]))
+        yield sheet(whole, use(again), declare(again, char), use(again))
+        yield sheet(whole, declare(again, char) * 8, declare(more, three))
+    # nothing after it is looked at; on a full stack it is 16 too
+    yield from (sheet(whole, declare(more, three), after) for after in (b"XX", use(more), use(names[0]), b"P"))
+    yield sheet(put(three) * STACK, whole, declare(more, three))
+
+
+def on_a_full_stack():
+    """A use has no place there, whatever its name is: 12. A declaration needs none."""
+    three, four, n = num("3"), num("4"), declare(b"n", num("2"))
+    uses = (use(b"n"), use(b"m"), use(b""), b"U", b"US", b"US\x11", b"US\x02n", b"US\x01\x1f", use(b"n" * 17), use(b"n") + b"XX")
+    declarations = (n, declare(b"m", four), declare(b"m", four) + use(b"m"), b"N", b"NM", b"NM\0", b"NM\x01", b"NM\x01\x7f", b"NM\x01m", declare(b"m", four)[:-1], declare(b"m", nested(8)))
+    for height in (STACK - 1, STACK):
+        yield from (sheet(n, put(three) * height, last) for last in (*uses, *declarations))
+        yield from (sheet(n, use(b"n") * height, last) for last in (*uses, *declarations))
+    yield from (sheet(put(three) * STACK, last) for last in (use(b"n"), n, n + use(b"n"), n + JOIN + use(b"n"), n + JOIN + use(b"n", b"n")))
+    # down and up again, by uses
+    for down in (JOIN, PERVADE, pervade(3)):
+        yield from (sheet(n, use(b"n") * STACK, (down * count + use(b"n") * count) * 3, last) for count in (1, STACK - 1) for last in (b"", ROW, use(b"n"), n))
+
+
+def last_steps():
+    """Both are steps: as the 63rd, the 64th and the 65th. As many declarations as there are steps leave no type."""
+    three, n = num("3"), declare(b"n", num("2"))
+    lasts = (n, declare(b"m", three), use(b"n"), use(b"m"), use(b""), declare(b"", three), declare(b"m", b"SX"), b"NM", b"US", b"N", use(b"n") + ROW)
+    for rows in range(STEPS - 4, STEPS - 1):
+        yield from (sheet(n, use(b"n"), ROW * rows, last) for last in lasts)
+    for count in range(STEPS - 1, STEPS + 2):
+        for turns in (1, 2, NAMES, NAMES + 1):
+            yield sheet(*(declare(b"%d" % (turn % turns), num(str(turn))) for turn in range(count)))
+        # the first declared, and then nothing but uses and joins
+        yield sheet(n, use(b"n"), *((use(b"n"), JOIN)[turn % 2] for turn in range(count - 2)))
+    for used in (b"0", b"15", b"3", b"16"):
+        yield sheet(*(declare(b"%d" % (turn % NAMES), num(str(turn))) for turn in range(STEPS - 1)), use(used))
+
+
+def worked_by_name():
+    """Every step on what uses have put, of one name and of two."""
+    some, pairs = ty("..", ANY), ((num("3"), num("?")), (num("3"), num("4")), (num("2 3"), ty("1", INT)), (num("?..3"), num("..")), (num("12"), num("..")))
+    boxes = ((ty("2", fields(num("3"), ty("", CHAR))), ty("", BOX)), (ty("3", box(num("..4"))), ty("3", box(num("..5")))), (some, ty("..", fields(num("3"), name=b"n"))))
+    for a, b in (*pairs, *boxes):
+        both = declare(b"a", a) + declare(b"b", b)
+        for steps in (ROW, JOIN, *(pervade(flag) for flag in range(4)), check(a), check(b), check(some), ROW + JOIN, JOIN + ROW):
+            yield from (sheet(both, use(*names), steps) for names in ((b"a", b"b"), (b"b", b"a"), (b"a", b"a")))
+            # a put and a use of the same type
+            yield sheet(both, use(b"a"), put(b), steps)
+            # with a declaration before the step, which leaves the stack as it is
+            yield sheet(both, use(b"a", b"b"), declare(b"a", num("9")), steps, use(b"b"))
+    # one type as often as the stack holds it, worked on in another way each time
+    for a in (num("2 3"), ty("2 3", box(num("..5"))), ty("2", fields(num("3"), ty("", CHAR), name=b"n")), ty("..", ANY)):
+        ways = (b"", ROW, check(some), use(b"a") + JOIN, use(b"a") + PERVADE, ROW + check(some))
+        for turn in range(STACK):
+            pile = b"".join(use(b"a") + way for way in ways[turn:] + ways[:turn])
+            yield from (sheet_lent(declare(b"a", a), pile, down * (STACK - 1)) for down in (b"", JOIN, pervade(3)))
+
+
+def buried_by_name():
+    """Types that were used and worked on lie under others, used, put or worked on, and are dug up."""
+    some = check(ty("..", ANY))
+    over = use(b"over") + some + use(b"over") + put(ty("2", CHAR)) + ROW + use(b"over")
+    for a in kept():
+        beside = ty("", a[a.index(b"SC"):])
+        names = declare(b"a", a) + declare(b"beside", beside) + declare(b"over", num("6"))
+        for steps in (use(b"a"), use(b"a") + some, use(b"a") + ROW, use(b"beside", b"a") + PERVADE, use(b"a", b"a") + JOIN):
+            yield sheet_lent(names, steps, over)
+        yield sheet_lent(names, use(b"a"), some, use(b"beside"), some, declare(b"a", num("7")), use(b"beside"), PERVADE * 2, use(b"a"))
+    # used or worked on, each with each, under names of their own; dug up by each step on two
+    types = [declare(b"%d" % n, told_apart(n)) for n in range(STACK)]
+    both = [(use(b"%d" % n), use(b"%d" % n) + some) for n in range(STACK)]
+    for above in itertools.product(*both[1:]):
+        yield from (sheet_lent(*types, both[0][1], *above, dig * (STACK - 1)) for dig in (b"", JOIN, PERVADE))
+
+
+def largest_by_name():
+    """Declared types of 4,992 bytes: one used as often as the stack holds it, and as many names as the line has room for."""
+    a, b, some = largest_with(b"a"), largest_with(b"b", TYPES - 1), check(ty("..", ANY))
+    one = declare(b"n", a) + use(b"n") * STACK
+    for steps in (b"", ROW, JOIN, PERVADE, some, use(b"n"), declare(b"n", b) + JOIN + use(b"n"), JOIN * (STACK - 1)):
+        yield sheet_lent(one, steps)
+    yield from (sheet_call(scratch, result, one) for scratch in (SCRATCH - 1, SCRATCH, SCRATCH + 1) for result in (RESULT - 1, RESULT, RESULT + 1))
+    yield from (sheet(declare(b"n", largest()), use(b"n") * count) for count in (1, STACK, STACK + 1))
+    # each worked on before the next is used
+    yield sheet_lent(declare(b"n", a), (use(b"n") + some) * STACK)
+    yield sheet_lent(declare(b"n", a), (use(b"n") + ROW) * STACK, JOIN * (STACK - 1))
+    yield sheet_lent(declare(b"n", a), use(b"n"), declare(b"n", b), use(b"n"), declare(b"n", num("3")), use(b"n"), JOIN)
+    # a name too many, whose type is the largest or one byte short
+    crowd = b"".join(declare(b"%d" % n, num("")) for n in range(NAMES))
+    yield from (sheet(crowd, declare(b"n", a)[:end]) for end in (None, -1))
+    many = b"".join(declare(b"%d" % n, largest_with(bytes([97 + n]))) for n in range(12))
+    yield from (sheet_lent(many, use(b"0", b"5", b"11"), steps) for steps in (b"", some + JOIN))
+
+
+# ---- a sheet's buffers and lines
+
 # of a scratch: exactly what is asked for, longer (also as long as was asked for before), short
 SCRATCHES = (0, 1, SCRATCH - 1, SCRATCH, SCRATCH + 1, 29951, 29952, 39936, LENT)
 
@@ -606,10 +809,11 @@ def neighbours(length):
 
 def buffers():
     """A short scratch first of all, a short result last of all; 4,992 bytes for each type left always suffice."""
-    three, good = num("3"), put(num("3"), ty("", CHAR))
+    three, good, n = num("3"), put(num("3"), ty("", CHAR)), declare(b"n", num("3"))
     accepted = ((b"", 0, 0), (good, 2, 22), (good + ROW, 2, 22), (good + PERVADE, 1, 15), (put(three) * STACK, STACK, 15 * STACK))
-    refused = ((steps, 0, 0) for steps in (b"XX", put(three) * (STACK + 1), put(three) + ROW * STEPS))
-    for steps, count, left in (*accepted, *refused):
+    by_name = ((n, 0, 0), (n + use(b"n"), 1, 15), (n + use(b"n", b"n"), 2, 30), (n + use(b"n") * STACK, STACK, 15 * STACK))
+    refused = ((steps, 0, 0) for steps in (b"XX", put(three) * (STACK + 1), put(three) + ROW * STEPS, use(b"n"), n + use(b"n") * (STACK + 1)))
+    for steps, count, left in (*accepted, *by_name, *refused):
         for scratch in SCRATCHES:
             yield from (sheet_call(scratch, result, steps) for result in sorted({0, *neighbours(left), *neighbours(count * TYPE), LENT}))
     whole = put(largest()) * STACK
@@ -688,7 +892,8 @@ def lines():
 
 PARTS = (
     cases, dims, shapes, scalars, orders, rows, boxes, looked_up, joins, values, kinds, shape_checks, scalar_checks,
-    grown, counted, reading, judged, worked, stacked, met, poured, buried, largest_types, buffers, sheet_lines, table, refused, lines,
+    grown, counted, reading, judged, worked, stacked, met, poured, buried, largest_types, spelled, cut_off, told_by_name, superseded, crowded,
+    on_a_full_stack, last_steps, worked_by_name, buried_by_name, largest_by_name, buffers, sheet_lines, table, refused, lines,
 )  # fmt: skip
 
 

@@ -11,10 +11,12 @@ TYPES = 32
 TYPE = 4992
 PACKED_PART = 2 + 2 * SIZES * 7 + 1 + 1 + 1 + NAME + 1
 
-# steps; types on the stack at once; bytes of scratch, for each place a type without marks; bytes of a result that suffice, for each place a type's
-# records; bytes of a sheet that the program reads
+# steps; types on the stack at once; names that a sheet declares, and bytes of one, of which it has at least one; bytes of scratch, for each place a
+# type without marks; bytes of a result that suffice, for each place a type's records; bytes of a sheet that the program reads
 STEPS = 64
 STACK = 6
+NAMES = 16
+LETTERS = 16
 SCRATCH = STACK * TYPES * PACKED_PART
 RESULT = STACK * TYPE
 SHEET = 49152

@@ -4,7 +4,8 @@
 //!
 //! The Rust's side reads the bytes into its `Type`s, works its rules on them, writes what is left straight to the result and clears a
 //! scratch of the same length. Validation calls the cut `validate` once: the limits are not measured. A sheet's
-//! pervading (oracle/filled.rs) and the number of a mismatch (oracle/counts.rs) are no text of the Rust's. Both sides must answer the same.
+//! pervading (oracle/filled.rs), its names (oracle/names.rs) and the number of a mismatch (oracle/counts.rs) are no text of the Rust's. Both
+//! sides must answer the same.
 
 #![allow(dead_code)]
 
@@ -28,6 +29,10 @@ mod kinds;
 mod library;
 #[path = "../oracle/limits.rs"]
 mod limits;
+#[path = "../oracle/names.rs"]
+mod names;
+#[path = "../oracle/naming.rs"]
+mod naming;
 #[path = "../oracle/requests.rs"]
 mod requests;
 #[path = "../oracle/rules.rs"]
@@ -298,6 +303,11 @@ fn season(count: usize, drawn: fn(&mut Random) -> Vec<u8>) -> Vec<Vec<u8>> {
         .collect()
 }
 
+/// The first season, but its sheets declare what they put, each type once before its first put, and use it.
+fn season_with_names(count: usize) -> Vec<Vec<u8>> {
+    season(count, generate::steps_bytes).iter().map(|sheet| naming::once(sheet)).collect()
+}
+
 fn works() -> Vec<(String, Work)> {
     let one = |sheet| Work::Sheets(vec![sheet]);
     let deep = |ty: Type| type_bytes(&invent::nested(ty, 7));
@@ -311,6 +321,10 @@ fn works() -> Vec<(String, Work)> {
     for steps in [8, 16, 32, 64] {
         works.push((format!("largest types, {steps} steps"), one(largest_turns(steps))));
     }
+    // With the declarations, of three types and of one, these have 64 steps too.
+    let named = |sheet: Vec<u8>| one(naming::once(&sheet));
+    works.push(("small types, named, 64 steps".into(), named(small_turns(61))));
+    works.push(("largest types, named, 64 steps".into(), named(largest_turns(63))));
     works.push(("six small types at once".into(), one(piles(64, &num(&[THREE]), &num(&[THREE])))));
     works.push(("six largest types at once".into(), one(largest_piles(64))));
     works.push(("reading the largest type".into(), Work::Read(type_bytes(&largest()))));
@@ -318,8 +332,12 @@ fn works() -> Vec<(String, Work)> {
         "validating eight deep".into(),
         Work::Validate(deep(num(&[Dim::Dyn])), deep(num(&[THREE]))),
     ));
-    works.push(("a season of 1,000 sheets".into(), Work::Sheets(season(1_000, generate::steps_bytes))));
-    works.push(("a season that buries types".into(), Work::Sheets(season(1_000, generate::sheet_bytes))));
+    let seasons = [
+        ("a season of 1,000 sheets", season(1_000, generate::steps_bytes)),
+        ("a season that buries types", season(1_000, generate::nameless)),
+        ("a season with names", season_with_names(1_000)),
+    ];
+    works.extend(seasons.map(|(name, sheets)| (name.into(), Work::Sheets(sheets))));
     works
 }
 

@@ -25,6 +25,10 @@ mod kinds;
 mod library;
 #[path = "../oracle/limits.rs"]
 mod limits;
+#[path = "../oracle/names.rs"]
+mod names;
+#[path = "../oracle/naming.rs"]
+mod naming;
 #[path = "../oracle/requests.rs"]
 mod requests;
 #[path = "../oracle/rules.rs"]
@@ -327,7 +331,7 @@ impl Both {
 
     /// A sheet, and now and then each of its beginnings.
     fn sheets(&mut self, r: &mut Random, turned: fn(&str) -> Expected) {
-        let sheet = sheets::any(r, generate::sheet_bytes);
+        let sheet = sheets::drawn(r);
         if sheet.len() < 2_000 && r.one_in(300) {
             for end in 0..sheet.len() {
                 self.sheet(r, &sheet[..end], turned);

@@ -1,10 +1,19 @@
 //! Sheets: as the requests have them, and such that go wrong at a place of their own.
 
-use crate::generate::{any_step, put};
+use crate::generate::{any_step, nameless, put, sheet_bytes};
 use crate::invent::{self, Random};
 use crate::limits::PLACES;
-use crate::sheet;
 use crate::uiua::{Scalar, Type};
+use crate::{naming, sheet};
+
+/// Every third is one of any kind that was drawn without names and then gets some.
+pub fn drawn(r: &mut Random) -> Vec<u8> {
+    if r.one_in(3) {
+        let sheet = any(r, nameless);
+        return naming::named(r, &sheet);
+    }
+    any(r, sheet_bytes)
+}
 
 /// How sheets are drawn that are as the requests have them.
 type Draw = fn(&mut Random) -> Vec<u8>;

@@ -10,7 +10,7 @@ use crate::generate::{Lines, hex_word, on_two, pervade, put, validate};
 use crate::invent::{self, LONG_NAME, Random, inside};
 use crate::limits::{COPIES, DEPTH, LARGEST, LENT, NAME, PLACES, SCRATCH, SIZES, STEPS};
 use crate::uiua::{Dim, DynShape, Scalar, ScalarBox, Type};
-use crate::{sheet, specs};
+use crate::{naming, sheet, specs};
 
 /// Sizes about the borders of a byte, the smallest and the largest of them, and ?.
 #[rustfmt::skip]
@@ -70,16 +70,28 @@ impl Heap {
     }
 }
 
+/// Sheets of many types, most of them alike.
+pub fn drawn(r: &mut Random) -> Vec<u8> {
+    let first = kept(r);
+    up_and_down(r, |r| if r.one_in(3) { kept(r) } else { alike(r, &first) })
+}
+
+/// Sheets of a few types that are put again and again.
+pub fn repeated(r: &mut Random) -> Vec<u8> {
+    let mut types = vec![kept(r)];
+    (0..r.below(4)).for_each(|_| types.push(alike(r, &types[0])));
+    up_and_down(r, |r| r.pick(&types))
+}
+
 /// Up to a height and down to another, over and over. Most types are worked on before the next is put
 /// above them, and some again once they are the top.
-pub fn drawn(r: &mut Random) -> Vec<u8> {
+fn up_and_down(r: &mut Random, next: impl Fn(&mut Random) -> Type) -> Vec<u8> {
     let mut heap = Heap::default();
-    let first = kept(r);
     let most = r.pick(&[8, 16, 24, 40, STEPS - 2, STEPS]);
     let mut height = 1;
     for _ in 0..1 + r.below(10) {
         while heap.stack.len() < height.max(2) && heap.steps < most {
-            let ty = if r.one_in(3) { kept(r) } else { alike(r, &first) };
+            let ty = next(r);
             heap.takes(r, 1, &put(&ty));
             (0..r.pick(&[0, 1, 1, 2])).for_each(|_| heap.work(r));
         }
@@ -168,8 +180,14 @@ pub fn edges(out: &mut Lines) -> Result<()> {
     largest_types(out)
 }
 
+/// The sheet, and the same with names.
 fn call(out: &mut Lines, scratch: usize, steps: &[&[u8]]) -> Result<()> {
-    out.line("sheet_call", format!(" {scratch} {LENT} {}", hex_word(&steps.concat())))
+    let sheet = steps.concat();
+    let named = naming::once(&sheet);
+    let mut one =
+        |bytes: &[u8]| out.line("sheet_call", format!(" {scratch} {LENT} {}", hex_word(bytes)));
+    one(&sheet)?;
+    one(&named)
 }
 
 fn left(out: &mut Lines, steps: &[&[u8]]) -> Result<()> {

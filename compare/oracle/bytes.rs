@@ -146,7 +146,7 @@ impl<'a> Reader<'a> {
         Ok(Some(name))
     }
     /// Judged one by one, unlike a mark's bytes or a size's.
-    fn letter(&mut self, record: usize) -> Result<char, No> {
+    pub fn letter(&mut self, record: usize) -> Result<char, No> {
         match self.byte(record)? {
             letter @ 32..=126 => Ok(letter as char),
             _ => no(3, record),

@@ -1,6 +1,6 @@
 //! Requests that need no seed. `edges`: every limit with its neighbours, every cut of a few types
-//! and sheets, all numbers at borders, types that lie under others (buried.rs). `pairs`: all pairs of
-//! small shapes and of scalars, and specs of three sizes on small shapes.
+//! and sheets, all numbers at borders, names (naming.rs), types that lie under others (buried.rs).
+//! `pairs`: all pairs of small shapes and of scalars, and specs of three sizes on small shapes.
 
 use std::io::Result;
 
@@ -10,7 +10,7 @@ use crate::invent::{self, BYTES, EDGE_SIZES, NUMBERS};
 use crate::limits::{INPUT, LENT, LINE, PLACES, STEPS, TYPE};
 use crate::requests::{Call, REQUESTS, hex, size};
 use crate::uiua::{Dim, DynShape, Scalar, ScalarBox, Type};
-use crate::{buried, sheet};
+use crate::{buried, naming, sheet};
 
 pub fn edges(out: &mut Lines) -> Result<()> {
     samples().iter().try_for_each(|ty| damaged(out, &type_bytes(ty)))?;
@@ -24,6 +24,7 @@ pub fn edges(out: &mut Lines) -> Result<()> {
     sizes(out)?;
     sheets(out)?;
     stacks(out)?;
+    naming::edges(out)?;
     buried::edges(out)?;
     buffers(out)?;
     alone(out)?;
@@ -176,6 +177,9 @@ fn sheets(out: &mut Lines) -> Result<()> {
         for step in [&b""[..], b"PU", b"RW", b"PV", b"PV\0", b"PV\x04", b"JN", b"VA", b"XX", b"P"] {
             sheet(&[&small(height), step].concat())?;
         }
+        for step in [&b"NM"[..], b"NM\x01n", b"US", b"US\x01n", b"US\x11", b"U"] {
+            sheet(&[&small(height), step].concat())?;
+        }
     }
     [INPUT, INPUT + 1].iter().try_for_each(|&length| sheet(&vec![0; length]))
 }
@@ -195,13 +199,13 @@ fn pervade(flag: u8) -> Vec<u8> {
     [&sheet::PERVADE[..], &[flag]].concat()
 }
 
-/// Each step but a put: none lays down more than it takes, so a full stack takes them all.
+/// Each step that works on types: none lays down more than it takes, so a full stack takes them all.
 fn within() -> [Vec<u8>; 5] {
     let any = validate(&Type::default());
     [sheet::ROW.into(), sheet::JOIN.into(), pervade(0), pervade(3), any]
 }
 
-fn sheet_line(out: &mut Lines, steps: &[&[u8]]) -> Result<()> {
+pub fn sheet_line(out: &mut Lines, steps: &[&[u8]]) -> Result<()> {
     out.line("sheet", format!(" {}", hex_word(&steps.concat())))
 }
 
@@ -280,7 +284,7 @@ fn results(left: &[Type]) -> Vec<usize> {
 /// Lent buffers of every interesting length.
 fn buffers(out: &mut Lines) -> Result<()> {
     let full = [put(&invent::largest()).repeat(PLACES), small(PLACES)];
-    let others = [small(PLACES + 1), sample_sheet(), Vec::new(), b"XX".into()];
+    let others = [small(PLACES + 1), sample_sheet(), naming::sample(), Vec::new(), b"XX".into()];
     for bytes in full.into_iter().chain(others) {
         let results = results(&sheet::run(&bytes).unwrap_or_default());
         for (result, scratch) in results.iter().flat_map(|a| SCRATCHES.map(|b| (a, b))) {

@@ -7,7 +7,7 @@ use crate::invent::{self, Random};
 use crate::limits::{LENT, LINE, PLACES, SCRATCH, TYPE};
 use crate::requests::{Call, REQUESTS, hex, size};
 use crate::uiua::{Scalar, Type};
-use crate::{buried, edges, sheet, specs};
+use crate::{buried, edges, naming, sheet, specs};
 
 pub const SIDES: [&str; 3] = ["none", "left", "right"];
 /// Scratches longer than is asked for: by one byte, as long as was asked for before (2026-04, and one
@@ -159,8 +159,13 @@ fn sheet_call(r: &mut Random) -> String {
     format!(" {scratch} {} {}", around(r, needed), hex_word(&bytes))
 }
 
-/// Every third is a sheet whose types lie under others and are dug up again.
+/// Half of the sheets have names.
 pub fn sheet_bytes(r: &mut Random) -> Vec<u8> {
+    if r.one_in(2) { naming::drawn(r) } else { nameless(r) }
+}
+
+/// Every third is a sheet whose types lie under others and are dug up again.
+pub fn nameless(r: &mut Random) -> Vec<u8> {
     if !r.one_in(3) {
         return steps_bytes(r);
     }
@@ -263,7 +268,7 @@ pub fn pervade(r: &mut Random) -> Vec<u8> {
     [&sheet::PERVADE[..], &[flag]].concat()
 }
 
-/// A step that the stack or its own bytes may not allow.
+/// A step that the stack or its own bytes may not allow. Those with names are in naming.rs.
 pub fn any_step(r: &mut Random) -> Vec<u8> {
     let marks = [*b"PU", *b"RW", *b"PV", *b"JN", *b"VA", *b"SH", *b"UP"];
     let mut bytes = r.pick(&marks).to_vec();

@@ -4,6 +4,7 @@ pub const SIZES: usize = 8;
 pub const TYPES: usize = 32;
 pub const DEPTH: usize = 8;
 pub const COPIES: usize = 31;
+/// Bytes of a Def's name.
 pub const NAME: usize = 16;
 pub const LARGEST: usize = 1 << 53;
 pub const UNKNOWN: u64 = u64::MAX;
@@ -18,6 +19,9 @@ pub const PACKED_PART: usize = 2 + 2 * SIZES * 7 + 1 + 1 + 1 + NAME + 1;
 pub const STEPS: usize = 64;
 /// Types on the stack at once.
 pub const PLACES: usize = 6;
+/// Names that a sheet declares, and bytes of one, of which it has at least one (document 02, 2026-06).
+pub const NAMES: usize = 16;
+pub const LETTERS: usize = 16;
 /// Bytes of a sheet that the program reads.
 pub const INPUT: usize = 49_152;
 /// Bytes of scratch: for each place a type without marks (document 02, 2026-05).

@@ -15,6 +15,8 @@ mod generate;
 mod invent;
 mod kinds;
 mod limits;
+mod names;
+mod naming;
 mod requests;
 mod rules;
 mod sheet;

@@ -1,7 +1,9 @@
-//! The sheet: steps on a stack of types (document 01, "The sheet, added").
+//! The sheet: steps on a stack of types (document 01, "The sheet, added"), and types under names
+//! (document 02, 2026-06).
 
 use crate::bytes::{No, Reader, no, type_bytes};
 use crate::limits::{INPUT, PLACES, RESULT, SCRATCH, STEPS};
+use crate::names::{self, Names};
 use crate::uiua::Type;
 use crate::{filled, rules};
 
@@ -10,6 +12,8 @@ pub const ROW: [u8; 2] = *b"RW";
 pub const PERVADE: [u8; 2] = *b"PV";
 pub const JOIN: [u8; 2] = *b"JN";
 pub const VALIDATE: [u8; 2] = *b"VA";
+pub const DECLARE: [u8; 2] = *b"NM";
+pub const USE: [u8; 2] = *b"US";
 
 /// The sheet program: limits its input, and lends two buffers that suffice.
 pub fn program(sheet: &[u8]) -> Result<Vec<Type>, No> {
@@ -40,20 +44,25 @@ type Validation = fn(Type, Type) -> Result<Type, No>;
 /// The same with another validation.
 pub fn run_with(sheet: &[u8], validated: Validation) -> Result<Vec<Type>, No> {
     let mut reader = Reader::new(sheet);
-    let mut stack = Vec::new();
+    let (mut stack, mut names) = (Vec::new(), Names::default());
     let mut steps = 0;
     while !reader.ended() {
         if steps == STEPS {
             return no(12, reader.at);
         }
-        step(&mut reader, &mut stack, validated)?;
+        step(&mut reader, &mut stack, &mut names, validated)?;
         steps += 1;
     }
     Ok(stack)
 }
 
 /// One step: first its mark is judged, then the stack, then the step's bytes, then its rule.
-fn step(reader: &mut Reader, stack: &mut Vec<Type>, validated: Validation) -> Result<(), No> {
+fn step(
+    reader: &mut Reader,
+    stack: &mut Vec<Type>,
+    names: &mut Names,
+    validated: Validation,
+) -> Result<(), No> {
     let place = reader.at;
     let mark = reader.mark()?;
     let Some((takes, lays)) = needs(mark) else {
@@ -65,6 +74,7 @@ fn step(reader: &mut Reader, stack: &mut Vec<Type>, validated: Validation) -> Re
     if stack.len() - takes + lays > PLACES {
         return no(12, place);
     }
+    let at_the_mark = |refusal| No { place, ..refusal };
     let made = match mark {
         PUT => Ok(reader.outermost()?),
         ROW => Ok(taken(stack).into_row()),
@@ -77,19 +87,39 @@ fn step(reader: &mut Reader, stack: &mut Vec<Type>, validated: Validation) -> Re
             let (top, below) = (taken(stack), taken(stack));
             Ok(top | below)
         }
-        _ => {
+        VALIDATE => {
             let spec = reader.outermost()?;
             validated(spec, taken(stack))
         }
+        DECLARE => {
+            let name = names::read(reader, place)?;
+            let ty = reader.outermost()?;
+            return names.declare(name, ty).map_err(at_the_mark);
+        }
+        _ => names.in_force(&names::read(reader, place)?),
     };
-    stack.push(made.map_err(|refusal| No { place, ..refusal })?);
+    stack.push(made.map_err(at_the_mark)?);
     Ok(())
+}
+
+/// Goes over a step's bytes, whatever the stack has.
+pub fn pass(reader: &mut Reader) -> Result<(), No> {
+    let place = reader.at;
+    match reader.mark()? {
+        PUT | VALIDATE => reader.outermost().map(drop),
+        ROW | JOIN => Ok(()),
+        PERVADE => flag(reader, place).map(drop),
+        DECLARE => names::read(reader, place).and_then(|_| reader.outermost().map(drop)),
+        USE => names::read(reader, place).map(drop),
+        _ => no(2, place),
+    }
 }
 
 /// How many types a step takes off the stack and how many it lays down.
 fn needs(mark: [u8; 2]) -> Option<(usize, usize)> {
     match mark {
-        PUT => Some((0, 1)),
+        DECLARE => Some((0, 0)),
+        PUT | USE => Some((0, 1)),
         ROW | VALIDATE => Some((1, 1)),
         PERVADE | JOIN => Some((2, 1)),
         _ => None,

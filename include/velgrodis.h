@@ -6,8 +6,9 @@
  * docs/FORMAT.md.
  *
  * Beside what it is lent, a call uses the stack of the thread that makes it, and no other memory. A sheet check keeps there what its rules
- * make, in buffers of 16,000 bytes at most: room for three types and for two small ones. Nothing of that is taken from the scratch or the
- * result. Not proved but measured: with these a call on types eight deep took less than 40 kB of stack.
+ * make, in buffers of 16,000 bytes at most: room for three types and for two small ones; and where declared names stand, in 256 bytes.
+ * Nothing of that is taken from the scratch or the result. Not proved but measured: with these a call on types eight deep took less than
+ * 40 kB of stack.
  *
  * What the host guarantees, since no proof can:
  * - A length is true: the pointer before it points to as many elements, initialised, readable, and writable where it is not const.
@@ -34,12 +35,13 @@ extern "C" {
 #define VG_MAX_SIZE UINT64_C(9007199254740992)      /* the largest static size, 2^53 */
 #define VG_UNKNOWN UINT64_C(18446744073709551615)   /* ?, an unknown size: all ones */
 #define VG_MAX_SIZES 8                              /* opening sizes of a shape; and closing sizes */
-#define VG_MAX_NAME 16                              /* bytes of a Def's name */
+#define VG_MAX_NAME 16                              /* bytes of a name, a Def's or one that a sheet declares */
 #define VG_MAX_FIELDS 31                            /* fields of a Def; and copies that vg_as_boxes lists */
 #define VG_MAX_TYPES 32                             /* types in one type, itself counted */
 #define VG_MAX_DEPTH 8                              /* depth of a type; the outermost is at depth 1 */
 #define VG_MAX_STACK 6                              /* types on a sheet's stack */
-#define VG_MAX_STEPS 64                             /* steps of a sheet */
+#define VG_MAX_STEPS 64                             /* steps of a sheet; declarations and uses of names are among them */
+#define VG_MAX_NAMES 16                             /* different names that a sheet declares */
 #define VG_KIND_COUNT 10                            /* kinds of a scalar; their codes are 0 to 9 */
 #define VG_PROGRAM_SHEET_BYTES 49152                /* bytes of a sheet that the program `sheet` reads; a call has no such limit */
 
@@ -76,28 +78,31 @@ typedef struct vg_answer {
     uint64_t second;
 } vg_answer;
 
-/* Why an input is refused. In a lone type a place is a byte of the type; of two types that were handed in, of the one that was
- * refused: of a spec and a type the validation itself tells which (`reading`); for two others hand the first to vg_read, since it is
- * read whole before the other: refused, it is that one. In a sheet a place is a byte of the sheet. */
+/* Why an input is refused, one of sixteen numbers. In a lone type a place is a byte of the type; of two types that were handed in, of
+ * the one that was refused: of a spec and a type the validation itself tells which (`reading`); for two others hand the first to
+ * vg_read, since it is read whole before the other: refused, it is that one. In a sheet a place is a byte of the sheet. */
 enum vg_refusal {
-    VG_ENDED = 1,         /* The bytes end inside a record or a type. Place: first byte of the record begun or due. */
-    VG_UNMARKED = 2,      /* Two bytes that are no mark allowed there. Place: the first of them. */
-    VG_OUT_OF_RANGE = 3,  /* A count, a code, a flag or a byte of a name that is out of range. Place: first byte of its record or
-                           * step; 0 for more than VG_MAX_SIZES numbers, and for a flag, side or kind handed in beside the bytes. */
-    VG_OVERSIZED = 4,     /* A size above VG_MAX_SIZE that is not VG_UNKNOWN. Place: first byte of its shape's record; its index
-                           * for a number. */
-    VG_TOO_MANY = 5,      /* More than VG_MAX_TYPES types, VG_MAX_DEPTH deep or VG_MAX_FIELDS copies. Place: first byte of the type
-                           * that is one too many; where a rule would make it, 0, in a sheet its step's mark. */
-    VG_TRAILING = 6,      /* Bytes after a lone type. Place: the first of them, which is the length of the type before them. */
-    VG_TOO_SHORT = 7,     /* A result too short for what is to be written; it is found last, after any other refusal. Place: 0, for a
-                           * sheet its length. Or a scratch under VG_SCRATCH_BYTES; it is found first of all. Place: 0. */
-    VG_UNPERVADED = 8,    /* Two shapes that cannot pervade. Place: 0, in a sheet the step's mark; so for 9, 10 and 14. */
-    VG_WRONG_SCALAR = 9,  /* A spec's scalar that is no superset of the type's. */
-    VG_WRONG_SHAPE = 10,  /* A type's shape that does not pass the spec's: a size differs (vg_validate says when it is 14 instead). */
-    VG_UNDERFLOW = 11,    /* A step that lacks types on the stack. Place: its mark. */
-    VG_OVERFLOW = 12,     /* A seventh type on the stack, or a 65th step. Place: the step's mark. */
-    VG_NOT_A_SIZE = 13,   /* NaN, a negative number or a fraction where a size is wanted. Place: its index; 0 for a lone number. */
-    VG_WRONG_COUNT = 14   /* A type's shape that does not pass the spec's: so many sizes cannot fit (vg_validate says when exactly). */
+    VG_ENDED = 1,          /* The bytes end inside a record or a type. Place: first byte of the record begun or due. */
+    VG_UNMARKED = 2,       /* Two bytes that are no mark allowed there. Place: the first of them. */
+    VG_OUT_OF_RANGE = 3,   /* A count, a code, a flag, or the length or a byte of a name that is out of range. Place: first byte of its
+                            * record or step; 0 for more than VG_MAX_SIZES numbers, and for a flag, side or kind handed in beside the
+                            * bytes. */
+    VG_OVERSIZED = 4,      /* A size above VG_MAX_SIZE that is not VG_UNKNOWN. Place: first byte of its shape's record; its index
+                            * for a number. */
+    VG_TOO_MANY = 5,       /* More than VG_MAX_TYPES types, VG_MAX_DEPTH deep or VG_MAX_FIELDS copies. Place: first byte of the type
+                            * that is one too many; where a rule would make it, 0, in a sheet its step's mark. */
+    VG_TRAILING = 6,       /* Bytes after a lone type. Place: the first of them, which is the length of the type before them. */
+    VG_TOO_SHORT = 7,      /* A result too short for what is to be written; it is found last, after any other refusal. Place: 0, for a
+                            * sheet its length. Or a scratch under VG_SCRATCH_BYTES; it is found first of all. Place: 0. */
+    VG_UNPERVADED = 8,     /* Two shapes that cannot pervade. Place: 0, in a sheet the step's mark; so for 9, 10 and 14. */
+    VG_WRONG_SCALAR = 9,   /* A spec's scalar that is no superset of the type's. */
+    VG_WRONG_SHAPE = 10,   /* A type's shape that does not pass the spec's: a size differs (vg_validate says when it is 14 instead). */
+    VG_UNDERFLOW = 11,     /* A step that lacks types on the stack. Place: its mark. */
+    VG_OVERFLOW = 12,      /* A seventh type on the stack, or a 65th step. Place: the step's mark. */
+    VG_NOT_A_SIZE = 13,    /* NaN, a negative number or a fraction where a size is wanted. Place: its index; 0 for a lone number. */
+    VG_WRONG_COUNT = 14,   /* A type's shape that does not pass the spec's: so many sizes cannot fit (vg_validate says when exactly). */
+    VG_UNDECLARED = 15,    /* A use of a name that no step before it declares. Place: the step's mark. */
+    VG_TOO_MANY_NAMES = 16 /* A declaration of a seventeenth name. Place: the step's mark. */
 };
 
 /* Every comment below has: what a value says; the refusals, in the order in which they are found.
@@ -110,14 +115,19 @@ enum vg_refusal {
 
 /* Checks a sheet: works its steps in order on a stack of types, and writes the types left to the result, bottom first, one after the
  * other. To part them: vg_read what is left of the result; it is one type, or refused VG_TRAILING at the length of the first.
+ * A declaration names a type for the uses after it, until the name is declared again. It takes no type and lays none down, and asks for
+ * nothing more of the scratch or the result. A use puts the type that its name stands for there. A name has 1 to VG_MAX_NAME bytes, each
+ * 32 to 126; two names are the same if they have as many and the same ones. The names of Defs have nothing to do with these, and none is
+ * kept for another sheet.
  * A step's pervading is vg_pervade's, but where a static size other than 1 is filled on its own side and meets ?, or nothing in an open
  * shape, it gives ?: the real size there may grow.
  * Value: `first` types are left, `second` bytes in all were written; the result's bytes after them stay as lent.
  * Refused: 7 at 0, if the scratch is under VG_SCRATCH_BYTES. Then the first that is met, step by step, and in a step in this order:
  *   12 at the step, if it is the 65th, whatever its bytes are; 1 or 2 at the step, for its mark;
- *   11 at the step, if the stack lacks the types it takes; 12 at the step, if it puts a seventh;
- *   1 to 5 for the type that follows its mark, places in the sheet; 1 or 3 at the step, for a flag byte;
- *   8, 9, 10, 14 or 5 at the step, for its rule.
+ *   11 at the step, if the stack lacks the types it takes; 12 at the step, if it puts a seventh, also by a name, whatever that is;
+ *   1 or 3 at the step, for a flag byte, or for a name, byte by byte; 1 to 5 for the type that follows, places in the sheet;
+ *   8, 9, 10, 14 or 5 at the step, for its rule; 15 at the step, for a use of a name that no step before it declares; 16 at the step, for
+ *   a declaration of one more than VG_MAX_NAMES different names.
  *   At last 7 at the sheet's length, exactly if the types left do not fit into the result. VG_TYPE_BYTES for each of them are always
  *   enough and, since at most VG_MAX_STACK are left, VG_SHEET_RESULT_BYTES for every sheet.
  * A refusal leaves the whole result as lent. Whatever is answered, bytes 0 to VG_SCRATCH_BYTES - 1 of the scratch are then 0 and

@@ -534,6 +534,14 @@ static void steps(void)
     }
 }
 
+/* A declaration of 11 bytes, and sixteen of them, of the names a to p. */
+#define DECLARED(letter) DECLARE "01" letter SCALAR NUM
+#define A_TO_D DECLARED("61") DECLARED("62") DECLARED("63") DECLARED("64")
+#define E_TO_H DECLARED("65") DECLARED("66") DECLARED("67") DECLARED("68")
+#define I_TO_L DECLARED("69") DECLARED("6a") DECLARED("6b") DECLARED("6c")
+#define M_TO_P DECLARED("6d") DECLARED("6e") DECLARED("6f") DECLARED("70")
+#define A_TO_P A_TO_D E_TO_H I_TO_L M_TO_P
+
 static void sheets(void)
 {
     const char *good = PUT ONE("03") NUM PUT UNKNOWN_ONE NUM PERVADE "00";
@@ -544,6 +552,10 @@ static void sheets(void)
     expect("a result too short", refused(check(good, 14), VG_TOO_SHORT, 37) && cleared());
     expect("a mismatch", refused(check(PUT ONE("03") NUM PUT ONE("04") NUM PERVADE "00", room), VG_UNPERVADED, 34) && cleared());
     expect("a row first", refused(check("5257", room), VG_UNDERFLOW, 0) && cleared());
+    const char *named = DECLARE NAME_A ONE("03") NUM USE NAME_A PUT UNKNOWN_ONE NUM PERVADE "00";
+    expect("a table by its name", is(check(named, room), VG_VALUE, 0, 0, 1, 15) && memcmp(result, left.data, 15) == 0 && as_lent(15) && cleared());
+    expect("a name that is not declared", refused(check(USE NAME_A, room), VG_UNDECLARED, 0) && cleared());
+    expect("a seventeenth name", refused(check(A_TO_P DECLARED("71"), room), VG_TOO_MANY_NAMES, 176) && cleared());
     expect("an empty sheet", is(check("", 0), VG_VALUE, 0, 0, 0, 0) && as_lent(0) && cleared());
 }
 
@@ -688,7 +700,7 @@ static void make_steps(size_t count)
 
 static void steps_on_a_full_stack(void)
 {
-    static const char *const more[] = {ROW, PUT SCALAR NUM, "52", "5858"};
+    static const char *const more[] = {ROW, PUT SCALAR NUM, DECLARE NAME_A SCALAR NUM, USE NAME_A, "52", "5858"};
     char what[64];
     make_steps(VG_MAX_STEPS - 1);
     and_refused("a seventh put as the 64th step", PUT SCALAR NUM, VG_OVERFLOW);
@@ -719,6 +731,23 @@ static const refused_sheet refused_sheets[] = {
     {ROW, VG_UNDERFLOW, 0},
     {PUT SCALAR NUM JOIN, VG_UNDERFLOW, 9},
     {PUT ONE("03") NUM VALIDATION SCALAR NUM, VG_WRONG_COUNT, 17},
+    {USE, VG_ENDED, 0},
+    {DECLARE NAME_A, VG_ENDED, 4},
+    {DECLARE NAME_A PUT, VG_UNMARKED, 4},
+    {USE "00", VG_OUT_OF_RANGE, 0},
+    {DECLARE "11", VG_OUT_OF_RANGE, 0},
+    {DECLARE "0109", VG_OUT_OF_RANGE, 0},
+    {DECLARE NAME_A "534801ff 0100000000002000" NUM, VG_OVERSIZED, 4},
+    {DECLARE NAME_A TWO_BOXES TWO_BOXES TWO_BOXES TWO_BOXES, VG_TOO_MANY, 84},
+    {DECLARE NAME_A SCALAR NUM ROW, VG_UNDERFLOW, 11},
+    {DECLARE NAME_A SCALAR NUM USE NAME_A JOIN, VG_UNDERFLOW, 15},
+    {DECLARE NAME_A ONE("03") NUM USE NAME_A DECLARE NAME_A ONE("04") NUM USE NAME_A PERVADE "00", VG_UNPERVADED, 46},
+    {USE NAME_A, VG_UNDECLARED, 0},
+    {USE NAME_A DECLARE NAME_A SCALAR NUM, VG_UNDECLARED, 0},
+    {DECLARE NAME_A SCALAR NUM USE NAME_B, VG_UNDECLARED, 11},
+    {PUT SCALAR DEF FIELDS USE "016e", VG_UNDECLARED, 37},
+    {A_TO_P DECLARED("71"), VG_TOO_MANY_NAMES, 176},
+    {A_TO_P DECLARE "0171" "534809", VG_OUT_OF_RANGE, 180},
 };
 static const size_t refused_sheets_made = sizeof refused_sheets / sizeof refused_sheets[0];
 
@@ -727,6 +756,7 @@ static void lent_to_sheets(void)
     expect("six types at once", VG_MAX_STACK == 6 && VG_SHEET_RESULT_BYTES == 29952 && VG_TYPE_BYTES == 4992);
     expect("a type in the scratch", VG_PACKED_BYTES == 4288);
     expect("six types in the scratch", VG_SCRATCH_BYTES == 25728);
+    expect("sixteen names of sixteen bytes", VG_MAX_NAMES == 16 && VG_MAX_NAME == 16);
     begin();
     append_largest(&types_left, 1);
     fresh();
@@ -758,6 +788,7 @@ int main(void)
     steps();
     sheets();
     lent_to_sheets();
+    named_tables();
     worked_types();
     printf("%u calls, %u wrong\n", calls, wrong);
     /* What was printed counts only once it is written. */

@@ -114,6 +114,8 @@ void lend(const char *what, outcome o, size_t result_length, size_t scratch_leng
     expect(text, wrote_left(answer, with_lent(o, result_length, scratch_length)) && zeroed(scratch_length < VG_SCRATCH_BYTES ? 0 : VG_SCRATCH_BYTES));
 }
 
+void lend_exactly(const char *what, outcome o) { lend(what, o, types_left.length, VG_SCRATCH_BYTES); }
+
 void lend_each(const char *what, outcome o)
 {
     const size_t enough = o.types * VG_TYPE_BYTES, exact = types_left.length;

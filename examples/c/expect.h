@@ -38,6 +38,13 @@ bytes followed(bytes b, bytes more);
 #define VALIDATION "5641"
 #define JOIN "4a4e"
 #define ROW "5257"
+#define DECLARE "4e4d"
+#define USE "5553"
+
+/* Names of one letter, as they follow these two. */
+#define NAME_A "0161"
+#define NAME_B "0162"
+#define NAME_Z "017a"
 
 /* ---- answers --------------------------------------------------------------------------------------------------------------- */
 
@@ -53,9 +60,13 @@ int all_are(uint8_t byte, const uint8_t *data, size_t length);
 
 /* ---- sheets ---------------------------------------------------------------------------------------------------------------- */
 
-/* A sheet as it is made, and the types that it leaves, bottom first. There is room for two puts for each place of the stack. */
+/* A declaration of a largest type under a longest name. */
+#define LONGEST_STEP (2 + 1 + VG_MAX_NAME + VG_TYPE_BYTES)
+
+/* A sheet as it is made, and the types that it leaves, bottom first. There is room for two puts for each place of the stack, for a
+ * declaration of each name, and for one step more. */
 typedef struct stretch {
-    uint8_t data[2 * VG_MAX_STACK * (2 + VG_TYPE_BYTES)];
+    uint8_t data[(2 * VG_MAX_STACK + VG_MAX_NAMES + 1) * LONGEST_STEP];
     size_t length;
 } stretch;
 
@@ -87,8 +98,9 @@ outcome with_lent(outcome o, size_t result_length, size_t scratch_length);
 extern uint8_t scratch[2 * VG_SCRATCH_BYTES];
 int cleared(void);
 
-/* Checks what was made with a result and a scratch of so many bytes. */
+/* Checks what was made with a result and a scratch of so many bytes; with exactly the bytes that are written and that are asked for. */
 void lend(const char *what, outcome o, size_t result_length, size_t scratch_length);
+void lend_exactly(const char *what, outcome o);
 
 /* The same with every length at which the answer may turn. VG_TYPE_BYTES for each type left are among them; a scratch that could hold
  * six types as a result does is only a longer one. */
@@ -102,6 +114,9 @@ typedef struct refused_sheet {
 } refused_sheet;
 
 /* ---- checks in files of their own ------------------------------------------------------------------------------------------ */
+
+/* Sheets that declare names for types and use them (named_tables.c). */
+void named_tables(void);
 
 /* Sheets in which types are worked on, come to lie under others and are worked on again (worked_types.c). */
 void worked_types(void);

@@ -1,5 +1,5 @@
 /* Sheets in which types are worked on, come to lie under others, and are worked on again: whatever the scratch keeps of a type, all of
- * it must come back. Then two such sheets at the same time.
+ * it must come back, also of one that was put by a name. Then two such sheets at the same time.
  *
  * No rule is written down here but for shapes that stay nearly as they are; what is left is told from what was put.
  */
@@ -135,10 +135,29 @@ static void append_sized(stretch *s, const sized *t)
     append_all(s, t->scalar->record, t->scalar->length);
 }
 
+/* How they are put: as they are; by one name, which is declared anew for each; by names in turn, as many as there may be. */
+enum naming { UNNAMED, ONE_NAME, NAMES_IN_TURN, NAMINGS };
+static const char *const naming_name[] = {"", ", by one name", ", by names in turn"};
+static enum naming naming;
+
+static bytes next_name(void)
+{
+    static size_t named;
+    bytes name = hex(NAME_A);
+    if (naming == NAMES_IN_TURN) {
+        name.data[1] = (uint8_t)('a' + named++ % VG_MAX_NAMES);
+    }
+    return name;
+}
+
 static void put_sized(const sized *t)
 {
-    append(&made, hex(PUT));
+    const bytes name = next_name();
+    append(&made, naming == UNNAMED ? hex(PUT) : followed(hex(DECLARE), name));
     append_sized(&made, t);
+    if (naming != UNNAMED) {
+        append(&made, followed(hex(USE), name));
+    }
 }
 
 /* [] of a scalar to which the other's, on top of it, is equal or a superset. */
@@ -218,9 +237,6 @@ static void lay_and_leave(enum way way, const sized *t)
     append_sized(&types_left, &left);
 }
 
-/* With exactly the bytes that are asked for and that are written. */
-static void lend_exactly(const char *what, outcome o) { lend(what, o, types_left.length, VG_SCRATCH_BYTES); }
-
 /* ---- under others ---------------------------------------------------------------------------------------------------------- */
 
 /* Shapes with as many sizes as there can be and with none; closed, open, and with closing sizes named. A row of a box does not change
@@ -261,7 +277,7 @@ static void one_under_others(const sized *t, enum way way, size_t below)
         }
     }
     snprintf(what, sizeof what, "%s, %zu and %zu sizes, ", t->scalar->name, t->openings, closings_named(t));
-    snprintf(what + strlen(what), sizeof what - strlen(what), "%s, above %zu", way_name[way], below);
+    snprintf(what + strlen(what), sizeof what - strlen(what), "%s, above %zu%s", way_name[way], below, naming_name[naming]);
     lend_exactly(what, leaves(VG_MAX_STACK));
 }
 
@@ -318,7 +334,7 @@ static void largest_in_all_ways(void)
     }
     for (size_t ways = 0; ways < all; ways++) {
         six_largest(ways);
-        snprintf(what, sizeof what, "six largest types, ways %zu", ways);
+        snprintf(what, sizeof what, "six largest types, ways %zu%s", ways, naming_name[naming]);
         lend_exactly(what, leaves(VG_MAX_STACK));
     }
 }
@@ -409,12 +425,12 @@ static void dig(const digging *d, const scalar *s, size_t ways)
         }
         for (; count > 1; count--) {
             leave(there, count);
-            snprintf(what, sizeof what, "%s, %s down to %zu, ways %zu", s->name, d->name, count, ways);
+            snprintf(what, sizeof what, "%s, %s down to %zu, ways %zu%s", s->name, d->name, count, ways, naming_name[naming]);
             lend_exactly(what, leaves(count));
             dig_one(d, there, count);
         }
         leave(there, count);
-        snprintf(what, sizeof what, "%s, %s down to one, ways %zu", s->name, d->name, ways);
+        snprintf(what, sizeof what, "%s, %s down to one, ways %zu%s", s->name, d->name, ways, naming_name[naming]);
         lend_each(what, leaves(count));
     }
 }
@@ -434,7 +450,7 @@ static void step_on_largest(enum way way, const char *step, size_t count, sized 
     append(&made, hex(step));
     there[count - 1] = top;
     leave(there, count);
-    snprintf(what, sizeof what, "six largest types, %s, then %s", way_name[way], step);
+    snprintf(what, sizeof what, "six largest types, %s%s, then %s", way_name[way], naming_name[naming], step);
     lend_each(what, leaves(count));
 }
 
@@ -455,7 +471,7 @@ static void each_step_on_largest(enum way way)
 
 /* ---- refused above worked types -------------------------------------------------------------------------------------------- */
 
-/* Steps on six largest types; the place is counted from the first of them. */
+/* Steps on six largest types; the place is counted from the first of them. None of these was put by the name z. */
 static const refused_sheet refused_above[] = {
     {"52", VG_ENDED, 0},
     {VALIDATION, VG_ENDED, 2},
@@ -472,6 +488,14 @@ static const refused_sheet refused_above[] = {
     {JOIN JOIN JOIN JOIN JOIN ROW JOIN, VG_UNDERFLOW, 12},
     {PUT SCALAR NUM, VG_OVERFLOW, 0},
     {JOIN PUT SCALAR NUM ROW PUT SCALAR NUM, VG_OVERFLOW, 13},
+    {DECLARE, VG_ENDED, 0},
+    {DECLARE NAME_Z "534809", VG_OUT_OF_RANGE, 4},
+    {DECLARE "00", VG_OUT_OF_RANGE, 0},
+    {USE "00", VG_OVERFLOW, 0},
+    {USE NAME_Z, VG_OVERFLOW, 0},
+    {DECLARE NAME_Z SCALAR NUM USE NAME_Z, VG_OVERFLOW, 11},
+    {JOIN USE NAME_Z, VG_UNDECLARED, 2},
+    {JOIN DECLARE NAME_Z SCALAR NUM USE NAME_Z ROW USE NAME_Z, VG_OVERFLOW, 19},
 };
 static const size_t refused_above_made = sizeof refused_above / sizeof refused_above[0];
 
@@ -480,7 +504,7 @@ static void refused_on_largest(size_t ways)
     char what[512];
     for (const refused_sheet *r = refused_above; r < refused_above + refused_above_made; r++) {
         six_largest(ways);
-        snprintf(what, sizeof what, "six largest types, ways %zu, then %s", ways, r->sheet);
+        snprintf(what, sizeof what, "six largest types, ways %zu%s, then %s", ways, naming_name[naming], r->sheet);
         const size_t place = made.length + r->place;
         append(&made, hex(r->sheet));
         lend_each(what, refuses(r->number, place));
@@ -499,7 +523,7 @@ typedef struct show {
     outcome wanted;
 } show;
 
-static show shows[4];
+static show shows[6];
 static size_t shows_made;
 
 /* The sheet is what was made. */
@@ -524,6 +548,13 @@ static void keep_shows(void)
     keep_show("a sheet that lacks a type", refuses(VG_UNDERFLOW, made.length - 2));
     six_largest(all_by(BY_JOIN, BY_VALIDATION));
     keep_show("a sheet that leaves more than there is room for", leaves(VG_MAX_STACK));
+    naming = ONE_NAME;
+    dig(&diggings[0], most, AS_PUT);
+    keep_show("a sheet that names its types", leaves(1));
+    naming = UNNAMED;
+    begin();
+    append(&made, hex(USE NAME_A));
+    keep_show("a sheet that has not the other's names", refuses(VG_UNDECLARED, 0));
 }
 
 /* One of the two: its show, its part of the block, and how many answers were wrong. A thread counts for itself. */
@@ -580,11 +611,9 @@ static void two_at_once(void)
     }
 }
 
-void worked_types(void)
+/* All but two sheets at once. */
+static void each_in_its_place(void)
 {
-    keep_scalars();
-    six_largest(0);
-    expect("six largest types", types_left.length == VG_SHEET_RESULT_BYTES);
     each_under_others();
     largest_in_all_ways();
     for (size_t ways = 0; ways < BY_PERVADING; ways++) {
@@ -600,5 +629,16 @@ void worked_types(void)
     refused_on_largest(all_by(BY_VALIDATION, BY_VALIDATION));
     refused_on_largest(all_by(BY_PERVADING, BY_VALIDATION));
     refused_on_largest(all_by(BY_JOIN, AS_PUT));
+}
+
+void worked_types(void)
+{
+    keep_scalars();
+    six_largest(0);
+    expect("six largest types", types_left.length == VG_SHEET_RESULT_BYTES);
+    for (naming = UNNAMED; naming < NAMINGS; naming++) {
+        each_in_its_place();
+    }
+    naming = UNNAMED;
     two_at_once();
 }

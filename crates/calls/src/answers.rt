@@ -8,12 +8,13 @@ use text::put_bytes;
 use text::put_decimal;
 use text::put_hex;
 use velgrodis::Answer as Crossed;
+use velgrodis::NO_INDEX;
 use velgrodis::NOTHING;
 use velgrodis::VALUE;
 use velgrodis::Validation;
 
 // What a line comes to. Bytes, and those of a stretch, a type, a text or a whole line, are the first of the result; a size is all ones for
-// unknown; `reading` says which input a validation was reading; a fault is one of `fault`.
+// unknown; incompatible shapes have the index that is named; `reading` says which input a validation was reading; a fault is one of `fault`.
 pub enum Reply {
     Bytes(usize),
     Stretch {
@@ -21,6 +22,7 @@ pub enum Reply {
         length: usize,
     },
     Number(u64),
+    Incompatible(u64),
     Size(u64),
     Bits(u64),
     Typed(usize),
@@ -69,6 +71,17 @@ pub(crate) fn counted(a: Crossed) -> Reply {
     without_value(a)
 }
 
+// The test of two shapes: a yes alone, a no with its index.
+pub(crate) fn shapes_tested(a: Crossed) -> Reply {
+    if a.kind == VALUE {
+        if a.first == 0 {
+            return Reply::Incompatible(a.second);
+        }
+        return Reply::Number(a.first);
+    }
+    without_value(a)
+}
+
 pub(crate) fn sized(a: Crossed) -> Reply {
     if a.kind == VALUE {
         return Reply::Size(a.first);
@@ -110,6 +123,7 @@ pub(crate) fn say(answer: Reply, result: &[u8], out: &mut [u8], at: usize) -> us
         Reply::Bytes(n) => say_bytes(part(result, 0, n), out, at),
         Reply::Stretch { start, length } => say_stretch(start, part(result, 0, length), out, at),
         Reply::Number(n) => say_number(n, out, at),
+        Reply::Incompatible(index) => say_incompatible(index, out, at),
         Reply::Size(n) => say_size(n, out, at),
         Reply::Bits(bits) => say_bits(bits, out, at),
         Reply::Typed(n) => say_typed(part(result, 0, n), out, at),
@@ -154,6 +168,13 @@ fn say_stretch(start: usize, bytes: &[u8], out: &mut [u8], at: usize) -> usize {
 fn say_hex(bytes: &[u8], out: &mut [u8], at: usize) -> usize {
     let end = after(put_hex(bytes, &mut *out, at));
     put(b"\n", out, end)
+}
+
+fn say_incompatible(index: u64, out: &mut [u8], at: usize) -> usize {
+    if index == NO_INDEX {
+        return put(b"ok 0 none\n", out, at);
+    }
+    put_number(b"ok 0 ", index, b"\n", out, at)
 }
 
 fn say_size(n: u64, out: &mut [u8], at: usize) -> usize {

@@ -3,6 +3,7 @@ use crate::answers::Reply;
 use crate::answers::compared;
 use crate::answers::counted;
 use crate::answers::delivered;
+use crate::answers::shapes_tested;
 use crate::answers::validated;
 use crate::arguments::Both;
 use crate::arguments::two_hex;
@@ -51,7 +52,7 @@ fn call(k: usize, a: &[u8], b: &[u8], result: &mut [u8]) -> Reply {
     match k {
         0 => delivered(vg_merge(a, b, result)),
         1 => delivered(vg_join_shapes(a, b, result)),
-        2 => counted(vg_compatible_shapes(a, b)),
+        2 => shapes_tested(vg_compatible_shapes(a, b)),
         3 => counted(vg_superset(a, b)),
         4 => counted(vg_compatible_scalars(a, b)),
         5 => counted(vg_compatible_with_boxes(a, b)),

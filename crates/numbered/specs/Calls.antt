@@ -23,7 +23,8 @@ use Rattle.join.specs.Calls.{joinCall as joinTypesCall}
 use Rattle.val.specs.Values.{valueTy, valueSpec, valueScalar, numsScalar, valueRowCount, valueRank, valueAsDim, valueAsDims, valueRow, valueFirstRow, valueLastRow, deliverRow}
 use Rattle.velgrodis.specs.declared.Answer.{Answer}
 use Rattle.velgrodis.specs.declared.Validation.{Validation}
-use Rattle.velgrodis.specs.Answers.{counted, tested, sized, sizedOrNone, compared, found, Handed, handed, written, listed, deliverSizes, RowHanded, rowHanded, rowed, ValidationHanded, validationHanded, validationOf, Returned, returned, checked}
+use Rattle.velgrodis.specs.Answers.{counted, tested, shapesTested, sized, sizedOrNone, compared, found}
+use Rattle.velgrodis.specs.Answers.{Handed, handed, written, listed, deliverSizes, RowHanded, rowHanded, rowed, ValidationHanded, validationHanded, validationOf, Returned, returned, checked}
 use Rattle.velgrodis.specs.Codes.{pervadeFlagged, sided, handedIn}
 
 -- ---- the calls
@@ -87,7 +88,7 @@ replyTo (vg-dim-compatible a b) = tested (compatibleCall a b)
 replyTo (vg-dim-row-compatible a b) = tested (rowCompatibleCall a b)
 replyTo (vg-merge a b result) = beside (written (deliver (mergeCall a b) result))
 replyTo (vg-join-shapes a b result) = beside (written (deliver (joinShapesCall a b) result))
-replyTo (vg-compatible-shapes a b) = tested (compatibleShapesCall a b)
+replyTo (vg-compatible-shapes a b) = shapesTested (compatibleShapesCall a b)
 replyTo (vg-row-shape t result) = beside (written (deliver (rowCall t) result))
 replyTo (vg-shape-is-any t) = tested (isAnyCall t)
 replyTo (vg-shape-is-scalar t) = tested (isScalarCall t)

@@ -15,7 +15,7 @@ use Rattle.model.specs.Within.{All}
 use Rattle.format.specs.Records.{writeShape, writeScalar, writeTy}
 use Rattle.format.specs.Outcome.{Outcome, accepted, refused, mapped, bound, both, refusalOf, lone, shapeRecord, scalarRecord}
 use Rattle.rules.specs.Sizes.{Order, less, same, more, cmpDim, cmpDefined, larger, joinDim, compatible, rowCompatible}
-use Rattle.rules.specs.Shapes.{isScalar, isAny, rowCount, rank, rowShape, compatibleShapes, mergeFrom, joinShapes}
+use Rattle.rules.specs.Shapes.{isScalar, isAny, rowCount, rank, rowShape, Compatibility, saysYes, saysNo, compatibleWith, mergeFrom, joinShapes}
 use Rattle.rules.specs.Order.{compare}
 use Rattle.rules.specs.Scalars.{supersetOf, compatibleScalars, compatibleWithBoxes, union, unrefine}
 use Rattle.rules.specs.KindTable.{kindTable}
@@ -36,7 +36,7 @@ use Rattle.shape_calls.specs.Calls.{onShapes, mergeCall, joinShapesCall, rowCal
 use Rattle.join.specs.Calls.{joinCall as joinTypesCall}
 use Rattle.val.specs.Values.{valueTy, valueSpec, valueScalar, numsScalar, valueRowCount, valueRank, valueAsDim, valueAsDims, valueRow, valueFirstRow, valueLastRow}
 use Rattle.velgrodis.specs.declared.Answer.{Answer}
-use Rattle.velgrodis.specs.Answers.{orNothing, numbered, counted, told, tested, dimmed, sized, sizedOrNone, ordered, compared, stretched, found, validationOf}
+use Rattle.velgrodis.specs.Answers.{orNothing, numbered, counted, told, tested, yesOrNo, shapesTested, dimmed, sized, sizedOrNone, ordered, compared, stretched, found, validationOf}
 use Rattle.velgrodis.specs.Codes.{pervadeFlagged, sided, handedIn}
 use Rattle.demand.specs.Numbers.{ofLone, ofSheetCall, RefusedWith}
 use Rattle.demand.specs.Numbered.{among-more, accepted-with, refused-with, lone-numbered, mapped-numbered, call-numbered}
@@ -55,6 +55,11 @@ ordered-not-refused less = λ e. absurd (omega arith)
 ordered-not-refused same = λ e. absurd (omega arith)
 ordered-not-refused more = λ e. absurd (omega arith)
 
+yesOrNo-not-refused : (c : Compatibility) → NotRefused (yesOrNo c)
+yesOrNo-not-refused saysYes = λ e. absurd (omega arith)
+yesOrNo-not-refused (saysNo none) = λ e. absurd (omega arith)
+yesOrNo-not-refused (saysNo (some i)) = λ e. absurd (omega arith)
+
 orNothing-not-refused : {A : Type 0} (f : A → Answer) → ((a : A) → NotRefused (f a)) → (o : Option A) → NotRefused (orNothing f o)
 orNothing-not-refused f g none = λ e. absurd (omega arith)
 orNothing-not-refused f g (some a) = g a
@@ -68,6 +73,9 @@ module _ (ns : List ℕ) where
 
   tested-only : (o : Outcome Bool) → RefusedWith ns o → RefusesOnly ns (tested o)
   tested-only o h = answered-only ns told (λ t e. absurd (omega arith)) o h
+
+  shapesTested-only : (o : Outcome Compatibility) → RefusedWith ns o → RefusesOnly ns (shapesTested o)
+  shapesTested-only o h = answered-only ns yesOrNo yesOrNo-not-refused o h
 
   sized-only : (o : Outcome Dim) → RefusedWith ns o → RefusesOnly ns (sized o)
   sized-only o h = answered-only ns dimmed (λ d e. absurd (omega arith)) o h
@@ -209,7 +217,7 @@ call-refuses-only (vg-dim-compatible a b) = tested-only ofSizes (compatibleCall 
 call-refuses-only (vg-dim-row-compatible a b) = tested-only ofSizes (rowCompatibleCall a b) (sizes-with rowCompatible a b)
 call-refuses-only (vg-merge a b result) = written-only ofWritten refl (mergeCall a b) result (of-shapes lone-written (λ s t. writeShape (mergeFrom s t)) a b)
 call-refuses-only (vg-join-shapes a b result) = written-only ofWritten refl (joinShapesCall a b) result (of-shapes lone-written (λ s t. writeShape (joinShapes s t)) a b)
-call-refuses-only (vg-compatible-shapes a b) = tested-only ofLone (compatibleShapesCall a b) (of-shapes lone-lone compatibleShapes a b)
+call-refuses-only (vg-compatible-shapes a b) = shapesTested-only ofLone (compatibleShapesCall a b) (of-shapes lone-lone compatibleWith a b)
 call-refuses-only (vg-row-shape t result) = written-only ofWritten refl (rowCall t) result (of-shape lone-written (λ s. writeShape (rowShape s)) t)
 call-refuses-only (vg-shape-is-any t) = tested-only ofLone (isAnyCall t) (of-shape lone-lone isAny t)
 call-refuses-only (vg-shape-is-scalar t) = tested-only ofLone (isScalarCall t) (of-shape lone-lone isScalar t)

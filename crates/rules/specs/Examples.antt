@@ -9,7 +9,8 @@ use Rattle.model.specs.Types.{Dim, static, unknown, Shape, shape, Kind, bool, i
 use Rattle.format.specs.Records.{code}
 use Rattle.format.specs.Outcome.{accepted, refused}
 use Rattle.rules.specs.Sizes.{less, more, cmpDim, cmpDefined, larger, compatible, rowCompatible, joinDim}
-use Rattle.rules.specs.Shapes.{scalarShape, anyShape, isScalar, rowCount, rank, rowShape, compatibleDims, compatibleShapes, mergeDims, mergeClosing, mergeFrom, joinDims, joinLonger, joinEnds, joinClosing, joinShapes}
+use Rattle.rules.specs.Shapes.{scalarShape, anyShape, isScalar, rowCount, rank, rowShape, saysYes, saysNo, failingFrom, compatibleDims, compatibleWith, compatibleShapes}
+use Rattle.rules.specs.Shapes.{mergeDims, mergeClosing, mergeFrom, joinDims, joinLonger, joinEnds, joinClosing, joinShapes}
 use Rattle.rules.specs.Order.{codeOf, cmpList, cmpShape, cmpName, cmpScalar, compare}
 use Rattle.rules.specs.Scalars.{supersetCodes, supersetOf, compatibleCodes, compatibleScalars, compatibleWithBoxes, union, unrefineKind, unrefine}
 use Rattle.rules.specs.Pervade.{againstAbsent, together, walk, pervadeClosing, pervade}
@@ -69,6 +70,31 @@ rows-counted = (refl, refl, refl)
 pub rank-both : rank (shape (static 2 ∷ []) (some (static 3 ∷ static 4 ∷ []))) ≡ 3
 unfolding rank
 rank-both = refl
+
+-- `compatible_with` (document 02, 2026-07): of several indices that fail the greatest is named, be it the last or not: 2 for [2 3 4] with [2 5 6],
+-- 1 for [5 3 4] with [2 6 4], 0 for [2 3] with [5 1].
+pub greatest-named :
+    (compatibleWith (statics (2 ∷ 3 ∷ 4 ∷ [])) (statics (2 ∷ 5 ∷ 6 ∷ [])) ≡ saysNo (some 2))
+    × (compatibleWith (statics (5 ∷ 3 ∷ 4 ∷ [])) (statics (2 ∷ 6 ∷ 4 ∷ [])) ≡ saysNo (some 1))
+    × (compatibleWith (statics (2 ∷ 3 ∷ [])) (statics (5 ∷ 1 ∷ [])) ≡ saysNo (some 0))
+unfolding compatible rowCompatible failingFrom compatibleDims compatibleWith
+greatest-named = (refl, refl, refl)
+
+-- Where the counts of opening sizes differ none is named: not of [2] with [5 3], of which index 0 would fail, nor of [2..3] with [2 3].
+pub none-named :
+    (compatibleWith (statics (2 ∷ [])) (statics (5 ∷ 3 ∷ [])) ≡ saysNo none)
+    × (compatibleWith (shape (static 2 ∷ []) (some (static 3 ∷ []))) (statics (2 ∷ 3 ∷ [])) ≡ saysNo none)
+unfolding compatible rowCompatible failingFrom compatibleDims compatibleWith
+none-named = (refl, refl)
+
+-- Yes to [] with itself, to [2 3] with [1 ?], and to [2..3] with [2..4] and with [2], since closing sizes are not looked at.
+pub yes-said :
+    (compatibleWith scalarShape scalarShape ≡ saysYes)
+    × (compatibleWith (statics (2 ∷ 3 ∷ [])) (closed (static 1 ∷ unknown ∷ [])) ≡ saysYes)
+    × (compatibleWith (shape (static 2 ∷ []) (some (static 3 ∷ []))) (shape (static 2 ∷ []) (some (static 4 ∷ []))) ≡ saysYes)
+    × (compatibleWith (shape (static 2 ∷ []) (some (static 3 ∷ []))) (statics (2 ∷ [])) ≡ saysYes)
+unfolding compatible rowCompatible failingFrom compatibleDims compatibleWith
+yes-said = (refl, refl, refl, refl)
 
 -- Closing sizes merge from the front too, the larger at a shared index: [..2 3] and [..5] give [..5 3].
 pub merge-closing :
@@ -169,13 +195,13 @@ pub union-later :
     (union (boxOf (of int (statics (2 ∷ [])))) (boxOf (of num (statics (2 ∷ [])))) ≡ boxOf (of num (statics (2 ∷ []))))
     × (union (boxOf (of num (statics (2 ∷ [])))) (boxOf (of int (statics (2 ∷ [])))) ≡ boxOf (of num (statics (2 ∷ []))))
     × (union (boxOf (of num (closed (unknown ∷ [])))) (boxOf (of num (statics (1 ∷ [])))) ≡ boxOf (of num (closed (unknown ∷ []))))
-unfolding cmpDim compatible rowCompatible compatibleDims compatibleShapes code codeOf cmpList cmpShape cmpScalar compare supersetCodes compatibleCodes compatibleScalars compatibleWithBoxes union
+unfolding cmpDim compatible rowCompatible failingFrom compatibleDims compatibleWith compatibleShapes code codeOf cmpList cmpShape cmpScalar compare supersetCodes compatibleCodes compatibleScalars compatibleWithBoxes union
 union-later = (refl, refl, refl)
 
 pub union-unlike :
     (union (boxOf (of num scalarShape)) (boxOf (of char scalarShape)) ≡ boxAny)
     × (union (boxOf (of num (statics (2 ∷ [])))) (boxOf (of num (statics (3 ∷ [])))) ≡ boxAny)
-unfolding compatible rowCompatible compatibleDims compatibleShapes code codeOf supersetCodes compatibleCodes compatibleScalars compatibleWithBoxes union
+unfolding compatible rowCompatible failingFrom compatibleDims compatibleWith compatibleShapes code codeOf supersetCodes compatibleCodes compatibleScalars compatibleWithBoxes union
 union-unlike = (refl, refl)
 
 -- Complex stays, Ascii becomes Char, Bool becomes Num; in boxes too.

@@ -10,6 +10,7 @@ pub mod Views
 pub mod Examples
 pub mod Lists
 pub mod SizesLaws
+pub mod CompatibleLaws
 pub mod ShapesLaws
 pub mod ShapesSteps
 pub mod PervadeLaws

@@ -11,7 +11,7 @@ use Rattle.rules.specs.Shapes.{compatibleShapes}
 use Rattle.rules.specs.Order.{codeOf, compare}
 use Rattle.rules.specs.Scalars.{supersetCodes, compatibleCodes, supersetOf, compatibleScalars, compatibleWithBoxes, wider, laterTy, union, unrefineKind, unrefine, unrefineFields}
 use Rattle.rules.specs.SizesLaws.{laterBy-either}
-use Rattle.rules.specs.ShapesLaws.{compatibleShapes-refl}
+use Rattle.rules.specs.CompatibleLaws.{compatibleShapes-refl}
 
 -- ---- superset and compatible
 

@@ -1,9 +1,10 @@
--- Shapes (document 01, "shape.rs": the methods of `DynShape` and its `BitOr`): row count, rank, row, `compatible_with`, merge and
--- join. Lists of sizes go index by index from the front; only a join's closing sizes are compared from the end.
-use Prim.Native.Nat.{ℕ, _+_, max}
-use mathlib.Core.Bool.{Bool, true, false, _&&_}
-use mathlib.Core.List.{List, [], _∷_, reverse}
+-- Shapes (document 01, "shape.rs": the methods of `DynShape` and its `BitOr`; of `compatible_with` also document 02, 2026-07): row count, rank,
+-- row, `compatible_with`, merge and join. Indices count from the front; only a join's closing sizes are matched from the end.
+use Prim.Native.Nat.{ℕ, suc, _+_, max}
+use mathlib.Core.Bool.{Bool, true, false, cond}
+use mathlib.Core.List.{List, [], _∷_, foldr, reverse}
 use mathlib.Core.Option.{Option, none, some}
+use lib.Dec.{eqb}
 use lib.ListN.{length, take}
 use Rattle.model.specs.Types.{Dim, static, unknown, Shape, shape}
 use Rattle.format.specs.Records.{listOf}
@@ -49,18 +50,44 @@ rowShape (shape [] (some (d ∷ c))) = shape [] (some c)
 rowShape (shape [] (some [])) = shape [] (some [])
 rowShape (shape [] none) = shape [] none
 
--- ---- `compatible_with`
+-- ---- `compatible_with`, of opening lists
 
--- Equal counts, and at each index equal, or either 1 or ?.
-unfoldable pub compatibleDims : List Dim → List Dim → Bool
-compatibleDims [] [] = true
-compatibleDims [] (e ∷ p) = false
-compatibleDims (d ∷ o) [] = false
-compatibleDims (d ∷ o) (e ∷ p) = rowCompatible d e && compatibleDims o p
+-- What the test says: yes; or no, with the index that it names, or with none.
+pub data Compatibility : Type 0 where
+  saysYes : Compatibility
+  saysNo : Option ℕ → Compatibility
+
+-- The indices that fail, where the first sizes stand at index i: all but those with sizes that are equal, or either 1 or ?.
+unfoldable pub failingFrom : ℕ → List Dim → List Dim → List ℕ
+failingFrom i [] p = []
+failingFrom i (d ∷ o) [] = []
+failingFrom i (d ∷ o) (e ∷ p) = cond (rowCompatible d e) (failingFrom (suc i) o p) (i ∷ failingFrom (suc i) o p)
+
+-- The greatest of some numbers.
+abbrev pub greatest : List ℕ → Option ℕ
+greatest [] = none
+greatest (n ∷ ns) = some (foldr max n ns)
+
+-- Yes if no index fails; else no, with the greatest that does.
+abbrev pub yesUnless : Option ℕ → Compatibility
+yesUnless none = saysYes
+yesUnless (some i) = saysNo (some i)
+
+-- Equal counts, and no index fails. With a no it names the greatest index that fails, or none where the counts differ.
+unfoldable pub compatibleDims : List Dim → List Dim → Compatibility
+compatibleDims o p = cond (eqb (length o) (length p)) (yesUnless (greatest (failingFrom 0 o p))) (saysNo none)
 
 -- Closing sizes are not looked at.
+unfoldable pub compatibleWith : Shape → Shape → Compatibility
+compatibleWith (shape o c) (shape p d) = compatibleDims o p
+
+abbrev pub isYes : Compatibility → Bool
+isYes saysYes = true
+isYes (saysNo i) = false
+
+-- What relies on the test, `compatible_with_boxes` and `union`, goes by its yes.
 unfoldable pub compatibleShapes : Shape → Shape → Bool
-compatibleShapes (shape o c) (shape p d) = compatibleDims o p
+compatibleShapes s t = isYes (compatibleWith s t)
 
 -- ---- merge, `merge_from`
 

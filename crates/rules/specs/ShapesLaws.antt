@@ -1,16 +1,14 @@
 -- Laws about shapes: how long each list rule's result is, and that row, merge and join keep to the limits.
-use Prim.Native.Nat.{suc, max, min}
+use Prim.Native.Nat.{max, min}
 use native.Mathlib.Omega.{arith}
-use mathlib.Core.Bool.{Bool, true, false, _&&_}
 use mathlib.Core.List.{List, [], _∷_, reverse}
 use mathlib.Core.Option.{Option, none, some}
-use mathlib.Core.Path.{_≡_, refl, ap}
+use mathlib.Core.Path.{_≡_}
 use lib.ListN.{length, length-take, length-reverse}
 use Rattle.model.specs.Types.{Dim, unknown, Shape, shape}
 use Rattle.model.specs.Within.{All, Each, DimWithin, DimsWithin, ShapeWithin}
-use Rattle.rules.specs.Sizes.{rowCompatible}
-use Rattle.rules.specs.Shapes.{rowShape, compatibleDims, compatibleShapes, mergeDims, mergeClosing, mergeFrom, joinDims, joinLonger, joinEnds, joinClosing, joinShapes}
-use Rattle.rules.specs.SizesLaws.{larger-within, rowCompatible-refl, joinDim-within}
+use Rattle.rules.specs.Shapes.{rowShape, mergeDims, mergeClosing, mergeFrom, joinDims, joinLonger, joinEnds, joinClosing, joinShapes}
+use Rattle.rules.specs.SizesLaws.{larger-within, joinDim-within}
 use Rattle.rules.specs.Lists.{all-take, all-reverse}
 
 -- ---- row
@@ -21,28 +19,6 @@ rowShape-within (shape (d ∷ o) c) h = ((omega (arith, h .0 .0), h .0 .1 .1), h
 rowShape-within (shape [] (some (d ∷ c))) h = (h .0, (omega (arith, h .1 .0), h .1 .1 .1))
 rowShape-within (shape [] (some [])) h = h
 rowShape-within (shape [] none) h = h
-
--- ---- `compatible_with`
-
-pub compatible-counts : (o p : List Dim) → compatibleDims o p ≡ true → length o ≡ length p
-unfolding compatibleDims
-compatible-counts [] [] h = refl
-compatible-counts [] (e ∷ p) h = cc
-compatible-counts (d ∷ o) [] h = cc
-compatible-counts (d ∷ o) (e ∷ p) h = ap suc (go (rowCompatible d e) (compatible-counts o p) h)
-  where
-    go : (t : Bool) → (compatibleDims o p ≡ true → length o ≡ length p) → (t && compatibleDims o p) ≡ true → length o ≡ length p
-    go true f h = f h
-    go false f h = cc
-
-pub compatibleDims-refl : (o : List Dim) → compatibleDims o o ≡ true
-unfolding compatibleDims
-compatibleDims-refl [] = refl
-compatibleDims-refl (d ∷ o) = rw (rowCompatible-refl d, compatibleDims-refl o)
-
-pub compatibleShapes-refl : (s : Shape) → compatibleShapes s s ≡ true
-unfolding compatibleShapes
-compatibleShapes-refl (shape o c) = compatibleDims-refl o
 
 -- ---- merge
 

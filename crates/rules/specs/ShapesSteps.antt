@@ -1,33 +1,20 @@
 -- What a loop over the indices needs of the list rules of shapes: one index, then the indices after it (`..-step`), the same
 -- seen as the result's element (`..-at`), and what is left of a result after some indices (`..-drop`).
-use Prim.Native.Nat.{ℕ, zero, suc, _-_, _≤_, _<_, max}
+use Prim.Native.Nat.{ℕ, zero, suc, _-_, _<_, max}
 use native.Mathlib.Omega.{arith}
-use mathlib.Core.Bool.{Bool, true, false, _&&_, cond}
+use mathlib.Core.Bool.{Bool, true, false, cond}
 use mathlib.Core.List.{List, [], _∷_, reverse}
 use mathlib.Core.Option.{Option, none, some}
 use mathlib.Core.Path.{_≡_, refl, sym}
-use lib.ListN.{length, drop, getD, getElem?, length-reverse, drop-of-length-le, List·getD-eq-default}
+use lib.ListN.{length, drop, getD, getElem?, length-reverse, List·getD-eq-default}
 use lib.Dec.{leb}
 use lib.Seq.{drop-nil, getD-take}
 use borrow.Author.Tests.{leb-true, leb-false, le-leb}
 use Rattle.model.specs.Types.{Dim, unknown}
-use Rattle.rules.specs.Sizes.{larger, rowCompatible, joinDim}
-use Rattle.rules.specs.Shapes.{compatibleDims, mergeDims, joinDims, joinLonger, joinEnds}
+use Rattle.rules.specs.Sizes.{larger, joinDim}
+use Rattle.rules.specs.Shapes.{mergeDims, joinDims, joinLonger, joinEnds}
 use Rattle.rules.specs.SizesLaws.{joinDim-unknown}
 use Rattle.rules.specs.Lists.{getD-reverse}
-
--- ---- `compatible_with`
-
-pub compatible-step : (i : ℕ) (o p : List Dim) (z : Dim) → i < length o → i < length p → compatibleDims (drop i o) (drop i p) ≡ (rowCompatible (getD o i z) (getD p i z) && compatibleDims (drop (suc i) o) (drop (suc i) p))
-unfolding compatibleDims
-compatible-step i [] p z h k = absurd (omega arith)
-compatible-step i (d ∷ o) [] z h k = absurd (omega arith)
-compatible-step zero (d ∷ o) (e ∷ p) z h k = refl
-compatible-step (suc i) (d ∷ o) (e ∷ p) z h k = compatible-step i o p z (omega arith) (omega arith)
-
-pub compatible-end : (i : ℕ) (o p : List Dim) → length o ≤ i → length p ≤ i → compatibleDims (drop i o) (drop i p) ≡ true
-unfolding compatibleDims
-compatible-end i o p h k = rw (drop-of-length-le o {i = i} h, drop-of-length-le p {i = i} k)
 
 -- ---- merge
 

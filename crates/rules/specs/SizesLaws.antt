@@ -1,15 +1,22 @@
--- Laws about two sizes: their order, the larger of them, and that neither the larger nor the join passes the largest size.
+-- Laws about two sizes: their order, the larger of them, when they are compatible, and that neither the larger nor the join passes the largest size.
 use Prim.Native.Nat.{ℕ, _<_}
 use native.Mathlib.Omega.{arith}
-use mathlib.Core.Bool.{Bool, true, false, cond}
+use mathlib.Core.Bool.{Bool, true, false, _||_, cond}
 use mathlib.Core.Path.{_≡_, refl, sym, ap}
 use lib.Dec.{eqb, ltb}
 use borrow.Author.Tests.{eqb-true, eqb-false, eq-eqb, ne-eqb, lt-ltb, le-ltb, ltb-true, ltb-false}
 use Rattle.model.specs.Types.{Dim, static, unknown}
 use Rattle.model.specs.Within.{DimWithin}
-use Rattle.rules.specs.Sizes.{Order, less, same, more, cmpNumber, laterBy, cmpDim, larger, compatible, rowCompatible, joinDim}
+use Rattle.rules.specs.Sizes.{Order, less, same, more, cmpNumber, laterBy, cmpDim, larger, isOne, compatible, rowCompatible, joinDim}
 
 -- ---- numbers
+
+eqb-comm : (m n : ℕ) → eqb m n ≡ eqb n m
+eqb-comm m n = go (eqb m n) refl
+  where
+    go : (t : Bool) → eqb m n ≡ t → t ≡ eqb n m
+    go true h = sym (eq-eqb n m (sym (eqb-true m n h)))
+    go false h = sym (ne-eqb n m (λ e. eqb-false m n h (sym e)))
 
 pub cmpNumber-less : (m n : ℕ) → m < n → cmpNumber m n ≡ less
 cmpNumber-less m n h = rw (lt-ltb m n h)
@@ -117,6 +124,24 @@ pub rowCompatible-refl : (d : Dim) → rowCompatible d d ≡ true
 unfolding rowCompatible
 rowCompatible-refl d = rw (compatible-refl d)
 
+compatible-comm : (d e : Dim) → compatible d e ≡ compatible e d
+unfolding compatible
+compatible-comm (static m) (static n) = eqb-comm m n
+compatible-comm (static m) unknown = refl
+compatible-comm unknown (static n) = refl
+compatible-comm unknown unknown = refl
+
+pub rowCompatible-comm : (d e : Dim) → rowCompatible d e ≡ rowCompatible e d
+unfolding rowCompatible
+rowCompatible-comm d e = rw (compatible-comm d e) (go (compatible e d) (isOne d) (isOne e))
+  where
+    go : (t x y : Bool) → (t || x || y) ≡ (t || y || x)
+    go true x y = refl
+    go false true true = refl
+    go false true false = refl
+    go false false true = refl
+    go false false false = refl
+
 -- ---- the join
 
 pub joinDim-idem : (d : Dim) → joinDim d d ≡ d
@@ -131,11 +156,11 @@ joinDim-unknown unknown = refl
 
 pub joinDim-comm : (d e : Dim) → joinDim d e ≡ joinDim e d
 unfolding joinDim
-joinDim-comm (static m) (static n) = go (eqb m n) refl
+joinDim-comm (static m) (static n) = rw (eqb-comm n m) (go (eqb m n) refl)
   where
-    go : (t : Bool) → eqb m n ≡ t → cond t (static m) unknown ≡ cond (eqb n m) (static n) unknown
-    go true h = rw (eq-eqb n m (sym (eqb-true m n h))) (ap static (eqb-true m n h))
-    go false h = rw (ne-eqb n m (λ e. eqb-false m n h (sym e)))
+    go : (t : Bool) → eqb m n ≡ t → cond t (static m) unknown ≡ cond t (static n) unknown
+    go true h = ap static (eqb-true m n h)
+    go false h = refl
 joinDim-comm (static m) unknown = refl
 joinDim-comm unknown (static n) = refl
 joinDim-comm unknown unknown = refl

@@ -6,7 +6,7 @@ use mathlib.Core.Path.{_≡_, refl, sym, _∙_, ap, subst}
 use Rattle.model.specs.Types.{Shape, Scalar, plain, boxAny, boxAll, boxDef, Ty, ty, boxOf, scalarOf}
 use Rattle.format.specs.Records.{boxCode}
 use Rattle.rules.specs.Order.{codeOf, compare}
-use Rattle.rules.specs.Shapes.{compatibleShapes}
+use Rattle.rules.specs.Shapes.{Compatibility, compatibleWith, isYes, compatibleShapes}
 use Rattle.rules.specs.Scalars.{compatibleCodes, supersetOf, compatibleScalars, compatibleWithBoxes, wider, laterTy, union}
 use Rattle.rules.specs.ScalarsLaws.{supersetCodes-refl}
 use Rattle.rules.specs.KindTable.{kindCount}
@@ -158,8 +158,19 @@ module _ (a : List ℕ) (i : ℕ) (b : List ℕ) (j d : ℕ) {p q : ℕ} (first 
   pub contents-no : r ≡ false → (t u : Ty) → TypeAt a i d t → TypeAt b j d u → false ≡ compatibleContents t u
   contents-no f t u h g = rw (← scalars t u h g, f)
 
-  pub contents-shapes : r ≡ true → {x : Bool} {o o′ : Shape} → x ≡ compatibleShapes o o′ → Shaped a i o → Shaped b j o′ → (t u : Ty) → TypeAt a i d t → TypeAt b j d u → x ≡ compatibleContents t u
-  contents-shapes f e one two t u h g = rw (← scalars t u h g, f, ← one d t h, ← two d u g) e
+  pub contents-shapes :
+      r ≡ true
+      → {x : Bool} {c : Compatibility} {o o′ : Shape}
+      → c ≡ compatibleWith o o′
+      → x ≡ isYes c
+      → Shaped a i o
+      → Shaped b j o′
+      → (t u : Ty)
+      → TypeAt a i d t
+      → TypeAt b j d u
+      → x ≡ compatibleContents t u
+  unfolding compatibleShapes
+  contents-shapes f e w one two t u h g = rw (← scalars t u h g, f, ← one d t h, ← two d u g) (w ∙ ap isYes e)
 
 module _ (t u : Ty) {r : Bool} (e : r ≡ compatibleContents t u) where
   abbrev Later : Scalar

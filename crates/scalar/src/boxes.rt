@@ -8,6 +8,7 @@ use known::scalar_at;
 use known::shape_at;
 use limits::BOX;
 use shape::compatible_with;
+use shape::is_yes;
 ghost use mathlib.Core.Path.{_≡_};
 ghost use Prim.Native.Nat.{ℕ};
 ghost use Rattle.model.specs.Types.{Scalar, Ty};
@@ -34,7 +35,7 @@ pub fn compatible_contents(a: &[u8], i: usize, b: &[u8], j: usize, depth: u64) -
     ensures { λ r. ⌜ ((t u : Ty) → TypeAt (now (a .entry)) i depth t → TypeAt (now (b .entry)) j depth u → r ≡ compatibleContents t u) ⌝ }
 {
     if compatible_boxes(a, scalar_at(a, i), b, scalar_at(b, j), depth - 1) {
-        return compatible_with(shape_at(a, i), shape_at(b, j));
+        return is_yes(compatible_with(shape_at(a, i), shape_at(b, j)));
     }
     false
 }

@@ -1,23 +1,25 @@
--- Lists of sizes by value, index by index: what stands at one, and a list that is built in front of the rest.
+-- Lists of sizes by value, index by index: what stands at one, a list that is built in front of the rest, and indices that pass, from the end on.
 use Prim.Native.Nat.{ℕ, zero, suc, _+_, _-_, _≤_, _<_, max, min}
 use native.Mathlib.Omega.{arith}
 use native.Mathlib.Numerals.{add-one, one-add}
-use mathlib.Core.Bool.{Bool, true, false, not, _&&_}
+use mathlib.Core.Bool.{Bool, true, false, not}
 use mathlib.Core.List.{List, [], _∷_, _++_, map}
 use mathlib.Core.Option.{Option, none, some}
 use mathlib.Core.Path.{_≡_, refl, sym, _∙_, ap}
+use lib.Dec.{eqb}
 use lib.ListN.{length, take, drop, getD, set, getElem?, length-drop}
 use lib.Seq.{take-suc, take-length, getD-drop}
-use borrow.Author.Tests.{le-leb, lt-leb, not-true, not-false}
+use borrow.Author.Tests.{eqb-true, eqb-false, le-leb, lt-leb, not-true, not-false}
 use Rattle.model.specs.Types.{Dim, unknown}
 use Rattle.format.specs.Records.{dimOf}
 use Rattle.record.specs.Answers.{dimsOf}
 use Rattle.record.specs.declared.Dims.{Dims}
 use Rattle.record.proofs.ByValue.{size-at, one-more}
 use Rattle.rules.specs.Sizes.{larger, rowCompatible, joinDim}
-use Rattle.rules.specs.Shapes.{compatibleDims, mergeDims, joinDims, joinEnds}
-use Rattle.rules.specs.ShapesLaws.{compatible-counts, merge-length, join-length, joinEnds-length}
-use Rattle.rules.specs.ShapesSteps.{compatible-step, mergeAt, merge-at, join-at, fromEnd, joinEnds-at}
+use Rattle.rules.specs.Shapes.{saysYes, saysNo, compatibleDims, mergeDims, joinDims, joinEnds}
+use Rattle.rules.specs.CompatibleLaws.{Passes, is-so-once}
+use Rattle.rules.specs.ShapesLaws.{merge-length, join-length, joinEnds-length}
+use Rattle.rules.specs.ShapesSteps.{mergeAt, merge-at, join-at, fromEnd, joinEnds-at}
 use Rattle.rules.specs.Lists.{getElem?-in}
 
 -- ---- what stands at an index
@@ -94,21 +96,29 @@ rest-none (d ∷ l) e = absurd (omega arith)
 pub rest-more : (l : List Dim) (sizes : List ℕ) (i v : ℕ) → i < length sizes → i + 1 < length l → dimOf v ≡ getD l (i + 1) unknown → Built (drop 1 l) sizes i → Built (drop 1 l) (set sizes i v) (i + 1)
 rest-more l sizes i v room h e = build-more (drop 1 l) sizes i v (omega (arith, length-drop 1 l)) room (getD-drop 1 l i unknown ∙ rw (one-add, ← (add-one i)) (sym e))
 
--- ---- `compatible_with`: what is left at an index decides
+-- ---- `compatible_with`, from the end to the front: every index from i on passes
 
-pub compatible-uneven : (o p : List Dim) → (length o ≡ length p → ⊥) → compatibleDims o p ≡ false
-compatible-uneven o p h = go (compatibleDims o p) refl
-  where
-    go : (t : Bool) → compatibleDims o p ≡ t → t ≡ false
-    go true e = absurd (h (compatible-counts o p e))
-    go false e = refl
+abbrev pub PassFrom : List Dim → List Dim → ℕ → Type 0
+PassFrom o p i = (j : ℕ) → i ≤ j → j < length o → Passes o p j
 
-module _ (o p : List Dim) (i : ℕ) (m : i < length o) (n : i < length p) {x y : Dim} {t : Bool} (e : x ≡ getD o i unknown) (f : y ≡ getD p i unknown) (w : t ≡ rowCompatible x y) where
-  step : compatibleDims (drop i o) (drop i p) ≡ (t && compatibleDims (drop (i + 1) o) (drop (i + 1) p))
-  step = compatible-step i o p unknown m n ∙ rw (w, e, f, add-one)
+module _ (o p : List Dim) where
+  pub pass-end : {i : ℕ} → i ≡ length o → PassFrom o p i
+  pass-end e j h k = absurd (omega arith)
 
-  pub compatible-more : not t ≡ false → compatibleDims (drop i o) (drop i p) ≡ compatibleDims (drop (i + 1) o) (drop (i + 1) p)
-  compatible-more u = rw (not-false t u) at step
+  pub pass-all : length o ≡ length p → {i : ℕ} → i ≡ 0 → PassFrom o p i → saysYes ≡ compatibleDims o p
+  pass-all counts e passed = is-so-once o p saysYes (counts, λ j h. passed j (omega arith) h)
 
-  pub compatible-stop : not t ≡ true → compatibleDims (drop i o) (drop i p) ≡ false
-  compatible-stop u = rw (not-true t u) at step
+  -- the index in front of those, by what stands there
+  module _ (k : ℕ) {i : ℕ} (next : suc k ≡ i) (passed : PassFrom o p i) {x y : Dim} {t : Bool} (e : x ≡ getD o k unknown) (f : y ≡ getD p k unknown) (w : t ≡ rowCompatible x y) where
+    test-there : rowCompatible (getD o k unknown) (getD p k unknown) ≡ t
+    test-there = sym (w ∙ rw (e, f))
+
+    pub pass-more : not t ≡ false → PassFrom o p k
+    pass-more u j h l = go (eqb j k) refl
+      where
+        go : (b : Bool) → eqb j k ≡ b → Passes o p j
+        go true same = rw (eqb-true j k same) (test-there ∙ not-false t u)
+        go false other = let n = eqb-false j k other in passed j (omega arith) l
+
+    pub pass-stop : length o ≡ length p → k < length o → not t ≡ true → saysNo (some k) ≡ compatibleDims o p
+    pass-stop counts h u = is-so-once o p (saysNo (some k)) (record { counts = counts; inside = h; fails = test-there ∙ not-true t u; behind = λ j m l. passed j (omega arith) l })

@@ -5,11 +5,14 @@ use mathlib.Core.Option.{Option, none, some}
 use Rattle.model.specs.Types.{Dim, Shape}
 use Rattle.format.specs.Records.{dimOf}
 use Rattle.rules.specs.Sizes as rules
+use Rattle.rules.specs.Shapes as shapes
 use Rattle.rules.specs.Pervade.{IndexRule, pervadeAt, Pervaded, sizes, clash, pervade}
 use Rattle.rules.specs.PervadeInSheets.{inSheetsAt, pervadeInSheets}
 use Rattle.record.specs.Answers.{dimsOf, shapeFor}
 use Rattle.shape.specs.declared.Order.{Order}
 use Rattle.shape.specs.declared.Order.the-variants.{Less, Same, More}
+use Rattle.shape.specs.declared.Compatibility.{Compatibility}
+use Rattle.shape.specs.declared.Compatibility.the-variants.{Yes, FailsAt, CountsDiffer}
 use Rattle.shape.specs.declared.Spot.{Spot}
 use Rattle.shape.specs.declared.Spot.the-variants.{Absent, Size}
 use Rattle.shape.specs.declared.Pervading.{Pervading}
@@ -26,6 +29,11 @@ abbrev pub orderOf : Order → rules.Order
 orderOf Less = rules.less
 orderOf Same = rules.same
 orderOf More = rules.more
+
+abbrev pub compatibilityOf : Compatibility → shapes.Compatibility
+compatibilityOf Yes = shapes.saysYes
+compatibilityOf (FailsAt i) = shapes.saysNo (some i)
+compatibilityOf CountsDiffer = shapes.saysNo none
 
 abbrev pub spotOf : Spot → Option Dim
 spotOf Absent = none

@@ -1,4 +1,5 @@
 // Lists of sizes by value, index by index: eight-element arrays beside a count.
+use crate::Compatibility;
 use crate::Spot;
 use crate::sizes::join_sizes;
 use crate::sizes::larger;
@@ -16,7 +17,7 @@ ghost use Rattle.format.specs.Records.{dimOf};
 ghost use Rattle.record.specs.Answers.{dimsOf};
 ghost use Rattle.rules.specs.Shapes.{compatibleDims, mergeDims, joinDims, joinEnds};
 ghost use Rattle.rules.specs.ShapesSteps.{mergeAt, fromEnd};
-ghost use Rattle.shape.specs.Answers.{spotOf};
+ghost use Rattle.shape.specs.Answers.{compatibilityOf, spotOf};
 
 // As many sizes as the longer list, the larger at a shared index, the rest from the longer.
 pub fn merge_dims(a: Dims, b: Dims) -> Dims
@@ -83,22 +84,25 @@ fn from_end(d: Dims, i: usize) -> u64
     size_at(d, count - i)
 }
 
-// Equal counts, and at each index equal, or either 1 or unknown.
-pub fn compatible_dims(a: Dims, b: Dims) -> bool
-    ensures { λ r. ⌜ r ≡ compatibleDims (dimsOf a) (dimsOf b) ⌝ }
+// Equal counts, and at each index equal, or either 1 or unknown. Most pairs differ at the last size, so the walk goes from the end to the
+// front and stops at the first failure that it meets, which is the greatest index that fails.
+pub fn compatible_dims(a: Dims, b: Dims) -> Compatibility
+    ensures { λ r. ⌜ compatibilityOf r ≡ compatibleDims (dimsOf a) (dimsOf b) ⌝ }
 {
     let count = size_count(a);
     if count != size_count(b) {
-        return false;
+        return Compatibility::CountsDiffer;
     }
-    let mut i = 0;
-    while i < count {
-        if !row_compatible(size_at(a, i), size_at(b, i)) {
-            return false;
+    let mut i = count;
+    loop {
+        if i == 0 {
+            break Compatibility::Yes;
         }
-        i += 1;
+        i -= 1;
+        if !row_compatible(a.sizes[i], b.sizes[i]) {
+            break Compatibility::FailsAt(i);
+        }
     }
-    true
 }
 
 // All but the first.

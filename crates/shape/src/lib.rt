@@ -11,6 +11,7 @@ pub use shapes::compatible_with;
 pub use shapes::into_row;
 pub use shapes::is_any;
 pub use shapes::is_scalar;
+pub use shapes::is_yes;
 pub use shapes::join;
 pub use shapes::merge_from;
 pub use shapes::rank;
@@ -27,6 +28,13 @@ pub enum Order {
     Less,
     Same,
     More,
+}
+
+// What `compatible_with` says: yes; no, with the greatest index that fails; or no with none, since the counts differ.
+pub enum Compatibility {
+    Yes,
+    FailsAt(usize),
+    CountsDiffer,
 }
 
 // What stands at an index of a list.

@@ -1,4 +1,5 @@
 // Shapes by value: the methods of `DynShape` and its join.
+use crate::Compatibility;
 use crate::Spot;
 use crate::dims::compatible_dims;
 use crate::dims::get;
@@ -18,7 +19,8 @@ ghost use Rattle.model.specs.Limits.{maxSizes};
 ghost use Rattle.model.specs.Types.{shape};
 ghost use Rattle.format.specs.Records.{dimOf};
 ghost use Rattle.record.specs.Answers.{dimsOf, closingFor, shapeFor};
-ghost use Rattle.rules.specs.Shapes.{isScalar, isAny, rowCount, rank, rowShape, compatibleShapes, mergeClosing, mergeFrom, joinShapes};
+ghost use Rattle.rules.specs.Shapes.{isScalar, isAny, rowCount, rank, rowShape, compatibleWith, isYes, mergeClosing, mergeFrom, joinShapes};
+ghost use Rattle.shape.specs.Answers.{compatibilityOf};
 
 // The first opening size; without one, unknown if open, else 1.
 pub fn row_count(shape: DynShape) -> u64
@@ -84,12 +86,23 @@ pub fn into_row(shape: DynShape) -> DynShape
 }
 
 // Closing sizes are not looked at.
-pub fn compatible_with(a: DynShape, b: DynShape) -> bool
-    ensures { λ r. ⌜ r ≡ compatibleShapes (shapeFor a) (shapeFor b) ⌝ }
+pub fn compatible_with(a: DynShape, b: DynShape) -> Compatibility
+    ensures { λ r. ⌜ compatibilityOf r ≡ compatibleWith (shapeFor a) (shapeFor b) ⌝ }
 {
     let a_dims = a.dims;
     let b_dims = b.dims;
     compatible_dims(a_dims, b_dims)
+}
+
+// What relies on the test goes by its yes.
+pub fn is_yes(answer: Compatibility) -> bool
+    ensures { λ r. ⌜ r ≡ isYes (compatibilityOf answer) ⌝ }
+{
+    match answer {
+        Compatibility::Yes => true,
+        Compatibility::FailsAt(_) => false,
+        Compatibility::CountsDiffer => false,
+    }
 }
 
 pub fn merge_from(a: DynShape, b: DynShape) -> DynShape

@@ -11,7 +11,7 @@ use Rattle.model.specs.Types.{Dim, Shape, shapeOf}
 use Rattle.format.specs.Records.{dimOf, writeShape}
 use Rattle.format.specs.Outcome.{Outcome, accepted, refused, bound, both, lone}
 use Rattle.rules.specs.Sizes.{Order, cmpDim, cmpDefined, larger, compatible, rowCompatible, joinDim}
-use Rattle.rules.specs.Shapes.{isScalar, isAny, rowCount, rank, rowShape, compatibleShapes, mergeFrom, joinShapes}
+use Rattle.rules.specs.Shapes.{isScalar, isAny, rowCount, rank, rowShape, Compatibility, compatibleWith, mergeFrom, joinShapes}
 use Rattle.rules.specs.Pervade as rules
 
 -- ---- sizes handed in as numbers
@@ -72,8 +72,9 @@ pervaded (some s) = recorded s
 abbrev pub pervadeCall : Bool → Bool → List ℕ → List ℕ → Outcome (List ℕ)
 pervadeCall f g a b = onShapes (λ s t. pervaded (rules.pervade f g s t)) a b
 
-abbrev pub compatibleShapesCall : List ℕ → List ℕ → Outcome Bool
-compatibleShapesCall a b = onShapes (λ s t. accepted (compatibleShapes s t)) a b
+-- document 02, 2026-07
+abbrev pub compatibleShapesCall : List ℕ → List ℕ → Outcome Compatibility
+compatibleShapesCall a b = onShapes (λ s t. accepted (compatibleWith s t)) a b
 
 abbrev pub isAnyCall : List ℕ → Outcome Bool
 isAnyCall a = onShape (λ s. accepted (isAny s)) a

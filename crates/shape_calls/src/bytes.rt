@@ -1,4 +1,5 @@
 // Shapes of types handed in as bytes: the calls of shape.rs.
+use crate::ShapesTested;
 use known::any_shape_at;
 use known::shape_at;
 use lent::Counted;
@@ -24,6 +25,7 @@ ghost use mathlib.Core.Path.{_≡_};
 ghost use Rattle.format.specs.Outcome.{deliver};
 ghost use Rattle.lent.specs.Answers.{testedOf, countedDim, countedNumber};
 ghost use Rattle.lent.specs.Written.{delivered};
+ghost use Rattle.shape_calls.specs.Answers.{shapesTestedOf};
 ghost use Rattle.shape_calls.specs.Calls.{mergeCall, joinShapesCall, rowCall, compatibleShapesCall, isAnyCall, isScalarCall, rowCountCall, rankCall};
 
 // The first merges from the second.
@@ -57,14 +59,14 @@ pub fn row_shape(a: &[u8], result: &mut [u8]) -> Written
     write_shape(into_row(shape_at(a, 0)), &mut *result)
 }
 
-pub fn compatible_shapes(a: &[u8], b: &[u8]) -> Tested
-    ensures { λ r. ⌜ testedOf r ≡ compatibleShapesCall (now (a .entry)) (now (b .entry)) ⌝ }
+// Whether the opening sizes are compatible; with a no, the greatest index that fails, or none where the counts differ.
+pub fn compatible_shapes(a: &[u8], b: &[u8]) -> ShapesTested
+    ensures { λ r. ⌜ shapesTestedOf r ≡ compatibleShapesCall (now (a .entry)) (now (b .entry)) ⌝ }
 {
-    let read = whichever(read_two(a, b));
-    let Lone::Accepted = read else {
-        return as_tested(read);
-    };
-    tell(compatible_with(shape_at(a, 0), shape_at(b, 0)))
+    if let Lone::Refused { number, place } = whichever(read_two(a, b)) {
+        return ShapesTested::Refused { number, place };
+    }
+    ShapesTested::Says(compatible_with(shape_at(a, 0), shape_at(b, 0)))
 }
 
 pub fn shape_is_any(a: &[u8]) -> Tested

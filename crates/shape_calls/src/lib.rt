@@ -19,11 +19,18 @@ pub use numbers::dim_join;
 pub use numbers::dim_max;
 pub use numbers::dim_row_compatible;
 pub use pervading::pervade;
+use shape::Compatibility;
 use shape::Order;
 
 // How the first compares with the second, or a refusal.
 pub enum Compared {
     Ordered(Order),
+    Refused { number: u8, place: usize },
+}
+
+// What the test of two shapes says, or the refusal of a type.
+pub enum ShapesTested {
+    Says(Compatibility),
     Refused { number: u8, place: usize },
 }
 

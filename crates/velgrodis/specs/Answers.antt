@@ -4,10 +4,12 @@ use mathlib.Core.Bool.{Bool, cond}
 use mathlib.Core.List.{List, map}
 use mathlib.Core.Option.{Option, none, some}
 use lib.Ieee.{Float}
+use Rattle.model.specs.Limits.{ones}
 use Rattle.model.specs.Types.{Dim}
 use Rattle.format.specs.Records.{dimNumber}
 use Rattle.format.specs.Outcome.{Outcome, accepted, refused, Delivery, delivery, deliver}
 use Rattle.rules.specs.Sizes.{Order, less, same, more}
+use Rattle.rules.specs.Shapes.{Compatibility, saysYes, saysNo}
 use Rattle.rules.specs.Types.{Stretch, stretch}
 use Rattle.validation.specs.Separate.{Input, neither, spec, checkedType, Separate, separate}
 use Rattle.ty.specs.Calls.{Given, given, offered}
@@ -53,6 +55,19 @@ told t = value (cond t 1 0) 0
 
 abbrev pub tested : Outcome Bool → Answer
 tested o = answered told o
+
+-- no index: the number of all ones, which stands for an unknown size elsewhere
+abbrev pub noIndex : ℕ
+noIndex = ones
+
+-- 1 for a yes; 0 for a no, and the index that it names
+abbrev pub yesOrNo : Compatibility → Answer
+yesOrNo saysYes = value 1 0
+yesOrNo (saysNo (some i)) = value 0 i
+yesOrNo (saysNo none) = value 0 noIndex
+
+abbrev pub shapesTested : Outcome Compatibility → Answer
+shapesTested o = answered yesOrNo o
 
 -- a size, all ones for ?
 abbrev pub dimmed : Dim → Answer

@@ -2,18 +2,19 @@
 use Prim.Native.Nat.{ℕ}
 use mathlib.Core.Bool.{true, false}
 use mathlib.Core.List.{List}
-use mathlib.Core.Option.{none}
+use mathlib.Core.Option.{none, some}
 use mathlib.Core.Path.{_≡_, refl}
 use lib.Ieee.{Float}
 use Rattle.model.specs.Types.{unknown}
 use Rattle.format.specs.Outcome.{accepted, refused, mapped, lone}
 use Rattle.rules.specs.Sizes.{less, same, more}
+use Rattle.rules.specs.Shapes.{saysYes, saysNo}
 use Rattle.validation.specs.CheckShape.{unsided, left, right}
 use Rattle.validation.specs.Separate.{neither, spec, checkedType}
 use Rattle.shape_calls.specs.Calls.{pervadeCall}
 use Rattle.val.specs.Values.{number, numbers, typed}
 use Rattle.velgrodis.specs.declared.Answer.{Answer}
-use Rattle.velgrodis.specs.Answers.{counted, tested, sized, compared, sizedOrNone, whileReading}
+use Rattle.velgrodis.specs.Answers.{counted, tested, shapesTested, sized, compared, sizedOrNone, whileReading}
 use Rattle.velgrodis.specs.Codes.{pervadeFlagged, sideFor, handedIn}
 
 -- ---- what an answer is: 0 refused, 1 a value, 2 none
@@ -35,6 +36,16 @@ no-is-0 = refl
 
 pub yes-is-1 : tested (accepted true) ≡ answer 1 0 0 1 0
 yes-is-1 = refl
+
+-- a no of the test of two shapes has its index behind it, 18446744073709551615 for none; a yes has 0
+pub yes-alone : shapesTested (accepted saysYes) ≡ answer 1 0 0 1 0
+yes-alone = refl
+
+pub no-at-2 : shapesTested (accepted (saysNo (some 2))) ≡ answer 1 0 0 0 2
+no-at-2 = refl
+
+pub no-at-none : shapesTested (accepted (saysNo none)) ≡ answer 1 0 0 0 18446744073709551615
+no-at-none = refl
 
 -- ? is all ones
 pub unknown-is-ones : sized (accepted unknown) ≡ answer 1 0 0 18446744073709551615 0

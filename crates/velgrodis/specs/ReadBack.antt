@@ -1,21 +1,32 @@
 -- An answer says its outcome and no other: what a host reads from it, and from the buffers beside it, is the outcome that it was
 -- made of. A law for each form that the exports answer.
-use Prim.Native.Nat.{ℕ}
+use Prim.Native.Nat.{ℕ, _<_}
+use native.Mathlib.Omega.{arith}
 use mathlib.Core.Bool.{Bool, true, false, cond}
+use mathlib.Core.List.{List}
 use mathlib.Core.Option.{Option, none, some}
 use mathlib.Core.Path.{_≡_, refl, ap}
 use lib.Dec.{eqb}
 use lib.Ieee.{Float}
+use borrow.Author.Tests.{ne-eqb}
+use Rattle.model.specs.Limits.{maxSizes}
+use Rattle.model.specs.Types.{Shape, shape, Ty, ty, shapeOf}
+use Rattle.model.specs.Within.{ShapeWithin}
+use Rattle.format.specs.Reader.{Bytes}
 use Rattle.format.specs.Records.{dimOf}
-use Rattle.format.specs.Outcome.{Outcome, accepted, refused, mapped, Delivery, delivery}
+use Rattle.format.specs.Outcome.{Outcome, accepted, refused, mapped, both, lone, Delivery, delivery}
 use Rattle.rules.specs.Sizes.{Order, less, same, more}
+use Rattle.rules.specs.Shapes.{Compatibility, saysYes, saysNo, compatibleWith}
+use Rattle.rules.specs.CompatibleLaws.{GreatestFailing, is-so}
 use Rattle.rules.specs.Types.{Stretch, stretch}
 use Rattle.validation.specs.Separate.{Input, neither, spec, checkedType, Separate, separate}
+use Rattle.shape_calls.specs.Calls.{compatibleShapesCall}
 use Rattle.ty.specs.Calls.{Given, given}
 use Rattle.val.specs.Values.{RowDelivery, handed as rowNumber, written as rowWritten}
 use Rattle.machine.specs.Call.{tally, Called, called}
-use Rattle.velgrodis.specs.Answers.{counted, tested, sized, sizedOrNone, compared, found, Handed, handed, written, listed, RowHanded, rowHanded, rowed, inputNumber, ValidationHanded, validationHanded, validationOf, Returned, returned, checked}
-use Rattle.format.specs.ReadWrite.{dim-number}
+use Rattle.velgrodis.specs.Answers.{counted, tested, noIndex, yesOrNo, shapesTested, sized, sizedOrNone, compared, found}
+use Rattle.velgrodis.specs.Answers.{Handed, handed, written, listed, RowHanded, rowHanded, rowed, inputNumber, ValidationHanded, validationHanded, validationOf, Returned, returned, checked}
+use Rattle.format.specs.ReadWrite.{dim-number, lone-write}
 use Rattle.velgrodis.specs.declared.Answer.{Answer}
 
 -- ---- answers alone
@@ -39,6 +50,31 @@ pub tested-back : (o : Outcome Bool) → outcomeBy (λ r. eqb (r .first) 1) (tes
 tested-back (accepted true) = refl
 tested-back (accepted false) = refl
 tested-back (refused k p) = refl
+
+-- by its first number a yes, by its second the index, or that there is none
+abbrev pub compatibilityBy : Answer → Compatibility
+compatibilityBy r = cond (eqb (r .first) 1) saysYes (saysNo (cond (eqb (r .second) noIndex) none (some (r .second))))
+
+yesOrNo-back : (c : Compatibility) → ((i : ℕ) → c ≡ saysNo (some i) → i < maxSizes) → outcomeBy compatibilityBy (yesOrNo c) ≡ accepted c
+yesOrNo-back saysYes small = refl
+yesOrNo-back (saysNo (some i)) small = let h = small i refl in rw (ne-eqb i noIndex λ e. absurd (omega arith))
+yesOrNo-back (saysNo none) small = refl
+
+index-small : (s t : Shape) → ShapeWithin s → (i : ℕ) → compatibleWith s t ≡ saysNo (some i) → i < maxSizes
+unfolding compatibleWith
+index-small (shape o c) (shape p d) h i e = let named : GreatestFailing o p i = rw e at (is-so o p) in omega (arith, h .0 .0, named .inside)
+
+-- of any two inputs: an index that is named is below eight, so that it is not taken for none
+pub compatible-shapes-back : (a b : List ℕ) → Bytes a → outcomeBy compatibilityBy (shapesTested (compatibleShapesCall a b)) ≡ compatibleShapesCall a b
+compatible-shapes-back a b bytes = go (lone a) refl (lone b)
+  where
+    test : Outcome Ty → Outcome Ty → Outcome Compatibility
+    test x y = both (λ t u. accepted (compatibleWith (shapeOf t) (shapeOf u))) x y
+
+    go : (x : Outcome Ty) → lone a ≡ x → (y : Outcome Ty) → outcomeBy compatibilityBy (shapesTested (test x y)) ≡ test x y
+    go (refused k p) e y = refl
+    go (accepted t) e (refused k p) = refl
+    go (accepted (ty s k)) e (accepted u) = yesOrNo-back (compatibleWith s (shapeOf u)) (index-small s (shapeOf u) (lone-write a bytes (ty s k) e .1 .records .0))
 
 -- of a number that is a size, all ones for ?
 pub sized-back : (o : Outcome ℕ) → outcomeBy (λ r. dimOf (r .first)) (sized (mapped dimOf o)) ≡ mapped dimOf o

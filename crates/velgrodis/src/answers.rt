@@ -2,6 +2,7 @@
 use crate::Answer;
 use crate::CHECKED_TYPE;
 use crate::NEITHER;
+use crate::NO_INDEX;
 use crate::NOTHING;
 use crate::REFUSED;
 use crate::SPEC;
@@ -13,8 +14,10 @@ use lent::Written;
 use order::Comparison;
 use record::Lone;
 use run::SheetAnswer;
+use shape::Compatibility;
 use shape::Order;
 use shape_calls::Compared;
+use shape_calls::ShapesTested;
 use ty::Boxes;
 use ty::Found;
 use val::MaybeDim;
@@ -29,13 +32,13 @@ ghost use Rattle.lent.specs.Written.{delivered};
 ghost use Rattle.order.specs.Answers.{comparisonOf};
 ghost use Rattle.record.specs.Answers.{loneOf};
 ghost use Rattle.run.specs.Answers.{calledOf};
-ghost use Rattle.shape.specs.Answers.{orderOf};
-ghost use Rattle.shape_calls.specs.Answers.{orderedOf};
+ghost use Rattle.shape.specs.Answers.{orderOf, compatibilityOf};
+ghost use Rattle.shape_calls.specs.Answers.{orderedOf, shapesTestedOf};
 ghost use Rattle.ty.specs.Calls.{boxesOf, foundOf, given};
 ghost use Rattle.val.specs.Answers.{maybeDim, rowDelivered};
 ghost use Rattle.validation.specs.Separate.{neither};
 ghost use Rattle.validate.specs.Answers.{inputOf, separateOf};
-ghost use Rattle.velgrodis.specs.Answers.{no, value, noneAnswer, ordered, counted, tested, sized, sizedOrNone, compared, found, handed, written, listed};
+ghost use Rattle.velgrodis.specs.Answers.{no, value, noneAnswer, ordered, counted, tested, yesOrNo, shapesTested, sized, sizedOrNone, compared, found, handed, written, listed};
 ghost use Rattle.velgrodis.specs.Answers.{rowHanded, rowed, inputNumber, whileReading, validationHanded, validationOf, returned, checked};
 
 pub fn of_written(w: Written) -> Answer
@@ -127,6 +130,25 @@ pub fn of_tested(t: Tested) -> Answer
         Tested::Yes => give(1, 0),
         Tested::No => give(0, 0),
         Tested::Refused { number, place } => refuse(number, place),
+    }
+}
+
+pub fn of_shapes_tested(t: ShapesTested) -> Answer
+    ensures { λ r. ⌜ r ≡ shapesTested (shapesTestedOf t) ⌝ }
+{
+    match t {
+        ShapesTested::Says(c) => of_compatibility(c),
+        ShapesTested::Refused { number, place } => refuse(number, place),
+    }
+}
+
+fn of_compatibility(c: Compatibility) -> Answer
+    ensures { λ r. ⌜ r ≡ yesOrNo (compatibilityOf c) ⌝ }
+{
+    match c {
+        Compatibility::Yes => give(1, 0),
+        Compatibility::FailsAt(i) => give(0, i as u64),
+        Compatibility::CountsDiffer => give(0, NO_INDEX),
     }
 }
 

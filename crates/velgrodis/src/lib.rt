@@ -66,6 +66,9 @@ pub const VALUE: u64 = 1;
 
 pub const NOTHING: u64 = 2;
 
+// Where an answer would have an index: none. The bits of an unknown size, but no size.
+pub const NO_INDEX: u64 = u64::MAX;
+
 // The input that a validation was reading.
 pub const NEITHER: u64 = 0;
 

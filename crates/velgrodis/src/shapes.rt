@@ -1,6 +1,7 @@
 // Calls on the shapes of types.
 use crate::Answer;
 use crate::answers::of_count;
+use crate::answers::of_shapes_tested;
 use crate::answers::of_size;
 use crate::answers::of_tested;
 use crate::answers::of_written;
@@ -10,7 +11,7 @@ use limits::refusal::OUT_OF_RANGE;
 ghost use mathlib.Core.Path.{_≡_};
 ghost use Rattle.format.specs.Outcome.{deliver};
 ghost use Rattle.shape_calls.specs.Calls.{mergeCall, joinShapesCall, rowCall, compatibleShapesCall, isAnyCall, isScalarCall, rowCountCall, rankCall};
-ghost use Rattle.velgrodis.specs.Answers.{handed, written, counted, sized, tested};
+ghost use Rattle.velgrodis.specs.Answers.{handed, written, counted, sized, tested, shapesTested};
 ghost use Rattle.velgrodis.specs.Codes.{pervadeFlagged};
 
 // The first merges from the second.
@@ -48,11 +49,12 @@ pub extern "C" fn vg_pervade(flag: u64, a: &[u8], b: &[u8], result: &mut [u8]) -
     of_written(shape_calls::pervade(a, b, first, second, &mut *result))
 }
 
+// With a no, `second` is the greatest index that fails, or NO_INDEX.
 #[no_mangle]
 pub extern "C" fn vg_compatible_shapes(a: &[u8], b: &[u8]) -> Answer
-    ensures { λ r. ⌜ r ≡ tested (compatibleShapesCall (now (a .entry)) (now (b .entry))) ⌝ }
+    ensures { λ r. ⌜ r ≡ shapesTested (compatibleShapesCall (now (a .entry)) (now (b .entry))) ⌝ }
 {
-    of_tested(shape_calls::compatible_shapes(a, b))
+    of_shapes_tested(shape_calls::compatible_shapes(a, b))
 }
 
 #[no_mangle]

@@ -18,6 +18,7 @@ use Rattle.known.proofs.shape_at.Reads as shape-at-reads
 use Rattle.scalar.proofs.boxes.inner_at.Reads as inner-at-reads
 use Rattle.kind_table.proofs.compatible_codes.Reads as compatible-codes-reads
 use Rattle.shape.proofs.compatible_with.Reads as compatible-with-reads
+use Rattle.shape.proofs.is_yes.Reads as is-yes-reads
 use Rattle.scalar.proofs.boxes.+compatible_boxes+compatible_contents.{statement}
 use Rattle.scalar.proofs.boxes.+compatible_boxes+compatible_contents.Tie.{close}
 
@@ -273,6 +274,8 @@ compatible-contents-scalar-at-requires : (t : ℕ) → compatible-contents-lts.N
   shape-at-reads.Learnt,
   compatible-with-reads.Asked,
   compatible-with-reads.Learnt,
+  is-yes-reads.Asked,
+  is-yes-reads.Learnt,
 ) (compatible-contents-at t) compatible-contents.Post
 compatible-contents-scalar-at-requires t c κs =
     let entry = c .before .before in
@@ -289,6 +292,8 @@ compatible-contents-scalar-at-requires-2 :
       shape-at-reads.Learnt,
       compatible-with-reads.Asked,
       compatible-with-reads.Learnt,
+      is-yes-reads.Asked,
+      is-yes-reads.Learnt,
     ) (compatible-contents-at t) compatible-contents.Post
 compatible-contents-scalar-at-requires-2 t c κs =
     let entry = c .before .before .before in
@@ -305,6 +310,8 @@ compatible-contents-sub-compatible-boxes :
       shape-at-reads.Learnt,
       compatible-with-reads.Asked,
       compatible-with-reads.Learnt,
+      is-yes-reads.Asked,
+      is-yes-reads.Learnt,
     ) (compatible-contents-at t) compatible-contents.Post
 compatible-contents-sub-compatible-boxes t c =
     let entry = c .before .before .before .before in
@@ -320,6 +327,8 @@ compatible-contents-compatible-boxes-requires :
       shape-at-reads.Learnt,
       compatible-with-reads.Asked,
       compatible-with-reads.Learnt,
+      is-yes-reads.Asked,
+      is-yes-reads.Learnt,
     ) (compatible-contents-at t) compatible-contents.Post
 compatible-contents-compatible-boxes-requires t c κs =
     let entry = c .before .before .before .before in
@@ -337,6 +346,8 @@ compatible-contents-shape-at-requires : (t : ℕ) → compatible-contents-lts.Ne
   shape-at-reads.Learnt,
   compatible-with-reads.Asked,
   compatible-with-reads.Learnt,
+  is-yes-reads.Asked,
+  is-yes-reads.Learnt,
 ) (compatible-contents-at t) compatible-contents.Post
 compatible-contents-shape-at-requires t c κs =
     let entry = c .before .before .before .before .before .before in
@@ -353,6 +364,8 @@ compatible-contents-shape-at-requires-2 :
       shape-at-reads.Learnt,
       compatible-with-reads.Asked,
       compatible-with-reads.Learnt,
+      is-yes-reads.Asked,
+      is-yes-reads.Learnt,
     ) (compatible-contents-at t) compatible-contents.Post
 compatible-contents-shape-at-requires-2 t c κs =
     let entry = c .before .before .before .before .before .before .before in
@@ -369,8 +382,25 @@ compatible-contents-compatible-with-requires :
       shape-at-reads.Learnt,
       compatible-with-reads.Asked,
       compatible-with-reads.Learnt,
+      is-yes-reads.Asked,
+      is-yes-reads.Learnt,
     ) (compatible-contents-at t) compatible-contents.Post
 compatible-contents-compatible-with-requires t c κs = search needs
+
+compatible-contents-is-yes-requires :
+    (t : ℕ) → compatible-contents-lts.Need-is-yes-requires (
+      scalar-at-reads.Asked,
+      scalar-at-reads.Learnt,
+      compatible-boxes-below t,
+      compatible-boxes.Post,
+      shape-at-reads.Asked,
+      shape-at-reads.Learnt,
+      compatible-with-reads.Asked,
+      compatible-with-reads.Learnt,
+      is-yes-reads.Asked,
+      is-yes-reads.Learnt,
+    ) (compatible-contents-at t) compatible-contents.Post
+compatible-contents-is-yes-requires t c κs = search needs
 
 compatible-contents-returns : (t : ℕ) → compatible-contents-lts.Need-returns (
   scalar-at-reads.Asked,
@@ -381,17 +411,21 @@ compatible-contents-returns : (t : ℕ) → compatible-contents-lts.Need-returns
   shape-at-reads.Learnt,
   compatible-with-reads.Asked,
   compatible-with-reads.Learnt,
+  is-yes-reads.Asked,
+  is-yes-reads.Learnt,
 ) (compatible-contents-at t) compatible-contents.Post
 compatible-contents-returns t c =
-    let entry = c .before .before .before .before .before .before .before .before .before in
-    let at-scalar-at = c .before .before .before .before .before .before in
-    let at-scalar-at2 = c .before .before .before .before .before in
-    let at-compatible-boxes = c .before .before .before .before in
-    let at-if1 = c .before .before .before in
-    let at-shape-at = c .before .before in
-    let args = entry .args in
+    let at-compatible-with = c .before in
+    let at-shape-at2 = at-compatible-with .before in
+    let at-shape-at = at-shape-at2 .before in
+    let at-if1 = at-shape-at .before in
+    let at-compatible-boxes = at-if1 .before in
+    let at-scalar-at2 = at-compatible-boxes .before in
+    let at-scalar-at = at-scalar-at2 .before in
+    let args = at-scalar-at .before .before .before .args in
     contents-shapes (args .a .now) (args .i) (args .b .now) (args .j) (args .depth) (at-scalar-at .scalar-at .ensures) (at-scalar-at2 .scalar-at2 .ensures)
-    (at-compatible-boxes .compatible-boxes .ensures) (at-if1 .if1 .taken) (c .compatible-with .ensures) (at-shape-at .shape-at .ensures) (c .before .shape-at2 .ensures)
+    (at-compatible-boxes .compatible-boxes .ensures) (at-if1 .if1 .taken) (at-compatible-with .compatible-with .ensures) (c .is-yes .ensures)
+    (at-shape-at .shape-at .ensures) (at-shape-at2 .shape-at2 .ensures)
 
 compatible-contents-returns-2 : (t : ℕ) → compatible-contents-lts.Need-returns-2 (
   scalar-at-reads.Asked,
@@ -402,6 +436,8 @@ compatible-contents-returns-2 : (t : ℕ) → compatible-contents-lts.Need-retur
   shape-at-reads.Learnt,
   compatible-with-reads.Asked,
   compatible-with-reads.Learnt,
+  is-yes-reads.Asked,
+  is-yes-reads.Learnt,
 ) (compatible-contents-at t) compatible-contents.Post
 compatible-contents-returns-2 t c =
     let entry = c .before .before .before .before .before .before in
@@ -446,6 +482,8 @@ pub +compatible-boxes+compatible-contents-spec : {M : Type 1} → statement M
       shape-at-reads.Learnt,
       compatible-with-reads.Asked,
       compatible-with-reads.Learnt,
+      is-yes-reads.Asked,
+      is-yes-reads.Learnt,
     )
     (compatible-contents-at t)
     compatible-contents.Post
@@ -456,5 +494,6 @@ pub +compatible-boxes+compatible-contents-spec : {M : Type 1} → statement M
     (compatible-contents-shape-at-requires t)
     (compatible-contents-shape-at-requires-2 t)
     (compatible-contents-compatible-with-requires t)
+    (compatible-contents-is-yes-requires t)
     (compatible-contents-returns t)
     (compatible-contents-returns-2 t)

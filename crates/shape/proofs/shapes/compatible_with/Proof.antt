@@ -1,4 +1,4 @@
-use Rattle.rules.specs.Shapes.{compatibleShapes}
+use Rattle.rules.specs.Shapes.{compatibleWith}
 use borrow.Author.Needs.{needs}
 use Rattle.shape.proofs.shapes.compatible_with.Statement.{statement}
 use Rattle.shape.proofs.shapes.compatible_with.Tie as tie
@@ -7,7 +7,7 @@ compatible-dims-requires : tie.Need-compatible-dims-requires
 compatible-dims-requires c κs = search needs
 
 returns : tie.Need-returns
-unfolding compatibleShapes
+unfolding compatibleWith
 returns c = c .compatible-dims .ensures
 
 pub compatible-with-spec : {M : Type 1} → statement M

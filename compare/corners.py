@@ -119,6 +119,79 @@ def shapes():
         yield from (ask("join_shapes", num(a), num(b)), ask("join_shapes", num(b), num(a)))
 
 
+# sizes that fail with one another: small, the smallest and the largest, and for each byte such as differ in it alone; sizes that agree: equal, or either 1 or ?
+FAILING = (("2", "3"), ("0", "2"), ("0", LARGEST), (LARGEST, LARGEST - 1), ("258", "2"), *(("2", 2**bit + 2) for bit in (16, 24, 32, 40, 48)))
+AGREEING = (("5", "5"), ("1", "5"), ("5", "1"), ("?", "5"), ("5", "?"), ("?", "?"), ("1", "?"), ("?", "1"), ("0", "1"), ("?", "0"), ("0", "0"), (LARGEST, LARGEST))
+
+
+def opposed(count, failing, fail=FAILING[0], agree=AGREEING[:1]):
+    """Two lists of so many sizes that fail at these indices; those that agree do so in these ways by turns."""
+    pairs = [fail if index in failing else agree[index % len(agree)] for index in range(count)]
+    return tuple(" ".join(str(pair[side]) for pair in pairs) for side in (0, 1))
+
+
+def places(count):
+    """Indices that fail: none, the first, the last, a middle one, the first and the last, all but the last, all."""
+    sets = ([], [0], [count - 1], [count // 2], [0, count - 1], range(count - 1), range(count))
+    return sorted({tuple(sorted({index for index in indices if 0 <= index < count})) for indices in sets})
+
+
+def tested():
+    """Two opening lists: a no names the greatest index that fails, or none where the counts differ."""
+    for count in range(9):
+        for failing in places(count):
+            yield from (ask("compatible_shapes", *map(num, opposed(count, failing, agree=agree))) for agree in (AGREEING[:1], AGREEING[1:8], AGREEING[4:]))
+    # every pair of indices of eight
+    for failing in itertools.combinations(range(8), 2):
+        yield ask("compatible_shapes", *map(num, opposed(8, failing)))
+    # each way of failing and of agreeing, at the only index, the first, the last and all of them, either way round
+    for count, failing in ((1, (0,)), (2, (0,)), (2, (1,)), (8, (0,)), (8, (7,)), (8, range(8))):
+        for a, b in (opposed(count, failing, fail) for fail in FAILING):
+            yield from (ask("compatible_shapes", num(a), num(b)), ask("compatible_shapes", num(b), num(a)))
+    for count in (1, 2, 8):
+        yield from (ask("compatible_shapes", *map(num, opposed(count, (), agree=[agree]))) for agree in AGREEING)
+    # counts that differ: with sizes that agree, and with such as would fail
+    for count, other in itertools.permutations(range(9), 2):
+        yield ask("compatible_shapes", num(" ".join("5" * count)), num(" ".join("5" * other)))
+        yield ask("compatible_shapes", num(" ".join("2" * count)), num(" ".join("3" * other)))
+    # closing sizes are not looked at, whether there are any or not; nor do they make up for opening ones
+    for failing in ((), (0,), (1,), (0, 1)):
+        a, b = opposed(2, failing)
+        for one, other in (("", ".."), ("", "..3"), ("..", "..3"), ("..2", "..3"), ("..2 3", "..3"), (f"..{EIGHT}", ".."), ("..3", "..3")):
+            yield from (ask("compatible_shapes", num(a + one), num(b + other)), ask("compatible_shapes", num(a + other), num(b + one)))
+    for a, b in (("2..3", "2 3"), ("2..", "2 3"), ("..2 3", "2 3"), ("..2", "..3"), ("..", ""), ("..2", "2"), ("2..", "..2"), (EIGHT, f"..{EIGHT}")):
+        yield from (ask("compatible_shapes", num(a), num(b)), ask("compatible_shapes", num(b), num(a)))
+    # the scalars are not looked at
+    for scalar in (CHAR, BOX, box(num("9")), fields(num("9"), name=b"n"), ANY):
+        yield from (ask("compatible_shapes", ty("2 3", scalar), num(shape)) for shape in ("2 3", "2 4", "4 3", "2"))
+    # types that cannot be read: the first before the second, both before the test
+    good = num("2 3")
+    for broken in (b"", good[:-1], b"XX", b"SH\x09", num(f"2 {LARGEST + 1}"), num(f"{LARGEST + 1} 3"), nested(8), good + b"\0"):
+        yield from (ask("compatible_shapes", *pair) for pair in ((broken, good), (good, broken), (broken, num("2")), (num("2"), broken), (broken, broken)))
+
+
+def tested_in_boxes():
+    """The contents of two All boxes are tested: their union is one of them, or box Any."""
+    lists = [opposed(count, failing, agree=AGREEING[:4]) for count in (0, 1, 2, 3, 8) for failing in places(count)]
+    counts = (("", "2"), ("2", "2 3"), ("2 3", "2 3 4"), (EIGHT, EIGHT[:-2]), ("5", "2 3"), ("2..3", "2 3"), ("2 3..", "2 3..4"), ("2 3..", "2 4"))
+    for a, b in (*lists, *counts):
+        for levels in (1, 2):
+            one, other = around(levels, num(a)), around(levels, num(b))
+            yield from (ask(request, one, other) for request in ("compatible_with_boxes", "union", "join"))
+            yield sheet(put(one, other), JOIN)
+            yield sheet(put(one, other), PERVADE)
+    # the contents' contents are tested too: a size that fails at either level, and at both
+    for inner, outer in itertools.product((("2 3", "2 3"), ("2 3", "2 4"), ("2 3", "4 3"), ("2", "2 3")), repeat=2):
+        one, other = (ty("", box(ty(outer[side], box(num(inner[side]))))) for side in (0, 1))
+        yield from (ask(request, one, other) for request in ("compatible_with_boxes", "union", "join"))
+    # joined down a pile: the last size alone differs, the first alone, the count
+    pile = [ty("", box(num(shape))) for shape in ("2 3 4", "2 3 5", "2 3 1", "2 3 ?", "9 3 4", "2 3")]
+    for turn in range(STACK):
+        turned = pile[turn:] + pile[:turn]
+        yield from (sheet(put(*turned), JOIN * count) for count in range(1, STACK))
+        yield sheet(put(turned[0]), *(put(a) + JOIN for a in turned[1:]))
+
+
 # ---- scalars
 
 BOXES = (
@@ -891,7 +964,7 @@ def lines():
 
 
 PARTS = (
-    cases, dims, shapes, scalars, orders, rows, boxes, looked_up, joins, values, kinds, shape_checks, scalar_checks,
+    cases, dims, shapes, tested, scalars, tested_in_boxes, orders, rows, boxes, looked_up, joins, values, kinds, shape_checks, scalar_checks,
     grown, counted, reading, judged, worked, stacked, met, poured, buried, largest_types, spelled, cut_off, told_by_name, superseded, crowded,
     on_a_full_stack, last_steps, worked_by_name, buried_by_name, largest_by_name, buffers, sheet_lines, table, refused, lines,
 )  # fmt: skip

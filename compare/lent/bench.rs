@@ -1,10 +1,12 @@
 //! How long the calls of libvelgrodis.a take, beside the cut Rust on the same bytes.
 //!
-//!     bench [ROUNDS [PART]]    so many samples of each side, by turns; the cases whose names have this part
+//!     bench [ROUNDS [PART]]    so many samples of each side, by turns; the cases whose names have this part, or with a - before it
+//!                              those that have it not
 //!
 //! The Rust's side reads the bytes into its `Type`s, works its rules on them, writes what is left straight to the result and clears a
 //! scratch of the same length. Validation calls the cut `validate` once: the limits are not measured. A sheet's
-//! pervading (oracle/filled.rs), its names (oracle/names.rs) and the number of a mismatch (oracle/counts.rs) are no text of the Rust's. Both
+//! pervading (oracle/filled.rs), its names (oracle/names.rs) and the number of a mismatch (oracle/counts.rs) are no text of the Rust's. Where
+//! two shapes are tested alone, the cut `compatible_with` says yes or no, and after a no the index is looked for from the end. Both
 //! sides must answer the same.
 
 #![allow(dead_code)]
@@ -18,6 +20,8 @@ mod counts;
 #[path = "../oracle/edges.rs"]
 mod edges;
 mod expected;
+#[path = "../oracle/failing.rs"]
+mod failing;
 #[path = "../oracle/filled.rs"]
 mod filled;
 #[path = "../oracle/generate.rs"]
@@ -33,6 +37,8 @@ mod limits;
 mod names;
 #[path = "../oracle/naming.rs"]
 mod naming;
+#[path = "../oracle/opposed.rs"]
+mod opposed;
 #[path = "../oracle/requests.rs"]
 mod requests;
 #[path = "../oracle/rules.rs"]
@@ -51,7 +57,7 @@ use bytes::{No, no, type_bytes};
 use generate::{put, validate};
 use invent::{Random, largest};
 use library::Answer;
-use limits::{PLACES, RESULT, SCRATCH};
+use limits::{PLACES, RESULT, SCRATCH, SIZES};
 use std::hint::black_box;
 use std::time::Instant;
 use uiua::{Dim, DynShape, Scalar, ScalarBox, Type, TypeError};
@@ -161,6 +167,20 @@ fn rust_validate(spec: &[u8], ty: &[u8], result: &mut [u8]) -> Answer {
     }))
 }
 
+fn rust_compatible(a: &[u8], b: &[u8]) -> Answer {
+    let both = bytes::read_lone(a).and_then(|a| Ok((a.shape, bytes::read_lone(b)?.shape)));
+    answered(both.map(|(a, b)| {
+        if a.compatible_with(&b) {
+            return (1, 0);
+        }
+        if a.dims.len() != b.dims.len() {
+            return (0, expected::NO_INDEX as usize);
+        }
+        let mut sizes = a.dims.iter().zip(&b.dims);
+        (0, sizes.rposition(|(a, b)| !a.row_compatible(*b)).expect("an index that fails"))
+    }))
+}
+
 // Ours.
 
 fn our_sheet(sheet: &[u8], result: &mut [u8], scratch: &mut [u8]) -> Answer {
@@ -183,6 +203,10 @@ fn our_validate(spec: &[u8], ty: &[u8], result: &mut [u8]) -> Answer {
     unsafe { library::vg_validate(0, from, length, ty.as_ptr(), ty.len(), to, room) }.answer
 }
 
+fn our_compatible(a: &[u8], b: &[u8]) -> Answer {
+    unsafe { library::vg_compatible_shapes(a.as_ptr(), a.len(), b.as_ptr(), b.len()) }
+}
+
 // What is measured.
 
 /// What it takes is taken for the clearing alone.
@@ -192,6 +216,7 @@ enum Work {
     Sheets(Vec<Vec<u8>>),
     Read(Vec<u8>),
     Validate(Vec<u8>, Vec<u8>),
+    Compatible(Vec<u8>, Vec<u8>),
 }
 
 struct Buffers {
@@ -210,6 +235,7 @@ fn ours(work: &Work, to: &mut Buffers) -> Answer {
         }
         Work::Read(ty) => unsafe { library::vg_read(black_box(ty).as_ptr(), ty.len()) },
         Work::Validate(spec, ty) => our_validate(black_box(spec), ty, &mut to.result),
+        Work::Compatible(a, b) => our_compatible(black_box(a), black_box(b)),
     }
 }
 
@@ -222,6 +248,7 @@ fn rusts(work: &Work, to: &mut Buffers, clears: bool) -> Answer {
         }
         Work::Read(ty) => rust_read(black_box(ty)),
         Work::Validate(spec, ty) => rust_validate(black_box(spec), ty, &mut to.result),
+        Work::Compatible(a, b) => rust_compatible(black_box(a), black_box(b)),
     }
 }
 
@@ -303,6 +330,16 @@ fn season(count: usize, drawn: fn(&mut Random) -> Vec<u8>) -> Vec<Vec<u8>> {
         .collect()
 }
 
+/// Sheets of boxes that are joined. Now and then one is damaged.
+fn season_of_boxes(count: usize) -> Vec<Vec<u8>> {
+    let mut random = Random(2026);
+    let mut one = |_| {
+        let bytes = opposed::sheet(&mut random);
+        if random.one_in(24) { invent::damaged(&mut random, bytes) } else { bytes }
+    };
+    (0..count).map(&mut one).collect()
+}
+
 /// The first season, but its sheets declare what they put, each type once before its first put, and use it.
 fn season_with_names(count: usize) -> Vec<Vec<u8>> {
     season(count, generate::steps_bytes).iter().map(|sheet| naming::once(sheet)).collect()
@@ -332,10 +369,17 @@ fn works() -> Vec<(String, Work)> {
         "validating eight deep".into(),
         Work::Validate(deep(num(&[Dim::Dyn])), deep(num(&[THREE]))),
     ));
+    // Of the answer a library before 2026-07 has only yes or no.
+    let eight = |last| type_bytes(&num(&[&[THREE; SIZES - 1][..], &[last]].concat()));
+    works.push((
+        "compatible shapes of eight sizes".into(),
+        Work::Compatible(eight(Dim::Static(4)), eight(Dim::Static(5))),
+    ));
     let seasons = [
         ("a season of 1,000 sheets", season(1_000, generate::steps_bytes)),
         ("a season that buries types", season(1_000, generate::nameless)),
         ("a season with names", season_with_names(1_000)),
+        ("a season whose boxes are joined", season_of_boxes(1_000)),
     ];
     works.extend(seasons.map(|(name, sheets)| (name.into(), Work::Sheets(sheets))));
     works
@@ -362,7 +406,7 @@ fn held(name: &str, work: &Work) {
     let (count, length) = match work {
         Work::Sheets(sheets) => (sheets.len(), sheets.iter().map(Vec::len).sum::<usize>()),
         Work::Read(ty) => (1, ty.len()),
-        Work::Validate(spec, ty) => (1, spec.len() + ty.len()),
+        Work::Validate(a, b) | Work::Compatible(a, b) => (1, a.len() + b.len()),
     };
     println!("# {name}: {accepted} of {count} accepted, {length} bytes");
 }
@@ -392,7 +436,11 @@ fn main() {
         .nth(1)
         .map_or(301, |word| word.parse().unwrap_or_else(|_| fail("bench [ROUNDS [PART]]")));
     let part = std::env::args().nth(2).unwrap_or_default();
-    let named = |name: &str| name == EMPTY || name.contains(&part);
+    let wanted = |name: &str| match part.strip_prefix('-') {
+        Some(part) => !name.contains(part),
+        None => name.contains(&part),
+    };
+    let named = |name: &str| name == EMPTY || wanted(name);
     let works: Vec<_> = works().into_iter().filter(|(name, _)| named(name)).collect();
     // Drawing sheets has stopped validations on its way; those measured go to their end.
     standins::stop_after(usize::MAX);
@@ -400,7 +448,7 @@ fn main() {
     let mut to = buffers(0);
     let empty = Work::Sheets(vec![Vec::new()]);
     println!(
-        "{:<30}{:>11}{:>11}{:>8}{:>9}{:>16}{:>12}{:>12}{:>8}",
+        "{:<33}{:>11}{:>11}{:>8}{:>9}{:>16}{:>12}{:>12}{:>8}",
         "case",
         "ours, us",
         "Rust, us",
@@ -424,7 +472,7 @@ fn main() {
         let ratios: Vec<f64> = our.iter().zip(&rust).map(|(our, rust)| rust / our).collect();
         let [low, median, high] = [0.1, 0.5, 0.9].map(|part| along(&ratios, part));
         let [our, rust, bare, clearing] = [our, rust, bare, clearing].map(|list| along(&list, 0.0));
-        print!("{name:<30}{:>11.3}{:>11.3}{:>8.2}", our / 1e3, rust / 1e3, rust / our);
+        print!("{name:<33}{:>11.3}{:>11.3}{:>8.2}", our / 1e3, rust / 1e3, rust / our);
         print!("{median:>9.2}{:>16}", format!("{low:.2} to {high:.2}"));
         match work {
             Work::Sheets(sheets) if name != EMPTY => {

@@ -18,6 +18,9 @@ pub struct Expected {
 pub const VALUE: u64 = 1;
 pub const NONE: u64 = 2;
 
+/// Stands where a test names no index, since the counts differ.
+pub const NO_INDEX: u64 = u64::MAX;
+
 const NEITHER: u64 = 0;
 const SPEC: u64 = 1;
 const TYPE: u64 = 2;
@@ -88,6 +91,16 @@ pub fn checked(text: &str) -> Expected {
 
 pub fn number(text: &str) -> Expected {
     told(text, |words| value(size(words[0]), 0))
+}
+
+/// The test of two opening lists: `1`, or `0` and the index that fails, or `0 none`.
+pub fn tested(text: &str) -> Expected {
+    told(text, |words| match words {
+        ["1"] => value(1, 0),
+        ["0", "none"] => value(0, NO_INDEX),
+        ["0", index] => value(0, parsed(index)),
+        _ => panic!("the oracle answered {text}"),
+    })
 }
 
 pub fn order(text: &str) -> Expected {

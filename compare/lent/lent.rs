@@ -14,6 +14,8 @@ mod counts;
 #[path = "../oracle/edges.rs"]
 mod edges;
 mod expected;
+#[path = "../oracle/failing.rs"]
+mod failing;
 #[path = "../oracle/filled.rs"]
 mod filled;
 #[path = "../oracle/generate.rs"]
@@ -29,6 +31,8 @@ mod limits;
 mod names;
 #[path = "../oracle/naming.rs"]
 mod naming;
+#[path = "../oracle/opposed.rs"]
+mod opposed;
 #[path = "../oracle/requests.rs"]
 mod requests;
 #[path = "../oracle/rules.rs"]

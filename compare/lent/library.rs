@@ -106,7 +106,7 @@ declared! {
     ("join_shapes", vg_join_shapes, TwoTo, expected::bytes, (In, usize, In, usize, Out, usize)),
     ("row_shape", vg_row_shape, OneTo, expected::bytes, (In, usize, Out, usize)),
     ("pervade", vg_pervade, Led(3), expected::bytes, (u64, In, usize, In, usize, Out, usize)),
-    ("compatible_shapes", vg_compatible_shapes, Two, expected::number, (In, usize, In, usize)),
+    ("compatible_shapes", vg_compatible_shapes, Two, expected::tested, (In, usize, In, usize)),
     ("shape_is_any", vg_shape_is_any, One, expected::number, (In, usize)),
     ("shape_is_scalar", vg_shape_is_scalar, One, expected::number, (In, usize)),
     ("row_count", vg_row_count, One, expected::number, (In, usize)),

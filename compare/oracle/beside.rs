@@ -1,19 +1,29 @@
 //! Holds a sheet's pervading (filled.rs) beside the Rust's function. Unfilled, they must be equal.
 //! Filled, they must refuse alike and be equal but at the indices of which 2026-01 speaks: there the
-//! sheet has ?.
+//! sheet has ?. Then the test of two opening lists (failing.rs) beside the Rust's: they must say yes to
+//! just the same pairs.
 
-use crate::edges::small_shapes;
+use crate::edges::{lists, small_shapes};
+use crate::failing::{self, Verdict};
 use crate::invent::{self, Random};
+use crate::limits::SIZES;
 use crate::uiua::{Dim, DynShape};
-use crate::{filled, rules};
+use crate::{filled, opposed, rules};
 
 /// Pairs of longer shapes, drawn at random.
 const DRAWN: usize = 500_000;
+/// All pairs of lists of up to so many sizes are tested.
+const LONGEST: usize = 5;
 /// Differences printed.
 const SHOWN: usize = 10;
 
-/// All pairs of small shapes, then drawn ones, each with every flag: whether all are as they must be.
+/// Whether all are as they must be.
 pub fn all() -> bool {
+    pervadings() & tests()
+}
+
+/// All pairs of small shapes, then drawn ones, each with every flag.
+fn pervadings() -> bool {
     let mut tally = Tally::default();
     let shapes = small_shapes();
     for (a, b) in shapes.iter().flat_map(|a| shapes.iter().map(move |b| (a, b))) {
@@ -81,4 +91,53 @@ fn met_by_unknown(own: &DynShape, other: &DynShape) -> Vec<usize> {
     let sizes = own.dims.iter().enumerate();
     let fixed = sizes.filter(|(_, size)| ![Dim::Dyn, Dim::Static(1)].contains(size));
     fixed.map(|(index, _)| index).filter(|&index| unknown(index)).collect()
+}
+
+/// All pairs of small shapes and of lists, then drawn ones.
+fn tests() -> bool {
+    let mut tests = Tests::default();
+    let closed: Vec<DynShape> = lists(LONGEST).into_iter().map(Into::into).collect();
+    for shapes in [small_shapes(), closed] {
+        shapes.iter().for_each(|a| shapes.iter().for_each(|b| tests.one(a, b)));
+    }
+    let mut random = Random(1);
+    for _ in 0..DRAWN {
+        let (a, b) = opposed::pair(&mut random);
+        tests.one(&a.shape, &b.shape);
+    }
+    tests.summary();
+    tests.differing == 0
+}
+
+#[derive(Default)]
+struct Tests {
+    yes: usize,
+    /// The noes that name an index, by this.
+    at: [usize; SIZES],
+    counts: usize,
+    differing: usize,
+}
+
+impl Tests {
+    fn one(&mut self, a: &DynShape, b: &DynShape) {
+        let says_yes = a.compatible_with(b);
+        match failing::verdict(says_yes, a, b) {
+            Some(Verdict::Yes) => self.yes += 1,
+            Some(Verdict::Index(index)) => self.at[index] += 1,
+            Some(Verdict::Counts) => self.counts += 1,
+            None => {
+                self.differing += 1;
+                if self.differing <= SHOWN {
+                    println!("compatible_with says {says_yes} to {a:?} {b:?}");
+                }
+            }
+        }
+    }
+
+    fn summary(&self) {
+        let Tests { yes, at, counts, differing } = self;
+        let sum = yes + at.iter().sum::<usize>() + counts + differing;
+        print!("{sum} tests: {yes} yes, no at each index {at:?}, {counts} of other counts, ");
+        println!("{differing} differ");
+    }
 }

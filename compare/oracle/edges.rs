@@ -1,6 +1,7 @@
 //! Requests that need no seed. `edges`: every limit with its neighbours, every cut of a few types
-//! and sheets, all numbers at borders, names (naming.rs), types that lie under others (buried.rs).
-//! `pairs`: all pairs of small shapes and of scalars, and specs of three sizes on small shapes.
+//! and sheets, all numbers at borders, names (naming.rs), types that lie under others (buried.rs), and
+//! every set of indices at which two lists fail (opposed.rs). `pairs`: all pairs of small shapes, of
+//! opening lists and of scalars, and specs of three sizes on small shapes.
 
 use std::io::Result;
 
@@ -10,7 +11,7 @@ use crate::invent::{self, BYTES, EDGE_SIZES, NUMBERS};
 use crate::limits::{INPUT, LENT, LINE, PLACES, STEPS, TYPE};
 use crate::requests::{Call, REQUESTS, hex, size};
 use crate::uiua::{Dim, DynShape, Scalar, ScalarBox, Type};
-use crate::{buried, naming, sheet};
+use crate::{buried, naming, opposed, sheet};
 
 pub fn edges(out: &mut Lines) -> Result<()> {
     samples().iter().try_for_each(|ty| damaged(out, &type_bytes(ty)))?;
@@ -26,6 +27,7 @@ pub fn edges(out: &mut Lines) -> Result<()> {
     stacks(out)?;
     naming::edges(out)?;
     buried::edges(out)?;
+    opposed::edges(out)?;
     buffers(out)?;
     alone(out)?;
     for length in [LINE - 1, LINE, LINE + 1] {
@@ -330,7 +332,25 @@ pub fn pairs(out: &mut Lines) -> Result<()> {
         out.line("validate", format!(" none{both}"))?;
     }
     shapes.iter().try_for_each(|a| shapes.iter().try_for_each(|b| shape_pair(out, a, b)))?;
-    threes().iter().try_for_each(|a| shapes.iter().try_for_each(|b| counted(out, a, b)))
+    threes().iter().try_for_each(|a| shapes.iter().try_for_each(|b| counted(out, a, b)))?;
+    let (short, long) = (lists(SHORT), lists(LONG));
+    long.iter().try_for_each(|a| long.iter().try_for_each(|b| tested(out, a, b)))?;
+    short.iter().try_for_each(|a| short.iter().try_for_each(|b| tested_in_boxes(out, a, b)))
+}
+
+/// Opening lists of which all pairs are tested: bare ones have up to so many sizes, contents of boxes
+/// up to fewer.
+const LONG: usize = 4;
+const SHORT: usize = 3;
+
+fn tested(out: &mut Lines, a: &[Dim], b: &[Dim]) -> Result<()> {
+    out.line("compatible_shapes", word(&num(a.to_vec())) + &word(&num(b.to_vec())))
+}
+
+fn tested_in_boxes(out: &mut Lines, a: &[Dim], b: &[Dim]) -> Result<()> {
+    let [a, b] = [a, b].map(|dims| invent::all(num(dims.to_vec())));
+    let both = word(&a) + &word(&b);
+    ["compatible_with_boxes", "union", "join"].iter().try_for_each(|word| out.line(word, &both))
 }
 
 /// A spec and a type under each side, in a box, as a field and in a sheet. Inside, no side is in
@@ -370,20 +390,24 @@ fn pervading(flag: u8, a: &Type, b: &Type) -> Vec<u8> {
     [put(b), put(a), pervade(flag)].concat()
 }
 
-/// All lists of at most two of the sizes 0, 1, 2 and ?.
-fn small_lists() -> Vec<Vec<Dim>> {
+/// All lists of at most so many of the sizes 0, 1, 2 and ?.
+pub fn lists(most: usize) -> Vec<Vec<Dim>> {
     let sizes = [Dim::Static(0), Dim::Static(1), Dim::Static(2), Dim::Dyn];
-    let mut lists = vec![vec![]];
-    lists.extend(sizes.map(|a| vec![a]));
-    lists.extend(sizes.iter().flat_map(|&a| sizes.map(|b| vec![a, b])));
-    lists
+    let (mut all, mut longest) = (vec![vec![]], vec![vec![]]);
+    for _ in 0..most {
+        let longer = |list: &Vec<Dim>| sizes.map(|size| [&list[..], &[size]].concat());
+        longest = longest.iter().flat_map(longer).collect();
+        all.extend(longest.clone());
+    }
+    all
 }
 
+/// With lists of at most two sizes.
 pub fn small_shapes() -> Vec<DynShape> {
     let mut shapes = Vec::new();
-    for dims in small_lists() {
+    for dims in lists(2) {
         shapes.push(dims.clone().into());
-        shapes.extend(small_lists().into_iter().map(|closing| open(dims.clone(), closing)));
+        shapes.extend(lists(2).into_iter().map(|closing| open(dims.clone(), closing)));
     }
     shapes
 }

@@ -7,7 +7,7 @@ use crate::invent::{self, Random};
 use crate::limits::{LENT, LINE, PLACES, SCRATCH, TYPE};
 use crate::requests::{Call, REQUESTS, hex, size};
 use crate::uiua::{Scalar, Type};
-use crate::{buried, edges, naming, sheet, specs};
+use crate::{buried, edges, naming, opposed, sheet, specs};
 
 pub const SIDES: [&str; 3] = ["none", "left", "right"];
 /// Scratches longer than is asked for: by one byte, as long as was asked for before (2026-04, and one
@@ -132,7 +132,13 @@ fn one(r: &mut Random) -> String {
 }
 
 fn two(r: &mut Random, checked: bool) -> String {
-    let (mut a, mut b) = if checked { specs::spec_and_type(r) } else { invent::pair(r) };
+    let (mut a, mut b) = if checked {
+        specs::spec_and_type(r)
+    } else if r.one_in(2) {
+        opposed::pair(r)
+    } else {
+        invent::pair(r)
+    };
     for ty in [&mut a, &mut b] {
         if checked && r.one_in(24) {
             invent::at_a_limit(r, ty);
@@ -159,9 +165,18 @@ fn sheet_call(r: &mut Random) -> String {
     format!(" {scratch} {} {}", around(r, needed), hex_word(&bytes))
 }
 
-/// Half of the sheets have names.
+/// Half of the sheets have names, and every twelfth joins boxes.
 pub fn sheet_bytes(r: &mut Random) -> Vec<u8> {
+    if r.one_in(12) {
+        return joined(r);
+    }
     if r.one_in(2) { naming::drawn(r) } else { nameless(r) }
+}
+
+fn joined(r: &mut Random) -> Vec<u8> {
+    let sheet = opposed::sheet(r);
+    let bytes = if r.one_in(2) { naming::named(r, &sheet) } else { sheet };
+    if r.one_in(24) { invent::damaged(r, bytes) } else { bytes }
 }
 
 /// Every third is a sheet whose types lie under others and are dug up again.

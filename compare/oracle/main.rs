@@ -2,7 +2,8 @@
 //!
 //!     oracle                                      answers the requests on its standard input
 //!     oracle generate SEED COUNT [MODE [WORD..]]  writes requests
-//!     oracle beside                               holds a sheet's pervading beside the Rust's
+//!     oracle beside                               holds a sheet's pervading and the test of two
+//!                                                 opening lists beside the Rust's
 //!     oracle kinds                                prints the table of kinds, one number to a line
 
 mod beside;
@@ -10,6 +11,7 @@ mod buried;
 mod bytes;
 mod counts;
 mod edges;
+mod failing;
 mod filled;
 mod generate;
 mod invent;
@@ -17,6 +19,7 @@ mod kinds;
 mod limits;
 mod names;
 mod naming;
+mod opposed;
 mod requests;
 mod rules;
 mod sheet;

@@ -4,6 +4,7 @@ use std::cmp::Ordering;
 use std::fmt::Write;
 
 use crate::bytes::{No, def_bytes, no, read_lone, scalar_bytes, shape_bytes, type_bytes};
+use crate::failing::Verdict;
 use crate::limits::{LARGEST, LENT, LINE};
 use crate::standins::SubSide;
 use crate::uiua::{Dim, DynShape, Scalar, Type, TypeVal};
@@ -51,7 +52,7 @@ pub const REQUESTS: &[(&str, Call)] = &[
     ("union", Call::Two(|a, b| scalar(&a.scalar.union(b.scalar)))),
     ("unrefine", Call::One(unrefined)),
     ("nums_scalar", Call::Numbers(|numbers| scalar(&numbers.into()))),
-    ("compatible_shapes", Call::Two(|a, b| truth(a.shape.compatible_with(&b.shape)))),
+    ("compatible_shapes", Call::Two(|a, b| verdict(rules::compatible(&a.shape, &b.shape)))),
     ("superset", Call::Two(|a, b| truth(a.scalar.superset_of(&b.scalar)))),
     ("compatible_scalars", Call::Two(|a, b| truth(a.scalar.compatible_with(&b.scalar)))),
     ("compatible_with_boxes", Call::Two(|a, b| truth(a.scalar.compatible_with_boxes(&b.scalar)))),
@@ -165,6 +166,14 @@ pub fn size(dim: Dim) -> String {
 
 fn truth(truth: bool) -> Answer {
     Ok((truth as u8).to_string())
+}
+
+fn verdict(verdict: Verdict) -> Answer {
+    Ok(match verdict {
+        Verdict::Yes => "1".into(),
+        Verdict::Index(index) => format!("0 {index}"),
+        Verdict::Counts => "0 none".into(),
+    })
 }
 
 fn order(order: Ordering) -> Answer {

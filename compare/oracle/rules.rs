@@ -2,6 +2,7 @@
 
 use crate::bytes::{No, depth, no, types};
 use crate::counts;
+use crate::failing::{self, Verdict};
 use crate::limits::{COPIES, DEPTH, LARGEST, SIZES, TYPES};
 use crate::standins::{SubSide, stop_after};
 use crate::uiua::{
@@ -12,6 +13,14 @@ use crate::uiua::{
 /// Both shapes pervaded; `flag` bit 0 fills the first, bit 1 the second.
 pub fn pervade(flag: u64, first: DynShape, second: DynShape) -> Result<DynShape, No> {
     pervade_dyn_shapes(first, second, flag & 1 != 0, flag & 2 != 0).or_else(|_| no(8, 0))
+}
+
+/// Whether two opening lists pass, and which index fails. The one is the cut text's, the other is worked
+/// out by hand: an oracle that disagrees with itself must not answer.
+pub fn compatible(a: &DynShape, b: &DynShape) -> Verdict {
+    let says_yes = a.compatible_with(b);
+    failing::verdict(says_yes, a, b)
+        .unwrap_or_else(|| panic!("compatible_with says {says_yes} to {a:?} and {b:?}"))
 }
 
 pub fn validated(side: Option<SubSide>, spec: Type, ty: Type) -> Result<Type, No> {

@@ -78,6 +78,9 @@ typedef struct vg_answer {
     uint64_t second;
 } vg_answer;
 
+/* What `second` of vg_compatible_shapes is where no index is named. It has the bits of VG_UNKNOWN, but is no size. */
+#define VG_NO_INDEX UINT64_C(18446744073709551615)
+
 /* Why an input is refused, one of sixteen numbers. In a lone type a place is a byte of the type; of two types that were handed in, of
  * the one that was refused: of a spec and a type the validation itself tells which (`reading`); for two others hand the first to
  * vg_read, since it is read whole before the other: refused, it is that one. In a sheet a place is a byte of the sheet. */
@@ -191,8 +194,14 @@ vg_answer vg_row_shape(const uint8_t *ty, size_t ty_len, uint8_t *result, size_t
  * pervade; result. */
 vg_answer vg_pervade(uint64_t flag, const uint8_t *a, size_t a_len, const uint8_t *b, size_t b_len, uint8_t *result, size_t result_len);
 
-/* Whether two shapes are compatible: equal counts of opening sizes, and at each index equal ones, or 1 or ? on either side.
- * Value: 1 or 0. Refused: reading a; reading b. */
+/* Whether two shapes are compatible: equal counts of opening sizes, and at each index equal ones, or 1 or ? on either side. Closing sizes
+ * are not looked at, nor whether a shape is open.
+ * Value: `first` is 1 if they are, and `second` is 0. `first` is 0 if they are not, and `second` is the greatest index that fails, counted
+ * from 0 at the front, or VG_NO_INDEX where the counts differ: no size is compared then, and it is a value all the same, not VG_NONE.
+ * Index 0 may fail, so of a value `first`, and not `second`, says yes or no.
+ * [2 3 4] with [2 5 6] is 0 and 2; [2 3] with [5 1] is 0 and 0; [2] with [2 3], and [2..3] with [2 3], are 0 and VG_NO_INDEX; [3..4] with
+ * [3..5], and [2 1] with [? 7], are 1 and 0.
+ * Refused: reading a; reading b. */
 vg_answer vg_compatible_shapes(const uint8_t *a, size_t a_len, const uint8_t *b, size_t b_len);
 
 /* Whether the shape is [..]; whether it is [].

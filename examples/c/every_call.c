@@ -25,19 +25,20 @@ static uint8_t *fresh(void)
 
 static int as_lent(size_t from) { return all_are(lent, result + from, sizeof result - from); }
 
-static int value(vg_answer a, uint64_t first) { return is(a, VG_VALUE, 0, 0, first, 0); }
+static int values_of(vg_answer a, uint64_t first, uint64_t second) { return is(a, VG_VALUE, 0, 0, first, second); }
+
+static int value(vg_answer a, uint64_t first) { return values_of(a, first, 0); }
 
 static int none(vg_answer a) { return is(a, VG_NONE, 0, 0, 0, 0) && as_lent(0); }
 
 static int refused(vg_answer a, uint64_t number, uint64_t place) { return is(a, VG_REFUSED, number, place, 0, 0) && as_lent(0); }
 
-static int wrote(vg_answer a, const char *text)
-{
-    bytes b = hex(text);
-    return value(a, b.length) && memcmp(result, b.data, b.length) == 0 && as_lent(b.length);
-}
+static int wrote_bytes(vg_answer a, bytes b) { return value(a, b.length) && memcmp(result, b.data, b.length) == 0 && as_lent(b.length); }
+
+static int wrote(vg_answer a, const char *text) { return wrote_bytes(a, hex(text)); }
 
 #define VALUE(call, first) (fresh(), expect(#call, value(call, first)))
+#define VALUES(call, first, second) (fresh(), expect(#call, values_of(call, first, second)))
 #define NONE(call) (fresh(), expect(#call, none(call)))
 #define REFUSED(call, number, place) (fresh(), expect(#call, refused(call, number, place)))
 #define WROTE(call, text) (fresh(), expect(#call, wrote(call, text)))
@@ -63,8 +64,7 @@ static void types(void)
     WROTE(vg_as_boxes(T(ONE("02") ALL SCALAR NUM), result, room), "ff02" SCALAR NUM SCALAR NUM);
     NONE(vg_as_boxes(T(SCALAR NUM), result, 0));
     REFUSED(vg_as_boxes(T(ONE("20") ALL SCALAR NUM), result, room), VG_TOO_MANY, 0);
-    fresh();
-    expect("vg_field", is(vg_field(T(PAIR), 1), VG_VALUE, 0, 0, 28, 15));
+    VALUES(vg_field(T(PAIR), 1), 28, 15);
     NONE(vg_field(T(PAIR), 2));
     WROTE(vg_join(T(ONE("03") NUM), T(ONE("04") NUM), result, room), UNKNOWN_ONE NUM);
 }
@@ -79,8 +79,10 @@ static void shapes(void)
     WROTE(vg_pervade(1, T(ONE("03") NUM), T(ONE("04") NUM), result, room), ONE("04"));
     WROTE(vg_pervade(1, T(ONE("0c") NUM), T(UNKNOWN_ONE NUM), result, room), ONE("0c"));
     REFUSED(vg_pervade(4, T(""), T(""), result, room), VG_OUT_OF_RANGE, 0);
-    VALUE(vg_compatible_shapes(T(ONE("01") NUM), T(ONE("04") NUM)), 1);
-    VALUE(vg_compatible_shapes(T(ONE("03") NUM), T(ONE("04") NUM)), 0);
+    VALUES(vg_compatible_shapes(T(ONE("01") NUM), T(ONE("04") NUM)), 1, 0);
+    VALUES(vg_compatible_shapes(T(ONE("03") NUM), T(ONE("04") NUM)), 0, 0);
+    VALUES(vg_compatible_shapes(T(TWO("03", "05") NUM), T(TWO("04", "06") NUM)), 0, 1);
+    VALUES(vg_compatible_shapes(T(ONE("03") NUM), T(TWO("03", "05") NUM)), 0, VG_NO_INDEX);
     VALUE(vg_shape_is_any(T(OPEN NUM)), 1);
     VALUE(vg_shape_is_scalar(T(OPEN NUM)), 0);
     VALUE(vg_row_count(T(UNKNOWN_ONE NUM)), VG_UNKNOWN);
@@ -497,6 +499,221 @@ static void validation(void)
     }
 }
 
+/* ---- compatible shapes: the greatest index that fails ---------------------------------------------------------------------- */
+
+/* Two shapes, as the paper writes them, and what is answered of them in either order: 1 and 0 if they are compatible, else 0 and the
+ * index. */
+typedef struct tested {
+    const char *a;
+    const char *b;
+    uint64_t first;
+    uint64_t second;
+} tested;
+
+static const tested tested_shapes[] = {
+    /* No index fails. */
+    {"[]", "[]", 1, 0},
+    {"[2 3 4]", "[2 3 4]", 1, 0},
+    {"[2 1 ?]", "[2 7 8]", 1, 0},
+    {"[1 ?]", "[? 1]", 1, 0},
+    {"[0 0]", "[? 1]", 1, 0},
+    {"[? ?]", "[? ?]", 1, 0},
+    {"[2 3 4 5 6 7 8 9]", "[2 1 4 ? 6 7 ? 1]", 1, 0},
+    /* One fails: the first, the last, one between. */
+    {"[2]", "[3]", 0, 0},
+    {"[0]", "[2]", 0, 0},
+    {"[2 3 4]", "[5 3 4]", 0, 0},
+    {"[2 3 4]", "[2 5 4]", 0, 1},
+    {"[2 3 4]", "[2 3 5]", 0, 2},
+    {"[2 3]", "[5 1]", 0, 0},
+    {"[2 3]", "[? 5]", 0, 1},
+    {"[2 3 4]", "[5 1 ?]", 0, 0},
+    {"[2 3 4 5 6 7 8 9]", "[0 3 4 5 6 7 8 9]", 0, 0},
+    {"[2 3 4 5 6 7 8 9]", "[2 3 4 5 6 7 8 0]", 0, 7},
+    /* Several fail: it is the last of them. */
+    {"[2 3]", "[5 6]", 0, 1},
+    {"[2 3 4]", "[5 6 4]", 0, 1},
+    {"[2 3 4]", "[5 3 6]", 0, 2},
+    {"[2 3 4]", "[2 5 6]", 0, 2},
+    {"[2 3 4]", "[5 6 ?]", 0, 1},
+    {"[2 3 4 5 6 7 8 9]", "[3 4 5 6 7 8 9 9]", 0, 6},
+    {"[2 3 4 5 6 7 8 9]", "[3 4 5 6 7 8 9 2]", 0, 7},
+    /* The counts differ: none, whatever the sizes are. */
+    {"[]", "[1]", 0, VG_NO_INDEX},
+    {"[2]", "[2 3]", 0, VG_NO_INDEX},
+    {"[3]", "[2 3]", 0, VG_NO_INDEX},
+    {"[5]", "[2 3]", 0, VG_NO_INDEX},
+    {"[? ?]", "[1 1 1]", 0, VG_NO_INDEX},
+    {"[2 3 4 5 6 7 8 9]", "[2 3 4 5 6 7 8]", 0, VG_NO_INDEX},
+    /* Closing sizes, and whether there may be any, make no difference. */
+    {"[3..4]", "[3..5]", 1, 0},
+    {"[3..4]", "[3..4 5]", 1, 0},
+    {"[3..4]", "[3..]", 1, 0},
+    {"[3..4]", "[3]", 1, 0},
+    {"[3..]", "[3]", 1, 0},
+    {"[..]", "[]", 1, 0},
+    {"[..4 5]", "[]", 1, 0},
+    {"[3..4]", "[5..4]", 0, 0},
+    {"[2 3..4]", "[2 5]", 0, 1},
+    {"[2 3..4 5]", "[6 3..7]", 0, 0},
+    {"[2 3..]", "[6 7..4]", 0, 1},
+    /* Nor do they count. */
+    {"[..]", "[2]", 0, VG_NO_INDEX},
+    {"[..2]", "[2]", 0, VG_NO_INDEX},
+    {"[2..3]", "[2 3]", 0, VG_NO_INDEX},
+    {"[2..3]", "[2 3..]", 0, VG_NO_INDEX},
+};
+static const size_t tested_made = sizeof tested_shapes / sizeof tested_shapes[0];
+
+static vg_answer compatible(bytes a, bytes b)
+{
+    fresh();
+    return vg_compatible_shapes(a.data, a.length, b.data, b.length);
+}
+
+/* The union of two boxes goes by yes or no alone: of an All of each it is the one with the later type, else box Any. */
+static vg_answer united(bytes a, bytes b)
+{
+    a = followed(hex(SCALAR ALL), a);
+    b = followed(hex(SCALAR ALL), b);
+    fresh();
+    return vg_union(a.data, a.length, b.data, b.length, result, room);
+}
+
+static bytes later(bytes a, bytes b) { return value(vg_compare(a.data, a.length, b.data, b.length), 2) ? a : b; }
+
+static void test_shapes(const char *a_text, const char *b_text, uint64_t first, uint64_t second)
+{
+    const bytes a = nums_behind("", a_text), b = nums_behind("", b_text);
+    char what[128];
+    snprintf(what, sizeof what, "vg_compatible_shapes, %s with %s", a_text, b_text);
+    expect(what, values_of(compatible(a, b), first, second));
+    snprintf(what, sizeof what, "vg_union, All of %s with All of %s", a_text, b_text);
+    expect(what, wrote_bytes(united(a, b), first == 1 ? followed(hex(ALL), later(a, b)) : hex(BOX_ANY)));
+}
+
+/* Sizes that pass beside each other at an index, and sizes that fail. */
+typedef struct two_sizes {
+    uint64_t a;
+    uint64_t b;
+} two_sizes;
+
+static const two_sizes passing[] = {
+    {7, 7}, {1, 7}, {7, 1}, {VG_UNKNOWN, 7}, {7, VG_UNKNOWN}, {1, VG_UNKNOWN}, {VG_UNKNOWN, 0}, {VG_UNKNOWN, VG_UNKNOWN},
+    {0, 0}, {0, 1}, {1, VG_MAX_SIZE}, {VG_MAX_SIZE, VG_UNKNOWN}, {VG_MAX_SIZE, VG_MAX_SIZE},
+};
+static const two_sizes failing[] = {
+    {2, 3}, {3, 2}, {0, 2}, {2, 0}, {5, 256 + 5}, {0, VG_MAX_SIZE}, {VG_MAX_SIZE, VG_MAX_SIZE - 1},
+};
+static const size_t passing_made = sizeof passing / sizeof passing[0], failing_made = sizeof failing / sizeof failing[0];
+
+static void test_sizes(const two_sizes *two, int yes)
+{
+    char what[96];
+    snprintf(what, sizeof what, "vg_dim_row_compatible, %llu with %llu", (unsigned long long)two->a, (unsigned long long)two->b);
+    expect(what, value(vg_dim_row_compatible(two->a, two->b), (uint64_t)yes));
+}
+
+/* How many closing sizes a shape has; 255 for a closed one. */
+static const uint8_t closing_counts[] = {255, 0, 1, VG_MAX_SIZES};
+static const size_t closings_made = sizeof closing_counts / sizeof closing_counts[0];
+
+static bytes and_size(bytes b, uint64_t size)
+{
+    for (int i = 0; i < 8; i++) {
+        b.data[b.length++] = (uint8_t)(size >> 8 * i);
+    }
+    return b;
+}
+
+static bytes begin_shape(size_t openings, uint8_t closings)
+{
+    bytes b = hex(SCALAR);
+    b.data[2] = (uint8_t)openings;
+    b.data[3] = closings;
+    return b;
+}
+
+static bytes end_shape(bytes b, uint64_t size)
+{
+    for (int i = 0; b.data[3] != 255 && i < b.data[3]; i++) {
+        b = and_size(b, size);
+    }
+    return followed(b, hex(NUM));
+}
+
+/* Two lists of so many sizes. Bit i of `fails` says that those at index i fail; so the answer is known from the counts and these bits, and
+ * no size is looked at again. The closing sizes are 2 and 3, which would fail. */
+static void test_lists(size_t a_count, size_t b_count, unsigned fails, uint8_t a_closings, uint8_t b_closings)
+{
+    const int yes = a_count == b_count && fails == 0;
+    bytes a = begin_shape(a_count, a_closings), b = begin_shape(b_count, b_closings);
+    uint64_t greatest = VG_NO_INDEX;
+    char what[128];
+    for (size_t i = 0; i < VG_MAX_SIZES; i++) {
+        const int fail = fails >> i & 1;
+        const two_sizes *two = fail ? &failing[(fails + i) % failing_made] : &passing[(fails + i) % passing_made];
+        a = i < a_count ? and_size(a, two->a) : a;
+        b = i < b_count ? and_size(b, two->b) : b;
+        greatest = fail && a_count == b_count ? i : greatest;
+    }
+    snprintf(what, sizeof what, "vg_compatible_shapes, %zu sizes with %zu, fails %02x, closing %d and %d", a_count, b_count, fails, a_closings, b_closings);
+    expect(what, values_of(compatible(end_shape(a, 2), end_shape(b, 3)), (uint64_t)yes, yes ? 0 : greatest));
+}
+
+/* Every choice of indices that fail, among those that both lists have; with every two counts of closing sizes. */
+static void test_counts(size_t a_count, size_t b_count)
+{
+    const size_t shorter = a_count < b_count ? a_count : b_count;
+    for (unsigned fails = 0; fails < 1u << shorter; fails++) {
+        for (size_t i = 0; i < closings_made * closings_made; i++) {
+            test_lists(a_count, b_count, fails, closing_counts[i / closings_made], closing_counts[i % closings_made]);
+        }
+    }
+}
+
+/* Both are read before their sizes are compared, the first whole before the other. */
+static void test_damaged(const damage *d)
+{
+    const bytes good = hex(ONE("02") NUM), damaged = hex(d->bytes);
+    char what[512];
+    snprintf(what, sizeof what, "vg_compatible_shapes, the first is %s", d->bytes);
+    expect(what, refused(compatible(damaged, good), d->number, d->place));
+    snprintf(what, sizeof what, "vg_compatible_shapes, the second is %s", d->bytes);
+    expect(what, refused(compatible(good, damaged), d->number, d->place));
+    for (size_t i = 0; i < damages_made; i++) {
+        snprintf(what, sizeof what, "vg_compatible_shapes, %s with %s", d->bytes, damages[i].bytes);
+        expect(what, refused(compatible(damaged, hex(damages[i].bytes)), d->number, d->place));
+    }
+}
+
+static void compatible_shapes(void)
+{
+    expect("no index", VG_NO_INDEX == UINT64_MAX);
+    for (const tested *t = tested_shapes; t < tested_shapes + tested_made; t++) {
+        test_shapes(t->a, t->b, t->first, t->second);
+        test_shapes(t->b, t->a, t->first, t->second);
+    }
+    for (size_t i = 0; i < passing_made; i++) {
+        test_sizes(&passing[i], 1);
+    }
+    for (size_t i = 0; i < failing_made; i++) {
+        test_sizes(&failing[i], 0);
+    }
+    for (size_t a_count = 0; a_count <= VG_MAX_SIZES; a_count++) {
+        for (size_t b_count = 0; b_count <= VG_MAX_SIZES; b_count++) {
+            test_counts(a_count, b_count);
+        }
+    }
+    for (size_t i = 0; i < damages_made; i++) {
+        test_damaged(&damages[i]);
+    }
+    /* Scalars make no difference. */
+    VALUES(vg_compatible_shapes(T(TWO("02", "03") NUM), T(TWO("02", "05") CHAR)), 0, 1);
+    VALUES(vg_compatible_shapes(T(PAIR), T(ONE("01") ALL TWO("02", "05") NUM)), 1, 0);
+    VALUES(vg_compatible_shapes(T(SCALAR ALL ONE("02") NUM), T(SCALAR ALL ONE("03") NUM)), 1, 0);
+}
+
 /* ---- the sheet ------------------------------------------------------------------------------------------------------------- */
 
 /* A scratch that holds anything is cleared, whatever is answered. */
@@ -785,6 +1002,7 @@ int main(void)
     values();
     rows();
     validation();
+    compatible_shapes();
     steps();
     sheets();
     lent_to_sheets();

@@ -8,18 +8,30 @@ use text::put_bytes;
 use text::put_decimal;
 use text::put_hex;
 use velgrodis::Answer as Crossed;
+use velgrodis::DECLARATION;
+use velgrodis::JOIN;
 use velgrodis::NO_INDEX;
 use velgrodis::NOTHING;
+use velgrodis::PERVADE;
+use velgrodis::PUT;
+use velgrodis::ROW;
+use velgrodis::USE;
+use velgrodis::VALIDATE;
 use velgrodis::VALUE;
 use velgrodis::Validation;
 
 // What a line comes to. Bytes, and those of a stretch, a type, a text or a whole line, are the first of the result; a size is all ones for
-// unknown; incompatible shapes have the index that is named; `reading` says which input a validation was reading; a fault is one of `fault`.
+// unknown; a step has its number and its mark; incompatible shapes have the index that is named; `reading` says which input a validation was
+// reading; a fault is one of `fault`.
 pub enum Reply {
     Bytes(usize),
     Stretch {
         start: usize,
         length: usize,
+    },
+    Step {
+        number: u64,
+        mark: u64,
     },
     Number(u64),
     Incompatible(u64),
@@ -82,6 +94,17 @@ pub(crate) fn shapes_tested(a: Crossed) -> Reply {
     without_value(a)
 }
 
+// The step that a place belongs to.
+pub(crate) fn located(a: Crossed) -> Reply {
+    if a.kind == VALUE {
+        return Reply::Step {
+            number: a.first,
+            mark: a.second,
+        };
+    }
+    without_value(a)
+}
+
 pub(crate) fn sized(a: Crossed) -> Reply {
     if a.kind == VALUE {
         return Reply::Size(a.first);
@@ -122,6 +145,7 @@ pub(crate) fn say(answer: Reply, result: &[u8], out: &mut [u8], at: usize) -> us
     match answer {
         Reply::Bytes(n) => say_bytes(part(result, 0, n), out, at),
         Reply::Stretch { start, length } => say_stretch(start, part(result, 0, length), out, at),
+        Reply::Step { number, mark } => say_step(number, mark, out, at),
         Reply::Number(n) => say_number(n, out, at),
         Reply::Incompatible(index) => say_incompatible(index, out, at),
         Reply::Size(n) => say_size(n, out, at),
@@ -162,6 +186,45 @@ fn say_stretch(start: usize, bytes: &[u8], out: &mut [u8], at: usize) -> usize {
     let second = put_number(b"ok ", start as u64, b" ", &mut *out, at);
     let end = put_number(b"", bytes.len() as u64, b" ", &mut *out, second);
     say_hex(bytes, out, end)
+}
+
+fn say_step(number: u64, mark: u64, out: &mut [u8], at: usize) -> usize {
+    let word = put_number(b"ok ", number, b" ", &mut *out, at);
+    let end = put(
+        nth(
+            b"none put row pervade join validate declaration use",
+            mark_place(mark),
+        ),
+        &mut *out,
+        word,
+    );
+    put(b"\n", out, end)
+}
+
+// Which of the words a mark has.
+fn mark_place(mark: u64) -> usize {
+    if mark == PUT {
+        return 1;
+    }
+    if mark == ROW {
+        return 2;
+    }
+    if mark == PERVADE {
+        return 3;
+    }
+    if mark == JOIN {
+        return 4;
+    }
+    if mark == VALIDATE {
+        return 5;
+    }
+    if mark == DECLARATION {
+        return 6;
+    }
+    if mark == USE {
+        return 7;
+    }
+    0
 }
 
 // Bytes in hexadecimal, and the line's end.

@@ -1,6 +1,7 @@
-// NAME N HEX: requests with a number on one type.
+// NAME N HEX: requests with a number on one type, and with a place of a sheet.
 use crate::answers::Reply;
 use crate::answers::delivered;
+use crate::answers::located;
 use crate::answers::without_value;
 use crate::arguments::hex;
 use crate::fault;
@@ -15,11 +16,12 @@ use text::Number;
 use text::parse_decimal;
 use velgrodis::VALUE;
 use velgrodis::vg_field;
+use velgrodis::vg_find_step;
 use velgrodis::vg_nth_row;
 
 // In the order of `call`'s arms.
 pub(crate) fn number(name: &[u8]) -> WordPlace {
-    find(b"nth_row field", name)
+    find(b"nth_row field find_step", name)
 }
 
 pub(crate) fn answered(k: usize, line: &[u8], input: &mut [u8], result: &mut [u8]) -> Reply {
@@ -41,6 +43,7 @@ fn call(k: usize, n: u64, a: &[u8], result: &mut [u8]) -> Reply {
     match k {
         0 => delivered(vg_nth_row(a, n, result)),
         1 => field(n, a, result),
+        2 => located(vg_find_step(a, n)),
         _ => Reply::Bad(fault::REQUEST),
     }
 }

@@ -24,13 +24,14 @@ use velgrodis::vg_row_count;
 use velgrodis::vg_row_shape;
 use velgrodis::vg_shape_is_any;
 use velgrodis::vg_shape_is_scalar;
+use velgrodis::vg_type_length;
 use velgrodis::vg_unboxed;
 use velgrodis::vg_unrefine;
 
 // In the order of `call`'s arms.
 pub(crate) fn number(name: &[u8]) -> WordPlace {
     find(
-        b"read row_shape shape_is_any shape_is_scalar row_count rank row first_row last_row unboxed as_boxes unrefine",
+        b"read row_shape shape_is_any shape_is_scalar row_count rank row first_row last_row unboxed as_boxes unrefine type_length",
         name,
     )
 }
@@ -60,6 +61,7 @@ fn call(k: usize, a: &[u8], result: &mut [u8]) -> Reply {
         9 => delivered(vg_unboxed(a, result)),
         10 => delivered(vg_as_boxes(a, result)),
         11 => delivered(vg_unrefine(a, result)),
+        12 => counted(vg_type_length(a)),
         _ => Reply::Bad(fault::REQUEST),
     }
 }

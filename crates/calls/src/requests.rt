@@ -53,8 +53,8 @@ fn answered_otherwise(name: &[u8], line: &[u8], input: &mut [u8], result: &mut [
     if let WordPlace::At(k) = records::number(name) {
         return records::answered(k, line, input, result);
     }
-    if let WordPlace::At(_) = no_argument::number(name) {
-        return no_argument::answered(line, result);
+    if let WordPlace::At(k) = no_argument::number(name) {
+        return no_argument::answered(k, line, result);
     }
     if let WordPlace::At(k) = sheets::number(name) {
         return sheets::answered(k, line, input, result);

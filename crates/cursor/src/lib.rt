@@ -7,6 +7,11 @@ mod marks;
 mod steps;
 mod types;
 
+pub use flags::FlagRead;
+pub use flags::read_flag;
+pub use marks::MarkRead;
+pub use marks::Operation;
+pub use marks::read_mark;
 use steps::read_step;
 ghost use mathlib.Core.Path.{_≡_};
 ghost use Rattle.machine.specs.Sheet.{stepFrom};

@@ -7,6 +7,7 @@ pub mod Demand
 pub mod Buffers
 pub mod Numbers
 pub mod Numbered
+pub mod RefusedPlace
 pub mod Unfolding
 pub mod WorkedWith
 pub mod Worked

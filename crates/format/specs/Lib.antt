@@ -7,4 +7,5 @@ pub mod ReadWrite
 pub mod Suffices
 pub mod Views
 pub mod DeliverLaws
+pub mod LengthLaws
 pub mod Examples

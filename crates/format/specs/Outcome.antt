@@ -46,6 +46,15 @@ alone size (stopped k p) = refused k p
 unfoldable pub lone : List ℕ → Outcome Ty
 lone s = alone (length s) (readType s 0)
 
+-- The place after what was read.
+abbrev pub placeAfter : {A : Type 0} → Read A → Outcome ℕ
+placeAfter (got a next) = accepted next
+placeAfter (stopped k p) = refused k p
+
+-- The length of the type that begins some bytes, whatever follows it.
+unfoldable pub typeLength : List ℕ → Outcome ℕ
+typeLength s = placeAfter (readType s 0)
+
 -- An answer that counts the bytes written, beside what the result buffer then holds.
 pub data Delivery : Type 0 where
   delivery : Outcome ℕ → List ℕ → Delivery

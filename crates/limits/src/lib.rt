@@ -3,6 +3,9 @@ pub mod marks;
 pub mod records;
 pub mod refusal;
 
+// The version of the library and of the programs: one more with every change that a host or a reader of answers can see.
+pub const VERSION: u64 = 9;
+
 // The largest static size, 2^53, and the number that stands for an unknown one.
 pub const MAX_SIZE: u64 = 9007199254740992;
 

@@ -1,20 +1,22 @@
--- Demand 1, "gets its result or one of" sixteen "numbered refusals", of every public call: the 48 that the library exports, what each
--- answers, as in its contract (`velgrodis/src`), and a table of the numbers that it can be refused with.
+-- Demand 1, "gets its result or one of" sixteen "numbered refusals", of every public call: the 50 of the library that answer so, what
+-- each answers, as in its contract (`velgrodis/src`), and a table of the numbers that it can be refused with. (`vg_version` answers the
+-- library's own number and nothing else.)
 use Prim.Native.Nat.{ℕ}
 use mathlib.Core.List.{List, [], _∷_}
 use mathlib.Core.Path.{_≡_}
 use lib.Ieee.{Float}
 use Rattle.model.specs.Refusals.{ended, unmarked, outOfRange, oversized, tooMany, trailing, tooShort, unpervaded, wrongScalar, wrongShape, notASize, wrongCount, Among}
 use Rattle.format.specs.Records.{writeScalar, writeTy}
-use Rattle.format.specs.Outcome.{accepted, mapped, bound, lone, deliver, shapeRecord, scalarRecord}
+use Rattle.format.specs.Outcome.{accepted, mapped, bound, lone, typeLength, deliver, shapeRecord, scalarRecord}
 use Rattle.rules.specs.Order.{compare}
 use Rattle.rules.specs.Scalars.{supersetOf, compatibleScalars, compatibleWithBoxes, union, unrefine}
 use Rattle.rules.specs.KindTable.{kindTable}
 use Rattle.rules.specs.Types.{intoRow, intoFirstRow, intoLastRow, intoNthRow, unboxed, asBoxes, fieldPlace}
 use Rattle.validation.specs.Validate.{validate, checkScalarOnly, checkShapeOnly}
 use Rattle.validation.specs.Separate.{separately}
+use Rattle.places.specs.Places.{stepOf}
 use Rattle.machine.specs.Call.{sheetCall}
-use Rattle.demand.specs.Numbers.{ofLone, ofSheetCall}
+use Rattle.demand.specs.Numbers.{ofRecords, ofLone, ofSheetCall}
 use Rattle.record.specs.Answers.{nothing}
 use Rattle.known.specs.Whole.{ofTypes, ofScalars, ofScalar}
 use Rattle.shape_calls.specs.Calls.{cmpCall, cmpDefinedCall, maxCall, joinSizesCall, compatibleCall, rowCompatibleCall, mergeCall, joinShapesCall, rowCall, compatibleShapesCall, isAnyCall, isScalarCall, rowCountCall, rankCall}
@@ -23,7 +25,7 @@ use Rattle.join.specs.Calls.{joinCall as joinTypesCall}
 use Rattle.val.specs.Values.{valueTy, valueSpec, valueScalar, numsScalar, valueRowCount, valueRank, valueAsDim, valueAsDims, valueRow, valueFirstRow, valueLastRow, deliverRow}
 use Rattle.velgrodis.specs.declared.Answer.{Answer}
 use Rattle.velgrodis.specs.declared.Validation.{Validation}
-use Rattle.velgrodis.specs.Answers.{counted, tested, shapesTested, sized, sizedOrNone, compared, found}
+use Rattle.velgrodis.specs.Answers.{counted, tested, shapesTested, sized, sizedOrNone, compared, found, located}
 use Rattle.velgrodis.specs.Answers.{Handed, handed, written, listed, deliverSizes, RowHanded, rowHanded, rowed, ValidationHanded, validationHanded, validationOf, Returned, returned, checked}
 use Rattle.velgrodis.specs.Codes.{pervadeFlagged, sided, handedIn}
 
@@ -47,7 +49,7 @@ pub data Call : Type 0 where
   -- the table of kinds
   vg-kinds : List ℕ → Call
   -- types
-  vg-read : List ℕ → Call
+  vg-read vg-type-length : List ℕ → Call
   vg-shape-record vg-scalar-record vg-row vg-first-row vg-last-row vg-unboxed vg-as-boxes : List ℕ → List ℕ → Call
   vg-nth-row : List ℕ → ℕ → List ℕ → Call
   vg-field : List ℕ → ℕ → Call
@@ -60,8 +62,9 @@ pub data Call : Type 0 where
   vg-val-row-count vg-val-rank vg-as-dim : ℕ → Float → List Float → List ℕ → Call
   vg-val-row vg-val-first-row vg-val-last-row : ℕ → Float → List Float → List ℕ → Float → List ℕ → Call
   vg-nums-scalar : List Float → List ℕ → Call
-  -- a sheet, with a result and a scratch
+  -- a sheet with a result and a scratch; a sheet with a place
   vg-check-sheet : List ℕ → List ℕ → List ℕ → Call
+  vg-find-step : List ℕ → ℕ → Call
 
 -- ---- what each answers
 
@@ -103,6 +106,7 @@ replyTo (vg-compatible-with-boxes a b) = tested (ofScalars compatibleWithBoxes a
 replyTo (vg-compare a b) = compared (ofTypes compare a b)
 replyTo (vg-kinds result) = beside (written (deliver (accepted kindTable) result))
 replyTo (vg-read t) = counted (mapped nothing (lone t))
+replyTo (vg-type-length s) = counted (typeLength s)
 replyTo (vg-shape-record t result) = beside (written (deliver (mapped shapeRecord (lone t)) result))
 replyTo (vg-scalar-record t result) = beside (written (deliver (mapped scalarRecord (lone t)) result))
 replyTo (vg-row t result) = beside (written (deliver (mapped (λ u. writeTy (intoRow u)) (lone t)) result))
@@ -128,6 +132,7 @@ replyTo (vg-val-last-row kind x list t before result) = besideRow (rowed before 
 replyTo (vg-as-dim kind x list t) = sizedOrNone (bound valueAsDim (handedIn kind x list t))
 replyTo (vg-as-dims kind x list t sizes) = beside (listed (deliverSizes (bound valueAsDims (handedIn kind x list t)) sizes))
 replyTo (vg-check-sheet sheet result scratch) = besideBoth (checked (sheetCall sheet result scratch))
+replyTo (vg-find-step sheet p) = located (stepOf sheet p)
 
 -- ---- the numbers
 
@@ -160,6 +165,10 @@ ofSizesWritten = ended ∷ unmarked ∷ outOfRange ∷ oversized ∷ tooMany ∷
 abbrev pub ofResult : List ℕ
 ofResult = tooShort ∷ []
 
+-- A place of a sheet: it is never refused.
+abbrev pub neverRefused : List ℕ
+neverRefused = []
+
 -- The table: what each call can be refused with.
 abbrev pub numbersOf : Call → List ℕ
 numbersOf (vg-dim-cmp a b) = ofSizes
@@ -185,6 +194,7 @@ numbersOf (vg-compatible-with-boxes a b) = ofLone
 numbersOf (vg-compare a b) = ofLone
 numbersOf (vg-kinds result) = ofResult
 numbersOf (vg-read t) = ofLone
+numbersOf (vg-type-length s) = ofRecords
 numbersOf (vg-shape-record t result) = ofWritten
 numbersOf (vg-scalar-record t result) = ofWritten
 numbersOf (vg-row t result) = ofWritten
@@ -210,6 +220,7 @@ numbersOf (vg-val-last-row kind x list t before result) = ofWritten
 numbersOf (vg-as-dim kind x list t) = ofSize
 numbersOf (vg-as-dims kind x list t sizes) = ofSizesWritten
 numbersOf (vg-check-sheet sheet result scratch) = ofSheetCall
+numbersOf (vg-find-step sheet p) = neverRefused
 
 -- An answer of kind 0, which is a refusal, has one of these numbers.
 abbrev pub RefusesOnly : List ℕ → Answer → Type 0

@@ -9,7 +9,7 @@ use Rattle.model.specs.Types.{inside, below}
 use Rattle.model.specs.Within.{All}
 use Rattle.format.specs.Reader.{byte, judged, number, bytesOf}
 use Rattle.format.specs.Records.{code, kindOf, writeShape, writeScalar, writeTy, readMark, readDim, readDims, shapeFrom, boxFrom, scalarFrom, readTy}
-use Rattle.format.specs.Outcome.{lone, deliver}
+use Rattle.format.specs.Outcome.{lone, typeLength, deliver}
 use Rattle.rules.specs.Sizes.{cmpDim, compatible}
 use Rattle.rules.specs.Shapes.{isAny, rowCount, mergeDims, mergeClosing, mergeFrom}
 use Rattle.rules.specs.Order.{codeOf, kindPlace}
@@ -28,17 +28,21 @@ use Rattle.ty.specs.Calls.{deliverBoxes}
 use Rattle.val.specs.Values.{valueSpec, numsScalar, valueAsDim, valueAsDims}
 use Rattle.velgrodis.specs.Answers.{no, value, whileReading, validationOf, deliverSizes}
 use Rattle.velgrodis.specs.Codes.{sided}
-use Rattle.numbered.specs.Calls.{Call, vg-dim-cmp, vg-read, vg-shape-record, vg-as-boxes, vg-pervade, vg-check-shape, vg-validate, vg-val-spec, vg-as-dim, vg-as-dims, vg-nums-scalar, vg-kinds, vg-check-sheet, besideValidation, replyTo}
+use Rattle.numbered.specs.Calls.{Call, vg-dim-cmp, vg-read, vg-type-length, vg-shape-record, vg-as-boxes, vg-pervade, vg-check-shape, vg-validate, vg-val-spec, vg-as-dim, vg-as-dims, vg-nums-scalar}
+use Rattle.numbered.specs.Calls.{vg-kinds, vg-check-sheet, besideValidation, replyTo}
 
 -- a call, with the number and the place that it is refused with
 pub data Example : Type 0 where
   theRefusal : Call → ℕ → ℕ → Example
+  -- the length of the type that begins some bytes
+  theLength : List ℕ → ℕ → Example
   -- a validation for a side, with the input that was being read besides, and one that is accepted
   theReading : ℕ → List ℕ → List ℕ → ℕ → ℕ → Input → Example
   theAccepted : ℕ → List ℕ → List ℕ → List ℕ → ℕ → Example
 
 abbrev pub Shown : Example → Type 0
 Shown (theRefusal c k p) = replyTo c ≡ no k p
+Shown (theLength s n) = replyTo (vg-type-length s) ≡ value n 0
 Shown (theReading side s t k p i) = besideValidation (validationOf (sided validate side s t [])) ≡ whileReading i (no k p)
 Shown (theAccepted side s t result n) = besideValidation (validationOf (sided validate side s t result)) ≡ whileReading neither (value n 0)
 
@@ -65,6 +69,9 @@ examples =
     ∷ theRefusal (vg-read (0x53 ∷ 0x48 ∷ 1 ∷ 255 ∷ 0 ∷ 0 ∷ 0 ∷ 0 ∷ 0 ∷ 0 ∷ 0 ∷ 0x10 ∷ [])) oversized 0
     ∷ theRefusal (vg-read (boxes 8)) tooMany 80
     ∷ theRefusal (vg-read (atom 3 ++ (0 ∷ []))) trailing 7
+    -- the type that begins some bytes: cut off, and followed by a byte of another
+    ∷ theRefusal (vg-type-length (0x53 ∷ 0x48 ∷ 0 ∷ 255 ∷ 0x53 ∷ [])) ended 4
+    ∷ theLength (atom 3 ++ (0 ∷ [])) 7
     -- a result too short; a 32nd copy
     ∷ theRefusal (vg-shape-record (atom 3) (0 ∷ 0 ∷ 0 ∷ [])) tooShort 0
     ∷ theRefusal (vg-as-boxes (0x53 ∷ 0x48 ∷ 1 ∷ 255 ∷ 32 ∷ 0 ∷ 0 ∷ 0 ∷ 0 ∷ 0 ∷ 0 ∷ 0 ∷ 0x53 ∷ 0x43 ∷ 8 ∷ 0x42 ∷ 0x58 ∷ 0 ∷ []) []) tooMany 0
@@ -105,11 +112,11 @@ readingExamples =
     ∷ []
 
 pub examples-shown : All Shown examples × All Shown readingExamples
-unfolding examples readingExamples replyTo kindTable squares compatibleCodes compatibleScalars kindPlace union lone deliver readTy shapeFrom scalarFrom boxFrom readMark readDims readDim judged byte number bytesOf code kindOf writeShape writeScalar
-    cmpDim compatible isAny rowCount codeOf supersetCodes supersetOf together walk pervadeClosing pervade whollyAny copiesFor asBoxes agree
+unfolding examples readingExamples replyTo kindTable squares compatibleCodes compatibleScalars kindPlace union lone typeLength deliver readTy shapeFrom scalarFrom boxFrom readMark readDims readDim judged byte number
+    bytesOf code kindOf writeShape writeScalar cmpDim compatible isAny rowCount codeOf supersetCodes supersetOf together walk pervadeClosing pervade whollyAny copiesFor asBoxes agree
     sizesAgree countTest namesAll mismatch shapeMismatch sidedShape mergeDims mergeClosing mergeFrom writeTy checkShape checkScalar validate checkShapeOnly sheetCall sizesFrom deliverBoxes valueSpec numsScalar valueAsDim valueAsDims
     deliverSizes inside below
 examples-shown = (
-  (refl, (refl, (refl, (refl, (refl, (refl, (refl, (refl, (refl, (refl, (refl, (refl, (refl, (refl, (refl, (refl, (refl, (refl, (refl, (refl, (refl, (refl, (refl, (refl, tt)))))))))))))))))))))))),
+  (refl, (refl, (refl, (refl, (refl, (refl, (refl, (refl, (refl, (refl, (refl, (refl, (refl, (refl, (refl, (refl, (refl, (refl, (refl, (refl, (refl, (refl, (refl, (refl, (refl, (refl, tt)))))))))))))))))))))))))),
   (refl, (refl, (refl, (refl, (refl, (refl, (refl, (refl, (refl, tt))))))))),
 )

@@ -12,8 +12,9 @@ use Rattle.model.specs.Limits.{maxFields}
 use Rattle.model.specs.Refusals.{tooShort, wrongShape, wrongCount, refusals, Among}
 use Rattle.model.specs.Types.{Dim, static, unknown, Shape, plain, boxAny, boxAll, boxDef, Ty, ty, shapeOf, scalarOf}
 use Rattle.model.specs.Within.{All}
-use Rattle.format.specs.Records.{writeShape, writeScalar, writeTy}
-use Rattle.format.specs.Outcome.{Outcome, accepted, refused, mapped, bound, both, refusalOf, lone, shapeRecord, scalarRecord}
+use Rattle.format.specs.Reader.{Read, got, stopped}
+use Rattle.format.specs.Records.{writeShape, writeScalar, writeTy, readType}
+use Rattle.format.specs.Outcome.{Outcome, accepted, refused, mapped, bound, both, refusalOf, lone, placeAfter, typeLength, shapeRecord, scalarRecord}
 use Rattle.rules.specs.Sizes.{Order, less, same, more, cmpDim, cmpDefined, larger, joinDim, compatible, rowCompatible}
 use Rattle.rules.specs.Shapes.{isScalar, isAny, rowCount, rank, rowShape, Compatibility, saysYes, saysNo, compatibleWith, mergeFrom, joinShapes}
 use Rattle.rules.specs.Order.{compare}
@@ -28,6 +29,7 @@ use Rattle.validation.specs.Separate.{beingRead, separately}
 use Rattle.validation.specs.Claims.{ofValidation, Listed}
 use Rattle.validation.specs.RefusalsLaws.{validate-listed, checkScalarOnly-listed}
 use Rattle.machine.specs.Call.{sheetCall}
+use Rattle.places.specs.Places.{ToldStep, toldStep, stepOf}
 use Rattle.machine.specs.Steps.{maxFlag, fillsTop, fillsBelow}
 use Rattle.record.specs.Answers.{nothing}
 use Rattle.known.specs.Whole.{ofTypes, ofScalars, ofScalar}
@@ -36,15 +38,15 @@ use Rattle.shape_calls.specs.Calls.{onShapes, mergeCall, joinShapesCall, rowCal
 use Rattle.join.specs.Calls.{joinCall as joinTypesCall}
 use Rattle.val.specs.Values.{valueTy, valueSpec, valueScalar, numsScalar, valueRowCount, valueRank, valueAsDim, valueAsDims, valueRow, valueFirstRow, valueLastRow}
 use Rattle.velgrodis.specs.declared.Answer.{Answer}
-use Rattle.velgrodis.specs.Answers.{orNothing, numbered, counted, told, tested, yesOrNo, shapesTested, dimmed, sized, sizedOrNone, ordered, compared, stretched, found, validationOf}
+use Rattle.velgrodis.specs.Answers.{orNothing, numbered, counted, told, tested, yesOrNo, shapesTested, dimmed, sized, sizedOrNone, ordered, compared, stepTold, stretched, found, validationOf}
 use Rattle.velgrodis.specs.Codes.{pervadeFlagged, sided, handedIn}
-use Rattle.demand.specs.Numbers.{ofLone, ofSheetCall, RefusedWith}
-use Rattle.demand.specs.Numbered.{among-more, accepted-with, refused-with, lone-numbered, mapped-numbered, call-numbered}
+use Rattle.demand.specs.Numbers.{ofRecords, ofLone, ofSheetCall, RefusedWith}
+use Rattle.demand.specs.Numbered.{among-more, accepted-with, refused-with, stops-type, lone-numbered, mapped-numbered, call-numbered}
 use Rattle.numbered.specs.Calls.{Call, besideValidation, replyTo, ofSizes, ofWritten, ofPervaded, ofShapeChecked, ofValidated, ofSize, ofSizesWritten, ofResult, numbersOf, RefusesOnly}
 use Rattle.numbered.specs.Calls.{vg-dim-cmp, vg-dim-cmp-defined, vg-dim-max, vg-dim-join, vg-dim-compatible, vg-dim-row-compatible, vg-merge, vg-join-shapes, vg-compatible-shapes, vg-row-shape, vg-shape-is-any}
-use Rattle.numbered.specs.Calls.{vg-shape-is-scalar, vg-row-count, vg-rank, vg-pervade, vg-union, vg-unrefine, vg-superset, vg-compatible-scalars, vg-compatible-with-boxes, vg-compare, vg-kinds, vg-read, vg-shape-record}
+use Rattle.numbered.specs.Calls.{vg-shape-is-scalar, vg-row-count, vg-rank, vg-pervade, vg-union, vg-unrefine, vg-superset, vg-compatible-scalars, vg-compatible-with-boxes, vg-compare, vg-kinds, vg-read, vg-type-length, vg-shape-record}
 use Rattle.numbered.specs.Calls.{vg-scalar-record, vg-row, vg-first-row, vg-last-row, vg-unboxed, vg-as-boxes, vg-nth-row, vg-field, vg-join, vg-validate, vg-check-shape, vg-check-scalar, vg-val-ty, vg-val-spec}
-use Rattle.numbered.specs.Calls.{vg-val-scalar, vg-as-dims, vg-val-row-count, vg-val-rank, vg-as-dim, vg-val-row, vg-val-first-row, vg-val-last-row, vg-nums-scalar, vg-check-sheet}
+use Rattle.numbered.specs.Calls.{vg-val-scalar, vg-as-dims, vg-val-row-count, vg-val-rank, vg-as-dim, vg-val-row, vg-val-first-row, vg-val-last-row, vg-nums-scalar, vg-check-sheet, vg-find-step}
 use Rattle.numbered.specs.CallLaws.{more-numbered, either-numbered, bound-numbered, both-numbered, NotRefused, answered-only, written-only, separate-only, boxes-only, sizes-only, row-only, sheet-only}
 use Rattle.numbered.specs.ValueLaws.{ty-with, row-count-with, spec-with, as-dim-with, as-dims-with, handed-with}
 
@@ -63,6 +65,9 @@ yesOrNo-not-refused (saysNo (some i)) = λ e. absurd (omega arith)
 orNothing-not-refused : {A : Type 0} (f : A → Answer) → ((a : A) → NotRefused (f a)) → (o : Option A) → NotRefused (orNothing f o)
 orNothing-not-refused f g none = λ e. absurd (omega arith)
 orNothing-not-refused f g (some a) = g a
+
+step-not-refused : (n : ToldStep) → NotRefused (stepTold n)
+step-not-refused (toldStep n c) = λ e. absurd (omega arith)
 
 stretched-not-refused : (s : Stretch) → NotRefused (stretched s)
 stretched-not-refused (stretch start length) = λ e. absurd (omega arith)
@@ -113,6 +118,14 @@ lone-sizes-written : All (Among ofSizesWritten) ofLone
 lone-sizes-written = (refl, (refl, (refl, (refl, (refl, (refl, tt))))))
 
 -- ---- sizes and types that are read
+
+length-with : (s : List ℕ) → RefusedWith ofRecords (typeLength s)
+unfolding typeLength
+length-with s = go (readType s 0) refl
+  where
+    go : (r : Read Ty) → readType s 0 ≡ r → RefusedWith ofRecords (placeAfter r)
+    go (got t next) e = accepted-with
+    go (stopped k p) e = refused-with (stops-type s .number-is 0 k p e)
 
 size-with : (p n : ℕ) → RefusedWith ofSizes (sizeAt p n)
 size-with p n = either-numbered (isSize n) accepted-with (refused-with refl)
@@ -234,6 +247,7 @@ call-refuses-only (vg-compatible-with-boxes a b) = tested-only ofLone (ofScalars
 call-refuses-only (vg-compare a b) = compared-only ofLone (ofTypes compare a b) (of-types lone-lone compare a b)
 call-refuses-only (vg-kinds result) = written-only ofResult refl (accepted kindTable) result accepted-with
 call-refuses-only (vg-read t) = counted-only ofLone (mapped nothing (lone t)) (of-one lone-lone nothing t)
+call-refuses-only (vg-type-length s) = counted-only ofRecords (typeLength s) (length-with s)
 call-refuses-only (vg-shape-record t result) = written-only ofWritten refl (mapped shapeRecord (lone t)) result (of-one lone-written shapeRecord t)
 call-refuses-only (vg-scalar-record t result) = written-only ofWritten refl (mapped scalarRecord (lone t)) result (of-one lone-written scalarRecord t)
 call-refuses-only (vg-row t result) = written-only ofWritten refl (mapped (λ u. writeTy (intoRow u)) (lone t)) result (of-one lone-written (λ u. writeTy (intoRow u)) t)
@@ -279,11 +293,15 @@ call-refuses-only (vg-as-dims kind x list t sizes) =
     sizes-only ofSizesWritten refl (bound valueAsDims (handedIn kind x list t)) sizes
     (bound-numbered valueAsDims (handedIn kind x list t) (handed-with lone-sizes-written kind x list t) (as-dims-with (refl, (refl, (refl, tt)))))
 call-refuses-only (vg-check-sheet sheet result scratch) = sheet-only ofSheetCall (sheetCall sheet result scratch) (call-numbered sheet result scratch)
+call-refuses-only (vg-find-step sheet p) = λ e. absurd (orNothing-not-refused stepTold step-not-refused (stepOf sheet p) e)
 
 -- ---- the lists are of the sixteen
 
 sizes-known : All (Among refusals) ofSizes
 sizes-known = (refl, tt)
+
+records-known : All (Among refusals) ofRecords
+records-known = (refl, (refl, (refl, (refl, (refl, tt)))))
 
 lone-known : All (Among refusals) ofLone
 lone-known = (refl, (refl, (refl, (refl, (refl, (refl, tt))))))
@@ -336,6 +354,7 @@ numbers-known (vg-compatible-with-boxes a b) = lone-known
 numbers-known (vg-compare a b) = lone-known
 numbers-known (vg-kinds result) = result-known
 numbers-known (vg-read t) = lone-known
+numbers-known (vg-type-length s) = records-known
 numbers-known (vg-shape-record t result) = written-known
 numbers-known (vg-scalar-record t result) = written-known
 numbers-known (vg-row t result) = written-known
@@ -361,6 +380,7 @@ numbers-known (vg-val-last-row kind x list t before result) = written-known
 numbers-known (vg-as-dim kind x list t) = size-known
 numbers-known (vg-as-dims kind x list t sizes) = sizes-written-known
 numbers-known (vg-check-sheet sheet result scratch) = sheet-call-known
+numbers-known (vg-find-step sheet p) = tt
 
 -- "One of" sixteen.
 pub call-known : (c : Call) → RefusesOnly refusals (replyTo c)

@@ -7,9 +7,9 @@ use lib.ListN.{length}
 use borrow.Author.Tests.{lt-ltb, le-ltb}
 use Rattle.model.specs.Refusals.{trailing}
 use Rattle.model.specs.Types.{Ty}
-use Rattle.format.specs.Reader.{got, stopped, mapRead}
+use Rattle.format.specs.Reader.{Read, got, stopped, mapRead}
 use Rattle.format.specs.Records.{readType}
-use Rattle.format.specs.Outcome.{Outcome, accepted, refused, mapped, both, unrefused, first, second, refusalOf, lone}
+use Rattle.format.specs.Outcome.{Outcome, accepted, refused, mapped, both, unrefused, first, second, refusalOf, lone, placeAfter, typeLength}
 use Rattle.record.specs.Answers.{nothing, nothings, loneOf, twoOf, whicheverOf}
 use Rattle.record.specs.declared.Lone.{Lone}
 use Rattle.record.specs.declared.Two.{Two}
@@ -72,6 +72,16 @@ module _ {A B : Type 0} (x : Outcome A) (y : Outcome B) where
   module _ (two : Two) (read : twoOf two ≡ refusalOf x y) where
     pub both-read : (l : Lone) → loneOf l ≡ whicheverOf (twoOf two) → loneOf l ≡ both nothings x y
     both-read l e = e ∙ ap whicheverOf read ∙ whichever-both
+
+-- ---- the type that begins some bytes
+
+after-map : {A B : Type 0} (f : A → B) (m : Read A) → placeAfter (mapRead f m) ≡ placeAfter m
+after-map f (got a n) = refl
+after-map f (stopped k p) = refl
+
+pub front-read : (s : List ℕ) (f : Ty → ℕ) {m : Read ℕ} → m ≡ mapRead f (readType s 0) → placeAfter m ≡ typeLength s
+unfolding typeLength
+front-read s f e = ap placeAfter e ∙ after-map f (readType s 0)
 
 -- ---- a lone type
 

@@ -11,6 +11,7 @@ pub use bytes::read_name;
 pub use bytes::wide;
 use limits::MAX_SIZES;
 pub use types::read_type;
+pub use whole::read_front;
 pub use whole::read_lone;
 pub use whole::read_two;
 pub use whole::whichever;

@@ -7,6 +7,11 @@ use limits::MAX_DEPTH;
 use limits::MAX_TYPES;
 use limits::refusal::TRAILING;
 ghost use mathlib.Core.Path.{_≡_};
+ghost use Prim.Native.Nat.{_-_};
+ghost use Rattle.model.specs.Limits.{maxTypes};
+ghost use Rattle.model.specs.Types.{types};
+ghost use Rattle.format.specs.Reader.{mapRead};
+ghost use Rattle.format.specs.Records.{readType};
 ghost use Rattle.format.specs.Outcome.{mapped, refusalOf, lone};
 ghost use Rattle.record.specs.Answers.{readingOf, loneOf, twoOf, whicheverOf, nothing, passed};
 
@@ -25,6 +30,13 @@ pub fn read_lone(s: &[u8]) -> Lone
         };
     }
     Lone::Accepted
+}
+
+// The type that begins the bytes, whatever follows it: the place after it is its length.
+pub fn read_front(s: &[u8]) -> Reading
+    ensures { λ r. ⌜ readingOf r ≡ mapRead (λ t. maxTypes - types t) (readType (now (s .entry)) 0) ⌝ }
+{
+    read_type(s, 0, MAX_DEPTH, MAX_TYPES)
 }
 
 // The same reading, its value and the place after it passed over.

@@ -1,3 +1,1 @@
-mod RuleLaws
-mod StepLaws
 mod SheetLaws

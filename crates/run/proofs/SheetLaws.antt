@@ -22,10 +22,11 @@ use Rattle.names.specs.Table.{HasNames}
 use Rattle.names.specs.TableLaws.{none-in-force}
 use Rattle.stack.specs.Stack.{Memory, memory, fullTrays, size, Stacked, HasStack, Keeps}
 use Rattle.stack.specs.StackLaws.{stacked-none, stacked-sizes}
-use Rattle.run.specs.Answers.{NameTable, nameTable, InState, StepsTo, Going, ReadOn, Runs, calledOf}
-use Rattle.run.specs.declared.Stepped.{Stepped}
+use Rattle.step.specs.Answers.{NameTable, nameTable, StepsTo}
+use Rattle.run.specs.Answers.{InState, Going, ReadOn, Runs, calledOf}
+use Rattle.step.specs.declared.Stepped.{Stepped}
 use Rattle.run.specs.declared.Ran.{Ran}
-use Rattle.run.specs.declared.Reached.the-variants.{At, Refused}
+use Rattle.step.specs.declared.Reached.the-variants.{At, Refused}
 use Rattle.run.specs.declared.SheetAnswer.{SheetAnswer}
 use Rattle.run.specs.declared.SheetAnswer.the-variants.{Accepted, Refused as Refuses}
 

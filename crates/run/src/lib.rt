@@ -1,10 +1,9 @@
 // The sheet check: steps on a stack of types, one call for a sheet of any bytes.
 mod sheet;
-mod steps;
-mod tops;
 
 pub use sheet::check_sheet;
 pub use sheet::measure_sheet;
+use step::Reached;
 
 // What a call answers: how many types are left and their bytes in all, or the refusal.
 pub enum SheetAnswer {
@@ -12,26 +11,7 @@ pub enum SheetAnswer {
     Refused { number: u8, place: usize },
 }
 
-// The place that a step reached, or its refusal.
-pub enum Reached {
-    At(usize),
-    Refused { number: u8, place: usize },
-}
-
-// The same, and how many types the stack then has.
-pub struct Worked {
-    pub answer: Reached,
-    pub count: usize,
-}
-
-// The same, and how many names are then in force.
-pub struct Stepped {
-    pub answer: Reached,
-    pub count: usize,
-    pub named: usize,
-}
-
-// The same of the steps worked, and how many were taken.
+// The place that the steps worked reached, or their refusal; how many types and names there then are, and how many steps were taken.
 pub struct Ran {
     pub answer: Reached,
     pub count: usize,

@@ -1,8 +1,6 @@
 // The whole sheet.
 use crate::Ran;
-use crate::Reached;
 use crate::SheetAnswer;
-use crate::steps::work_step;
 use lent::Written;
 use limits::MAX_BYTES;
 use limits::MAX_NAMES;
@@ -17,6 +15,8 @@ use stack::clear;
 use stack::empty_trays;
 use stack::wants_trays;
 use stack::write_types;
+use step::Reached;
+use step::work_step;
 ghost use mathlib.Core.Path.{_≡_};
 ghost use mathlib.Core.List.{List, [], reverse};
 ghost use Prim.Native.Nat.{ℕ, _≤_};
@@ -29,7 +29,8 @@ ghost use Rattle.machine.specs.Sheet.{State, fresh, sheetFrom, sheetRun};
 ghost use Rattle.machine.specs.Call.{sheetCall};
 ghost use Rattle.names.specs.Table.{HasNames};
 ghost use Rattle.stack.specs.Stack.{memory, Stacked, HasStack, NoneInTray};
-ghost use Rattle.run.specs.Answers.{nameTable, InState, Runs, Measures, Answers, calledOf};
+ghost use Rattle.step.specs.Answers.{nameTable};
+ghost use Rattle.run.specs.Answers.{InState, Runs, Measures, Answers, calledOf};
 
 // Checks a sheet. The types left go to the result, bottom first; the scratch is zero afterwards, as far as it was asked for.
 pub fn check_sheet(sheet: &[u8], result: &mut [u8], scratch: &mut [u8]) -> SheetAnswer

@@ -2,13 +2,18 @@
 use crate::Asked;
 use crate::writing::complain;
 use check::same;
+use limits::VERSION;
 ghost use Rattle.streams.specs.Arguments.{AskedBy};
 
 // No word that is known is longer. Of a longer argument no byte is had, and that is no word that is known.
 const MAX_ARGUMENT: usize = 16;
 
 pub fn say_version() {
-    complain(b"velgrodis 1\n");
+    let mut digits = [0u8; 20];
+    let n = io::decimal(VERSION, &mut digits);
+    complain(b"velgrodis ");
+    complain(&digits[..n]);
+    complain(b"\n");
 }
 
 pub fn read_argument() -> Asked {

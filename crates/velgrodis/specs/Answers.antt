@@ -1,12 +1,12 @@
 -- What crosses to a host: for each outcome of a call the one answer that says it, field by field, with what the lent buffers hold.
-use Prim.Native.Nat.{ℕ}
+use Prim.Native.Nat.{ℕ, _+_, _*_}
 use mathlib.Core.Bool.{Bool, cond}
 use mathlib.Core.List.{List, map}
 use mathlib.Core.Option.{Option, none, some}
 use lib.Ieee.{Float}
 use Rattle.model.specs.Limits.{ones}
 use Rattle.model.specs.Types.{Dim}
-use Rattle.format.specs.Records.{dimNumber}
+use Rattle.format.specs.Records.{Mark, mark, dimNumber}
 use Rattle.format.specs.Outcome.{Outcome, accepted, refused, Delivery, delivery, deliver}
 use Rattle.rules.specs.Sizes.{Order, less, same, more}
 use Rattle.rules.specs.Shapes.{Compatibility, saysYes, saysNo}
@@ -14,9 +14,17 @@ use Rattle.rules.specs.Types.{Stretch, stretch}
 use Rattle.validation.specs.Separate.{Input, neither, spec, checkedType, Separate, separate}
 use Rattle.ty.specs.Calls.{Given, given, offered}
 use Rattle.val.specs.Values.{RowDelivery, handed as rowNumber, written as rowWritten}
+use Rattle.machine.specs.Steps.{Opcode, markOf}
+use Rattle.places.specs.Places.{ToldStep, toldStep}
 use Rattle.machine.specs.Call.{Tally, tally, Called, called}
 use Rattle.velgrodis.specs.declared.Answer.{Answer}
 use Rattle.velgrodis.specs.declared.Validation.{Validation}
+
+-- ---- the version
+
+-- the library's number, which is no answer; `limits` has it for all code, and says when it grows
+abbrev pub version : ℕ
+version = 9
 
 -- ---- the three kinds of an answer
 
@@ -94,6 +102,21 @@ stretched (stretch start length) = value start length
 
 abbrev pub found : Outcome (Option Stretch) → Answer
 found o = answered (orNothing stretched) o
+
+-- a mark's two bytes as one number: the first times 256, and the second; 0, which is no mark's, for none
+abbrev pub markNumber : Mark → ℕ
+markNumber (mark a b) = a * 256 + b
+
+abbrev pub opcodeNumber : Option Opcode → ℕ
+opcodeNumber none = 0
+opcodeNumber (some c) = markNumber (markOf c)
+
+-- a step's number, counted from 1, and its mark
+abbrev pub stepTold : ToldStep → Answer
+stepTold (toldStep n c) = value n (opcodeNumber c)
+
+abbrev pub located : Option ToldStep → Answer
+located o = orNothing stepTold o
 
 -- ---- answers beside a result buffer
 

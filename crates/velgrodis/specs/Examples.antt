@@ -11,10 +11,12 @@ use Rattle.rules.specs.Sizes.{less, same, more}
 use Rattle.rules.specs.Shapes.{saysYes, saysNo}
 use Rattle.validation.specs.CheckShape.{unsided, left, right}
 use Rattle.validation.specs.Separate.{neither, spec, checkedType}
+use Rattle.machine.specs.Steps.{aPervading}
+use Rattle.places.specs.Places.{toldStep}
 use Rattle.shape_calls.specs.Calls.{pervadeCall}
 use Rattle.val.specs.Values.{number, numbers, typed}
 use Rattle.velgrodis.specs.declared.Answer.{Answer}
-use Rattle.velgrodis.specs.Answers.{counted, tested, shapesTested, sized, compared, sizedOrNone, whileReading}
+use Rattle.velgrodis.specs.Answers.{counted, tested, shapesTested, sized, compared, sizedOrNone, located, whileReading}
 use Rattle.velgrodis.specs.Codes.{pervadeFlagged, sideFor, handedIn}
 
 -- ---- what an answer is: 0 refused, 1 a value, 2 none
@@ -59,6 +61,16 @@ same-is-1 = refl
 
 pub more-is-2 : compared (accepted more) ≡ answer 1 0 0 2 0
 more-is-2 = refl
+
+-- a step's number and its mark, 50 56 for a pervading; 0 for no mark
+pub third-pervades : located (some (toldStep 3 (some aPervading))) ≡ answer 1 0 0 3 0x5056
+third-pervades = refl
+
+pub second-unmarked : located (some (toldStep 2 none)) ≡ answer 1 0 0 2 0
+second-unmarked = refl
+
+pub no-step : located none ≡ answer 2 0 0 0 0
+no-step = refl
 
 -- ---- the input that a validation was reading: 0 neither, 1 the spec, 2 the checked type
 

@@ -23,8 +23,10 @@ use Rattle.validation.specs.Separate.{Input, neither, spec, checkedType, Separa
 use Rattle.shape_calls.specs.Calls.{compatibleShapesCall}
 use Rattle.ty.specs.Calls.{Given, given}
 use Rattle.val.specs.Values.{RowDelivery, handed as rowNumber, written as rowWritten}
+use Rattle.machine.specs.Steps.{Opcode, aPut, aRow, aPervading, aJoin, aValidating, aDeclaration, aUse}
 use Rattle.machine.specs.Call.{tally, Called, called}
-use Rattle.velgrodis.specs.Answers.{counted, tested, noIndex, yesOrNo, shapesTested, sized, sizedOrNone, compared, found}
+use Rattle.places.specs.Places.{ToldStep, toldStep}
+use Rattle.velgrodis.specs.Answers.{counted, tested, noIndex, yesOrNo, shapesTested, sized, sizedOrNone, compared, found, opcodeNumber, located}
 use Rattle.velgrodis.specs.Answers.{Handed, handed, written, listed, RowHanded, rowHanded, rowed, inputNumber, ValidationHanded, validationHanded, validationOf, Returned, returned, checked}
 use Rattle.format.specs.ReadWrite.{dim-number, lone-write}
 use Rattle.velgrodis.specs.declared.Answer.{Answer}
@@ -91,6 +93,31 @@ pub found-back : (o : Outcome (Option Stretch)) → outcomeBy (optionBy stretch)
 found-back (accepted none) = refl
 found-back (accepted (some (stretch s n))) = refl
 found-back (refused k p) = refl
+
+-- by the number of its mark which step it is
+abbrev pub opcodeBy : ℕ → Option Opcode
+opcodeBy m =
+    cond (eqb m 0x5055) (some aPut)
+    (cond (eqb m 0x5257) (some aRow)
+    (cond (eqb m 0x5056) (some aPervading)
+    (cond (eqb m 0x4A4E) (some aJoin)
+    (cond (eqb m 0x5641) (some aValidating)
+    (cond (eqb m 0x4E4D) (some aDeclaration)
+    (cond (eqb m 0x5553) (some aUse) none))))))
+
+opcode-back : (c : Option Opcode) → opcodeBy (opcodeNumber c) ≡ c
+opcode-back none = refl
+opcode-back (some aPut) = refl
+opcode-back (some aRow) = refl
+opcode-back (some aPervading) = refl
+opcode-back (some aJoin) = refl
+opcode-back (some aValidating) = refl
+opcode-back (some aDeclaration) = refl
+opcode-back (some aUse) = refl
+
+pub located-back : (o : Option ToldStep) → optionBy (λ n m. toldStep n (opcodeBy m)) (located o) ≡ o
+located-back none = refl
+located-back (some (toldStep n c)) = ap (λ d. some (toldStep n d)) (opcode-back c)
 
 -- as `mapped`, of what may be none
 abbrev sizes : {A B : Type 0} → (A → B) → Option A → Option B

@@ -1,18 +1,29 @@
 // Each enum that a call answers, as the answer that crosses to a host.
 use crate::Answer;
 use crate::CHECKED_TYPE;
+use crate::DECLARATION;
+use crate::JOIN;
 use crate::NEITHER;
 use crate::NO_INDEX;
+use crate::NO_MARK;
 use crate::NOTHING;
+use crate::PERVADE;
+use crate::PUT;
 use crate::REFUSED;
+use crate::ROW;
 use crate::SPEC;
+use crate::USE;
+use crate::VALIDATE;
 use crate::VALUE;
 use crate::Validation;
+use cursor::Operation;
 use lent::Counted;
 use lent::Tested;
 use lent::Written;
+use locate::Located;
 use order::Comparison;
 use record::Lone;
+use record::Reading;
 use run::SheetAnswer;
 use shape::Compatibility;
 use shape::Order;
@@ -25,12 +36,16 @@ use val::Row;
 use validate::Input;
 use validate::Separate;
 ghost use mathlib.Core.List.{List};
+ghost use mathlib.Core.Option.{some};
 ghost use mathlib.Core.Path.{_≡_};
 ghost use Prim.Native.Nat.{ℕ};
+ghost use Rattle.format.specs.Outcome.{placeAfter};
+ghost use Rattle.cursor.specs.Answers.{opcodeFor};
+ghost use Rattle.locate.specs.Answers.{locatedOf};
 ghost use Rattle.lent.specs.Answers.{testedOf, countedDim, countedNumber};
 ghost use Rattle.lent.specs.Written.{delivered};
 ghost use Rattle.order.specs.Answers.{comparisonOf};
-ghost use Rattle.record.specs.Answers.{loneOf};
+ghost use Rattle.record.specs.Answers.{readingOf, loneOf};
 ghost use Rattle.run.specs.Answers.{calledOf};
 ghost use Rattle.shape.specs.Answers.{orderOf, compatibilityOf};
 ghost use Rattle.shape_calls.specs.Answers.{orderedOf, shapesTestedOf};
@@ -38,7 +53,7 @@ ghost use Rattle.ty.specs.Calls.{boxesOf, foundOf, given};
 ghost use Rattle.val.specs.Answers.{maybeDim, rowDelivered};
 ghost use Rattle.validation.specs.Separate.{neither};
 ghost use Rattle.validate.specs.Answers.{inputOf, separateOf};
-ghost use Rattle.velgrodis.specs.Answers.{no, value, noneAnswer, ordered, counted, tested, yesOrNo, shapesTested, sized, sizedOrNone, compared, found, handed, written, listed};
+ghost use Rattle.velgrodis.specs.Answers.{no, value, noneAnswer, ordered, counted, tested, yesOrNo, shapesTested, sized, sizedOrNone, compared, found, opcodeNumber, located, handed, written, listed};
 ghost use Rattle.velgrodis.specs.Answers.{rowHanded, rowed, inputNumber, whileReading, validationHanded, validationOf, returned, checked};
 
 pub fn of_written(w: Written) -> Answer
@@ -91,6 +106,40 @@ pub fn of_lone(l: Lone) -> Answer
     match l {
         Lone::Accepted => give(0, 0),
         Lone::Refused { number, place } => refuse(number, place),
+    }
+}
+
+// The place after the type that begins some bytes.
+pub fn of_front(read: Reading) -> Answer
+    ensures { λ r. ⌜ r ≡ counted (placeAfter (readingOf read)) ⌝ }
+{
+    match read {
+        Reading::Got { value: _, next } => give(next as u64, 0),
+        Reading::Refused { number, place } => refuse(number, place),
+    }
+}
+
+pub fn of_located(l: Located) -> Answer
+    ensures { λ r. ⌜ r ≡ located (locatedOf l) ⌝ }
+{
+    match l {
+        Located::Step { number, opcode } => give(number, of_opcode(opcode)),
+        Located::Unmarked { number } => give(number, NO_MARK),
+        Located::Nowhere => nothing(),
+    }
+}
+
+fn of_opcode(opcode: Operation) -> u64
+    ensures { λ r. ⌜ r ≡ opcodeNumber (some (opcodeFor opcode)) ⌝ }
+{
+    match opcode {
+        Operation::Put => PUT,
+        Operation::Row => ROW,
+        Operation::Pervading => PERVADE,
+        Operation::Join => JOIN,
+        Operation::Validating => VALIDATE,
+        Operation::Declaration => DECLARATION,
+        Operation::Use => USE,
     }
 }
 

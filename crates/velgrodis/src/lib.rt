@@ -9,6 +9,7 @@ mod sizes;
 mod types;
 mod validating;
 mod values;
+mod version;
 
 pub use scalars::vg_compare;
 pub use scalars::vg_compatible_scalars;
@@ -27,6 +28,7 @@ pub use shapes::vg_row_shape;
 pub use shapes::vg_shape_is_any;
 pub use shapes::vg_shape_is_scalar;
 pub use sheet::vg_check_sheet;
+pub use sheet::vg_find_step;
 pub use sizes::vg_dim_cmp;
 pub use sizes::vg_dim_cmp_defined;
 pub use sizes::vg_dim_compatible;
@@ -43,6 +45,7 @@ pub use types::vg_read;
 pub use types::vg_row;
 pub use types::vg_scalar_record;
 pub use types::vg_shape_record;
+pub use types::vg_type_length;
 pub use types::vg_unboxed;
 pub use validating::vg_check_scalar;
 pub use validating::vg_check_shape;
@@ -58,6 +61,7 @@ pub use values::vg_val_row_count;
 pub use values::vg_val_scalar;
 pub use values::vg_val_spec;
 pub use values::vg_val_ty;
+pub use version::vg_version;
 
 // The kinds of an answer.
 pub const REFUSED: u64 = 0;
@@ -68,6 +72,23 @@ pub const NOTHING: u64 = 2;
 
 // Where an answer would have an index: none. The bits of an unknown size, but no size.
 pub const NO_INDEX: u64 = u64::MAX;
+
+// The marks of `limits`, each as one number for a host: the first byte times 256, and the second. NO_MARK is none.
+pub const PUT: u64 = 0x5055;
+
+pub const ROW: u64 = 0x5257;
+
+pub const PERVADE: u64 = 0x5056;
+
+pub const JOIN: u64 = 0x4A4E;
+
+pub const VALIDATE: u64 = 0x5641;
+
+pub const DECLARATION: u64 = 0x4E4D;
+
+pub const USE: u64 = 0x5553;
+
+pub const NO_MARK: u64 = 0;
 
 // The input that a validation was reading.
 pub const NEITHER: u64 = 0;

@@ -2,11 +2,12 @@
 use crate::Answer;
 use crate::answers::of_boxes;
 use crate::answers::of_found;
+use crate::answers::of_front;
 use crate::answers::of_lone;
 use crate::answers::of_written;
 ghost use mathlib.Core.Path.{_≡_};
 ghost use Rattle.format.specs.Records.{writeTy};
-ghost use Rattle.format.specs.Outcome.{deliver, mapped, bound, lone, shapeRecord, scalarRecord};
+ghost use Rattle.format.specs.Outcome.{deliver, mapped, bound, lone, typeLength, shapeRecord, scalarRecord};
 ghost use Rattle.record.specs.Answers.{nothing};
 ghost use Rattle.rules.specs.Types.{fieldPlace, asBoxes, unboxed, intoRow, intoFirstRow, intoLastRow, intoNthRow};
 ghost use Rattle.ty.specs.Calls.{deliverBoxes};
@@ -19,6 +20,14 @@ pub extern "C" fn vg_read(ty: &[u8]) -> Answer
     ensures { λ r. ⌜ r ≡ counted (mapped nothing (lone (now (ty .entry)))) ⌝ }
 {
     of_lone(record::read_lone(ty))
+}
+
+// The length of the type that begins the bytes, whatever follows it.
+#[no_mangle]
+pub extern "C" fn vg_type_length(bytes: &[u8]) -> Answer
+    ensures { λ r. ⌜ r ≡ counted (typeLength (now (bytes .entry))) ⌝ }
+{
+    of_front(record::read_front(bytes))
 }
 
 #[no_mangle]

@@ -5,7 +5,7 @@ use lib.ListN.{length, length-replicate}
 use Rattle.stack.specs.Stack.{fullTrays}
 use Rattle.stack.specs.KeepsLaws.{trays-keep}
 use Rattle.run.proofs.SheetLaws.{state-kept, some-here, stopped-has, run-finished, run-refused}
-use Rattle.run.proofs.StepLaws.{has-kept}
+use Rattle.step.proofs.StepLaws.{has-kept}
 use borrow.Author.Needs.{needs}
 use Rattle.run.proofs.sheet.run_large.Statement.{statement}
 use Rattle.run.proofs.sheet.run_large.Tie as tie

@@ -1,6 +1,6 @@
 use mathlib.Core.Path.{refl}
 use Rattle.run.proofs.SheetLaws.{state-kept, run-left}
-use Rattle.run.proofs.StepLaws.{has-kept}
+use Rattle.step.proofs.StepLaws.{has-kept}
 use borrow.Author.Needs.{needs}
 use Rattle.run.proofs.sheet.run_rest.Statement.{statement}
 use Rattle.run.proofs.sheet.run_rest.Tie as tie

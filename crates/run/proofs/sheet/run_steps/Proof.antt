@@ -6,14 +6,14 @@ use lib.ListN.{length}
 use Rattle.machine.specs.SheetLimits.{maxSteps}
 use Rattle.machine.specs.Sheet.{sheetFrom}
 use Rattle.stack.specs.Stack.{memory}
-use Rattle.run.specs.Answers.{nameTable}
+use Rattle.step.specs.Answers.{nameTable}
 use Rattle.run.proofs.SheetLaws.{GoingFrom, going-over, going-rest, going-step, going-stop, going-has, going-names}
 use borrow.Author.Needs.{needs}
 use Rattle.run.proofs.sheet.run_steps.Statement.{statement}
 use Rattle.run.proofs.sheet.run_steps.Tie as tie
 use Rattle.run.proofs.sheet.run_steps.Reads as reads
 use Rattle.run.proofs.sheet.run_steps.Lts as lts
-use Rattle.run.proofs.steps.work_step.Reads as work-step-reads
+use Rattle.step.proofs.work_step.Reads as work-step-reads
 use Rattle.stack.proofs.wants_trays.Reads as wants-trays-reads
 
 abbrev Inv-loop : tie.InvT-loop

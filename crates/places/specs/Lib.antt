@@ -1,0 +1,5 @@
+pub mod Places
+pub mod ReadersStay
+pub mod PlacesLaws
+pub mod RefusedStep
+pub mod Examples

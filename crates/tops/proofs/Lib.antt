@@ -1,0 +1,2 @@
+mod RuleLaws
+pub mod TopLaws

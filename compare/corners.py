@@ -1,5 +1,6 @@
 #!/usr/bin/env python3
-"""Prints requests at the corners of the rules: of sizes, shapes, scalars, types, values, validation, sheets, names in them and the table of kinds.
+"""Prints requests at the corners of the rules: of sizes, shapes, scalars, types, values, validation, sheets, names in them, places in them and the
+table of kinds.
 
 The paper's cases (a) to (m) come first, then each rule's corners, then those of bytes and of lines.
 Bytes are built from the paper's notation: `num("2 ?..3")` is [2 ?..3] Num.
@@ -920,6 +921,99 @@ def table():
     yield from ("kind", "kindsx", "KINDS", "kinds\t", "kinds\r", "kinds\0", "kinds\xff")
 
 
+# ---- the length of a type, the step of a place, the version
+
+def lengths():
+    """The type that begins the bytes, whatever follows it. Else it is refused as in reading, but never 6."""
+    def length(*parts):
+        return ask("type_length", b"".join(parts))
+
+    boxes = (ty("", BOX), ty("2", box(num("..3"))), ty("..", fields(name=b"")), ty("..", fields(num("3"), ty("", CHAR), name=b"n")), nested(7))
+    for a in (num(""), num(".."), num("2 ?..3"), *boxes, ty("", fields(*[num("")] * (TYPES - 1))), full(NUM), largest()):
+        yield from (length(a, rest) for rest in (b"", b"\0", b"S", b"SH", b"SC\x03", num("3"), put(num("3"))))
+        yield from (length(a[:-1]), length(a[:-1], num("3")))
+    # each cut, alone and with another type behind it, which is taken for its own as far as it fits
+    whole = ty("2 ?..3", fields(ty("", box(num("?"))), num("..3"), name=b"nm"))
+    for end in range(len(whole) + 1):
+        yield from (length(whole[:end]), length(whole[:end], num("3")))
+    # out of range, and just within: counts, kinds, forms, names, fields, sizes, types, depth; a put is no type
+    counts = [b"SH" + bytes(pair) for pair in ((9, 255), (8, 9), (0, 9), (0, 254))]
+    scalars = [kind(code) for code in (9, 10, 255)] + [boxed(form) for form in (1, 2, 3, 255)]
+    names = [named(b"n" * count) for count in (NAME, NAME + 1, 254)] + [named(bytes([byte])) for byte in (31, 32, 126, 127)]
+    deep = [nested(levels) for levels in (7, 8, 31)] + [nested(8)[:80]]
+    wide = [ty("", fields(*[num("")] * count, ty("", box(num(""))))) for count in (TYPES - 4, TYPES - 3, TYPES - 2)]
+    sized = [num(f"{size}") for size in (LARGEST, LARGEST + 1, UNKNOWN - 1, UNKNOWN)] + [num(f"..{LARGEST + 1}")]
+    fielded = [ty("", boxed(2, b"\xff" + bytes([count]))) for count in (0, 31, 32, 255)]
+    for a in (*counts, *(ty("", scalar) for scalar in (*scalars, *names)), *deep, *wide, *sized, *fielded, put(num("")), b"XX", b"X"):
+        yield from (length(a), length(a, num("")))
+
+
+def find(place, *steps):
+    return ask("find_step", place, b"".join(steps))
+
+
+def around_steps(*steps):
+    """Each mark, the byte before it and the one after, the end and past it."""
+    marks = list(itertools.accumulate(map(len, steps), initial=0))
+    places = {place for mark in marks for place in (mark - 1, mark, mark + 1)} | {marks[-1] + 2}
+    yield from (find(place, *steps) for place in sorted(places - {-1}))
+
+
+def found():
+    """Every place belongs to the step whose bytes it is in, whatever the stack, the names and the rules say; none to what is whole and ended."""
+    three, some = num("3"), check(ty("..", ANY))
+    # every mark, and each place of each beginning
+    whole = (declare(b"a", num("")), use(b"a"), ROW, use(b"a"), JOIN, put(num("")), pervade(3), some)
+    every = b"".join(whole)
+    for end in range(len(every) + 1):
+        yield from (find(place, every[:end]) for place in (*range(end + 2), UNKNOWN))
+    yield from around_steps(*whole, ROW, *whole)
+    # far past the end, so that only the low bytes are a place
+    for place in (256, 2**16, 2**32, 2**32 + 1, 2**53, 2**63, UNKNOWN - 1, UNKNOWN):
+        yield from (find(place, every), find(place), find(place, b"X"), find(place, b"PU"))
+    # no stack, no names, no rule
+    yield from around_steps(JOIN, ROW, PERVADE, some, use(b"n"), JOIN)
+    yield from around_steps(*[put(three)] * (STACK + 2))
+    yield from around_steps(put(three), put(num("4")), PERVADE, check(ty("", CHAR)), ROW)
+    yield from around_steps(*(declare(b"%d" % n, three) for n in range(NAMES + 2)))
+    # no limit of steps
+    counts = [(count, step) for count in (STEPS - 1, STEPS, STEPS + 1, STEPS + 2) for step in (ROW, use(b"n"), put(num("")))]
+    for count, step in (*counts, (257, ROW), (1000, ROW)):
+        length = len(step) * count
+        yield from (find(place, step * count) for place in (0, length - len(step) - 1, length - len(step), length - 1, length))
+        yield from (find(length + more, step * count, rest) for rest in (b"X", b"XX", b"PU") for more in (0, len(rest), len(rest) + 1))
+    yield from (find(place, put(largest()), ROW) for place in (0, 2, 2 + TYPE // 2, 1 + TYPE, 2 + TYPE, 3 + TYPE, 4 + TYPE))
+
+
+def found_in_broken():
+    """A step that cannot be read to its end has all that is left, and the place after it."""
+    three = num("3")
+    types = (b"", b"S", b"SX", b"SH", b"SH\x09", three[:-1], num(str(LARGEST)), num(str(LARGEST + 1)), nested(7), nested(8), nested(8)[:80], ty("", kind(10)))
+    names = (b"", b"\0", b"\x01", b"\x01\x1f", b"\x01 ", b"\x01~", b"\x01\x7f", b"\x02n", b"\x10" + b"n" * 15, b"\x10" + b"n" * 16, b"\x11" + b"n" * 17, b"\xff")
+    steps = [mark + rest for rest in types for mark in (b"PU", b"VA", b"NM\x01n")]
+    steps += [mark + rest for rest in names for mark in (b"NM", b"US")] + [b"NM" + rest + three for rest in names]
+    steps += [b"PV" + bytes(rest) for rest in ((), (0,), (3,), (4,), (255,))]
+    steps += [b"X", b"XX", b"P", b"R", b"SH", b"SC", b"BX", b"UP", b"WR", b"pu", b"\0\0", b"\xff\xff"]
+    steps += [bytes([code]) + other for mark in (b"PU", b"RW", b"PV", b"JN", b"VA", b"NM", b"US") for code, other in ((mark[0] ^ 1, mark[1:]), (mark[0] ^ 128, mark[1:]))]
+    steps += [mark[:1] + bytes([mark[1] ^ bit]) for mark in (b"PU", b"RW", b"PV", b"JN", b"VA", b"NM", b"US") for bit in (1, 128)]
+    for step in steps:
+        yield from (*around_steps(step), *around_steps(ROW, step, ROW))
+
+
+def desk_lines():
+    """What these requests' lines may lack or have too much of; the words first, then the number, then the bytes."""
+    good = word(put(num("3")))
+    yield from ("type_length", "type_length ", "type_length  -", "type_length - ", "type_length - -", "type_length 0 -", "type_length 5", "type_length g0", "type_lengths -", "type_length\t-", "TYPE_LENGTH -")
+    yield from (f"type_length {word(num('3')).upper()}", f"type_length 0x{word(num('3'))}", f"type_length {word(num('3'))}0")
+    for rest in ("", " ", " 0", " 0 ", " -", " 0 - ", " 0 - -", "  0 -", " 0  -", f" 0 {good} {good}", f" {good}", f" {good} 0", " x g", " 0 g", " 0 5", " 18446744073709551616 g", " 0 -\r", " 0\t-"):
+        yield "find_step" + rest
+    for number in ("0", "00", "017", "0" * 40 + "17", "17", "18", str(UNKNOWN), str(2**64), str(2**64 + 17), str(10**20), "-1", "+1", "1.", "0x1", "?", "-", "x", "1x", "x1"):
+        yield f"find_step {number} {good}"
+    yield from ("find_steps 0 -", "find_ste 0 -", "Find_step 0 -", " find_step 0 -", f"find_step 0 {good.upper()}")
+    yield "version"
+    yield from ("version ", "version  ", "version x", "version -", "version 0", "version version", " version", "versio", "versions", "VERSION", "version\t", "version\r", "version\0", "version\xff")
+
+
 # ---- bytes that are no types, and lines
 
 def refused():
@@ -966,7 +1060,8 @@ def lines():
 PARTS = (
     cases, dims, shapes, tested, scalars, tested_in_boxes, orders, rows, boxes, looked_up, joins, values, kinds, shape_checks, scalar_checks,
     grown, counted, reading, judged, worked, stacked, met, poured, buried, largest_types, spelled, cut_off, told_by_name, superseded, crowded,
-    on_a_full_stack, last_steps, worked_by_name, buried_by_name, largest_by_name, buffers, sheet_lines, table, refused, lines,
+    on_a_full_stack, last_steps, worked_by_name, buried_by_name, largest_by_name, buffers, sheet_lines, table, lengths,
+    found, found_in_broken, desk_lines, refused, lines,
 )  # fmt: skip
 
 

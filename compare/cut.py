@@ -4,7 +4,8 @@
     compare/cut.py            writes compare/target/uiua.rs
 
 The source is looked for under UIUA_SRC (default: ../shared/docs/src, seen from the
-repository's root), the folder that holds types/shape.rs and its neighbours. No text of it is
+repository's root), the folder that holds types/shape.rs and its neighbours. Where it is missing,
+one sentence says which path was tried and what to fetch, and the status is 2. No text of it is
 kept in this repository. What is taken stands in CUTS, what is changed stands in EDITS, each
 with its reason. An item or an edit that is not found exactly as often as listed (once, unless
 it says otherwise) ends the script with an error and writes nothing.
@@ -17,10 +18,11 @@ import re
 import sys
 
 ROOT = pathlib.Path(__file__).resolve().parent.parent
-SOURCE = ROOT / os.environ.get("UIUA_SRC", "../shared/docs/src")
+SOURCE = pathlib.Path(os.path.normpath(ROOT / (os.environ.get("UIUA_SRC") or "../shared/docs/src")))
 TARGET = ROOT / "compare" / "target" / "uiua.rs"
 
-# The files at commit a03b1015bc. Another digest only warns: the anchors below decide.
+COMMIT = "a03b1015bc"
+# The files at that commit. Another digest only warns: the anchors below decide.
 DIGESTS = {
     "shape.rs": "5695131f7da688b609fb8db88c54e5ecfb59d1d4aae296f3a13f044890e8e9f2",
     "scalar.rs": "7d7244b19c4a81d19ce86b4073973a4f0498ad5296c0d83d4dfd7e305d108e42",
@@ -139,17 +141,19 @@ use crate::standins::*;
 
 
 def fail(why):
-    sys.exit(f"cut.py: {why}")
+    print(f"cut.py: {why}", file=sys.stderr)
+    sys.exit(2)
 
 
 def lines_of(name):
     path = SOURCE / "types" / name
-    if not path.is_file():
-        fail(f"there is no {name} under types/ of UIUA_SRC")
-    data = path.read_bytes()
+    try:
+        data = path.read_bytes()
+    except OSError:
+        fail(f"the Rust's source is not there: {path} cannot be read; fetch uiua-lang/uiua at commit {COMMIT} and let UIUA_SRC name its folder src")
     if hashlib.sha256(data).hexdigest() != DIGESTS[name]:
-        print(f"cut.py: warning: {name} is not the file of commit a03b1015bc", file=sys.stderr)
-    return data.decode().split("\n")
+        print(f"cut.py: warning: {path} is not the file of commit {COMMIT}", file=sys.stderr)
+    return data.decode(errors="replace").split("\n")
 
 
 def block(lines, start, what, indent=""):

@@ -213,6 +213,8 @@ def lines():
             yield f"{name} {number} {num}"
         # arguments are judged from the left, all of them before the call
         yield from (f"{name} x g", f"{name} 0 g", f"{name} 65537 g", f"{name} 0 5")
+    # blanks and other signs that part no words
+    yield from ("\t", "\t\t", " \t ", "\r", "read\t-\t-", "read -\t", "read\v-", "read -\0", "re\0ad -", "\0 \0")
     yield "\0"
     yield "read \0"
     yield "read 5348\xff0"

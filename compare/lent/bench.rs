@@ -39,6 +39,8 @@ mod names;
 mod naming;
 #[path = "../oracle/opposed.rs"]
 mod opposed;
+#[path = "../oracle/placing.rs"]
+mod placing;
 #[path = "../oracle/requests.rs"]
 mod requests;
 #[path = "../oracle/rules.rs"]
@@ -50,8 +52,12 @@ mod sheets;
 mod specs;
 #[path = "../oracle/standins.rs"]
 mod standins;
+#[path = "../oracle/steps.rs"]
+mod steps;
 #[path = "../target/uiua.rs"]
 mod uiua;
+#[path = "../oracle/version.rs"]
+mod version;
 
 use bytes::{No, no, type_bytes};
 use generate::{put, validate};

@@ -19,6 +19,15 @@ impl<T: Copy + PartialEq> Pattern<T> {
     }
 }
 
+impl Pattern<u8> {
+    /// Memory that has these bytes, with the pattern around them.
+    pub fn filled(&self, r: &mut Random, bytes: &[u8]) -> Lent<'_, u8> {
+        let mut lent = self.lend(r, bytes.len());
+        lent.slice().copy_from_slice(bytes);
+        lent
+    }
+}
+
 pub struct Lent<'a, T> {
     before: &'a [T],
     now: Vec<T>,

@@ -134,6 +134,24 @@ pub fn sizes(text: &str) -> Expected {
     })
 }
 
+/// A step's number and its mark: the mark's first byte times 256 and its second, 0 where there is none.
+pub fn step(text: &str) -> Expected {
+    told(text, |words| {
+        let mark = match words[1] {
+            "none" => [0, 0],
+            "put" => [0x50, 0x55],
+            "row" => [0x52, 0x57],
+            "pervade" => [0x50, 0x56],
+            "join" => [0x4a, 0x4e],
+            "validate" => [0x56, 0x41],
+            "declaration" => [0x4e, 0x4d],
+            "use" => [0x55, 0x53],
+            _ => panic!("the oracle answered {text}"),
+        };
+        value(parsed(words[0]), mark[0] * 256 + mark[1])
+    })
+}
+
 /// `ok COUNT LENGTH | 0 HEX | 1 HEX ..`
 pub fn types_left(text: &str) -> Expected {
     told(text, |words| {

@@ -33,6 +33,8 @@ mod names;
 mod naming;
 #[path = "../oracle/opposed.rs"]
 mod opposed;
+#[path = "../oracle/placing.rs"]
+mod placing;
 #[path = "../oracle/requests.rs"]
 mod requests;
 #[path = "../oracle/rules.rs"]
@@ -44,14 +46,18 @@ mod sheets;
 mod specs;
 #[path = "../oracle/standins.rs"]
 mod standins;
+#[path = "../oracle/steps.rs"]
+mod steps;
 #[path = "../target/uiua.rs"]
 mod uiua;
+#[path = "../oracle/version.rs"]
+mod version;
 
 use buffers::{Lent, Pattern};
 use expected::{Expected, refusal, unhex};
 use generate::{SIDES, hex_word};
 use invent::Random;
-use library::{CALLS, Call, Validation};
+use library::{Answer, CALLS, Call, Validation};
 use limits::SCRATCH;
 use std::process::ExitCode;
 use uiua::{Dim, Scalar, ScalarBox, Type};
@@ -95,6 +101,8 @@ fn weighed(index: usize) -> Vec<usize> {
     let weight = match CALLS[index].1 {
         "vg_validate" | "vg_check_sheet" => 8,
         "vg_check_scalar" | "vg_check_shape" | "vg_pervade" | "vg_join" => 4,
+        "vg_find_step" | "vg_type_length" => 8,
+        "vg_version" => 1,
         _ => 2,
     };
     vec![index; weight]
@@ -141,12 +149,18 @@ impl Both {
             Call::Sheet(_) => return self.sheets(r, *turned),
             _ => line(r, request),
         };
+        if line.len() > limits::LINE {
+            return;
+        }
         let words: Vec<&str> = line.split(' ').skip(1).collect();
         let wanted = || turned(&requests::answer(line.as_bytes()));
         match *call {
             Call::One(f) => {
                 let a = unhex(words[0]);
-                self.judge(&line, &wanted(), true, unsafe { f(a.as_ptr(), a.len()) });
+                let mut from = self.bytes.filled(r, &a);
+                let answer = unsafe { f(from.slice().as_mut_ptr(), a.len()) };
+                let held = from.holds(&a);
+                self.judge(&line, &wanted(), held, answer);
             }
             Call::Two(f) => {
                 let (a, b) = (unhex(words[0]), unhex(words[1]));
@@ -157,12 +171,13 @@ impl Both {
             Call::Numbered(f) => {
                 let (n, a) = (decimal(words[0]), unhex(words[1]));
                 let wanted = wanted();
-                let answer = unsafe { f(a.as_ptr(), a.len(), n) };
+                let mut from = self.bytes.filled(r, &a);
+                let answer = unsafe { f(from.slice().as_mut_ptr(), a.len(), n) };
                 let stretch = |bytes: &Vec<u8>| {
                     let start = answer.first as usize;
                     a.get(start..start + answer.second as usize) == Some(bytes)
                 };
-                let held = wanted.stretch.as_ref().is_none_or(stretch);
+                let held = from.holds(&a) && wanted.stretch.as_ref().is_none_or(stretch);
                 self.judge(&line, &wanted, held, answer);
             }
             Call::Sizes(f) => {
@@ -295,6 +310,11 @@ impl Both {
                     let held = to.holds(&wanted.sizes);
                     self.judge(&line, &wanted, held, answer);
                 }
+            }
+            Call::Number(f) => {
+                let first = unsafe { f() };
+                let answer = Answer { kind: expected::VALUE, first, ..Answer::default() };
+                self.judge(&line, &wanted(), true, answer);
             }
             Call::Sheet(_) => unreachable!("sheets were turned to above"),
         }

@@ -62,6 +62,8 @@ pub enum Call {
     ValueRow(value!(*mut f64, *mut u8, usize)),
     ValueSizes(value!(*mut u64, usize)),
     Sheet(unsafe extern "C" fn(*const u8, usize, *mut u8, usize, *mut u8, usize) -> Answer),
+    /// Nothing is handed in, and the answer is a number alone.
+    Number(unsafe extern "C" fn() -> u64),
 }
 
 /// What a call answers, where it names no other.
@@ -139,4 +141,7 @@ declared! {
     ("check_scalar", vg_check_scalar, Checked, expected::checked, (In, usize, In, usize, Out, usize) -> Validation),
     ("kinds", vg_kinds, To, expected::bytes, (Out, usize)),
     ("sheet_call", vg_check_sheet, Sheet, expected::types_left, (In, usize, Out, usize, Out, usize)),
+    ("type_length", vg_type_length, One, expected::number, (In, usize)),
+    ("find_step", vg_find_step, Numbered, expected::step, (In, usize, u64)),
+    ("version", vg_version, Number, expected::number, () -> u64),
 }

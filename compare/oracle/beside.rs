@@ -1,17 +1,21 @@
 //! Holds a sheet's pervading (filled.rs) beside the Rust's function. Unfilled, they must be equal.
 //! Filled, they must refuse alike and be equal but at the indices of which 2026-01 speaks: there the
 //! sheet has ?. Then the test of two opening lists (failing.rs) beside the Rust's: they must say yes to
-//! just the same pairs.
+//! just the same pairs. At last the steps as they are found by their bytes alone (steps.rs) beside the
+//! sheet check: the place of a refusal must belong to the step that was refused.
 
 use crate::edges::{lists, small_shapes};
 use crate::failing::{self, Verdict};
 use crate::invent::{self, Random};
-use crate::limits::SIZES;
+use crate::limits::{SIZES, STEPS};
+use crate::requests::hex;
+use crate::sheet::{Refused, VALIDATED, steps_worked};
 use crate::uiua::{Dim, DynShape};
-use crate::{filled, opposed, rules};
+use crate::{filled, opposed, placing, rules, steps};
 
-/// Pairs of longer shapes, drawn at random.
+/// Pairs of longer shapes, and sheets, drawn at random.
 const DRAWN: usize = 500_000;
+const SHEETS: usize = 200_000;
 /// All pairs of lists of up to so many sizes are tested.
 const LONGEST: usize = 5;
 /// Differences printed.
@@ -19,7 +23,7 @@ const SHOWN: usize = 10;
 
 /// Whether all are as they must be.
 pub fn all() -> bool {
-    pervadings() & tests()
+    pervadings() & tests() & finds()
 }
 
 /// All pairs of small shapes, then drawn ones, each with every flag.
@@ -139,5 +143,57 @@ impl Tests {
         let sum = yes + at.iter().sum::<usize>() + counts + differing;
         print!("{sum} tests: {yes} yes, no at each index {at:?}, {counts} of other counts, ");
         println!("{differing} differ");
+    }
+}
+
+/// Drawn sheets, as they are drawn for `find_step`.
+fn finds() -> bool {
+    let mut finds = Finds::default();
+    let mut random = Random(1);
+    for _ in 0..SHEETS {
+        finds.one(&placing::any_sheet(&mut random));
+    }
+    finds.summary();
+    finds.differing == 0
+}
+
+#[derive(Default)]
+struct Finds {
+    accepted: usize,
+    /// The refusals, by number, and those of the first step too many.
+    refused: [usize; NUMBERS],
+    too_many: usize,
+    differing: usize,
+}
+
+/// One more than there are numbers of a refusal.
+const NUMBERS: usize = 17;
+
+impl Finds {
+    fn one(&mut self, sheet: &[u8]) {
+        let Err(refused) = steps_worked(sheet, VALIDATED) else {
+            self.accepted += 1;
+            return;
+        };
+        if steps::found(sheet, &refused) {
+            let Refused { no, step, .. } = refused;
+            self.refused[no.number as usize] += 1;
+            self.too_many += (step > STEPS) as usize;
+            return;
+        }
+        self.differing += 1;
+        if self.differing <= SHOWN {
+            println!("{refused:?} in {}", hex(sheet));
+        }
+    }
+
+    fn summary(&self) {
+        let Finds { accepted, refused, too_many, differing } = self;
+        let sum = accepted + refused.iter().sum::<usize>() + differing;
+        print!("{sum} sheets: {accepted} accepted, refused by number");
+        for (number, count) in refused.iter().enumerate().filter(|(_, count)| **count > 0) {
+            print!(" {number}:{count}");
+        }
+        println!(", {too_many} at the 65th step; {differing} are of another step");
     }
 }

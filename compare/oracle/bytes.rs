@@ -27,6 +27,13 @@ pub fn read_lone(bytes: &[u8]) -> Result<Type, No> {
     if reader.at < bytes.len() { no(6, reader.at) } else { Ok(ty) }
 }
 
+/// The length of the type that begins the bytes, whatever follows it.
+pub fn begun_length(bytes: &[u8]) -> Result<usize, No> {
+    let mut reader = Reader::new(bytes);
+    reader.outermost()?;
+    Ok(reader.at)
+}
+
 /// Goes over bytes from left to right. `types` counts the types begun in the outermost one.
 pub struct Reader<'a> {
     bytes: &'a [u8],

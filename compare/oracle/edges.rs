@@ -1,7 +1,8 @@
 //! Requests that need no seed. `edges`: every limit with its neighbours, every cut of a few types
-//! and sheets, all numbers at borders, names (naming.rs), types that lie under others (buried.rs), and
-//! every set of indices at which two lists fail (opposed.rs). `pairs`: all pairs of small shapes, of
-//! opening lists and of scalars, and specs of three sizes on small shapes.
+//! and sheets, all numbers at borders, names (naming.rs), types that lie under others (buried.rs), every
+//! set of indices at which two lists fail (opposed.rs), and every place of a few sheets (placing.rs).
+//! `pairs`: all pairs of small shapes, of opening lists and of scalars, and specs of three sizes on small
+//! shapes.
 
 use std::io::Result;
 
@@ -11,7 +12,7 @@ use crate::invent::{self, BYTES, EDGE_SIZES, NUMBERS};
 use crate::limits::{INPUT, LENT, LINE, PLACES, STEPS, TYPE};
 use crate::requests::{Call, REQUESTS, hex, size};
 use crate::uiua::{Dim, DynShape, Scalar, ScalarBox, Type};
-use crate::{buried, naming, opposed, sheet};
+use crate::{buried, naming, opposed, placing, sheet};
 
 pub fn edges(out: &mut Lines) -> Result<()> {
     samples().iter().try_for_each(|ty| damaged(out, &type_bytes(ty)))?;
@@ -28,6 +29,7 @@ pub fn edges(out: &mut Lines) -> Result<()> {
     naming::edges(out)?;
     buried::edges(out)?;
     opposed::edges(out)?;
+    placing::edges(out)?;
     buffers(out)?;
     alone(out)?;
     for length in [LINE - 1, LINE, LINE + 1] {
@@ -49,7 +51,7 @@ fn open(dims: Vec<Dim>, closing: Vec<Dim>) -> DynShape {
 }
 
 /// A few types that between them have every record, count and kind of box.
-fn samples() -> Vec<Type> {
+pub fn samples() -> Vec<Type> {
     let open = open(vec![Dim::Static(2)], vec![Dim::Static(3)]);
     let fields = vec![num(open), invent::all(Scalar::Char.shaped(Dim::Dyn))];
     vec![
@@ -94,7 +96,7 @@ fn damaged(out: &mut Lines, bytes: &[u8]) -> Result<()> {
 }
 
 /// Types at each limit and past it.
-fn limits() -> Vec<Type> {
+pub fn limits() -> Vec<Type> {
     let mut types = vec![invent::largest()];
     for count in [7, 8, 9, 254, 255] {
         types.push(num(vec![Dim::Static(2); count]));
@@ -155,7 +157,7 @@ fn sizes(out: &mut Lines) -> Result<()> {
 }
 
 /// A sheet with every kind of step.
-fn sample_sheet() -> Vec<u8> {
+pub fn sample_sheet() -> Vec<u8> {
     let two = [put(&num(3)), put(&num(Dim::Dyn)), pervade(0)].concat();
     let checked = [validate(&num(DynShape::ANY)), sheet::ROW.into()].concat();
     [two, checked, put(&num(2)), sheet::JOIN.into()].concat()

@@ -7,7 +7,7 @@ use crate::invent::{self, Random};
 use crate::limits::{LENT, LINE, PLACES, SCRATCH, TYPE};
 use crate::requests::{Call, REQUESTS, hex, size};
 use crate::uiua::{Scalar, Type};
-use crate::{buried, edges, naming, opposed, sheet, specs};
+use crate::{buried, edges, naming, opposed, placing, sheet, specs};
 
 pub const SIDES: [&str; 3] = ["none", "left", "right"];
 /// Scratches longer than is asked for: by one byte, as long as was asked for before (2026-04, and one
@@ -75,8 +75,8 @@ fn weight(word: &str) -> usize {
     match word {
         "validate" => 12,
         "check_scalar" | "check_shape" | "sheet" | "pervade" | "read" => 6,
-        "join" | "union" | "merge" | "compare" | "sheet_call" => 4,
-        "kinds" => 1,
+        "join" | "union" | "merge" | "compare" | "sheet_call" | "find_step" => 4,
+        "kinds" | "version" => 1,
         _ => 2,
     }
 }
@@ -101,6 +101,8 @@ pub fn arguments(r: &mut Random, call: &Call) -> String {
             _ => format!(" list{}", numbers(r)),
         },
         Call::Sizes(_) => format!(" {} {}", size_word(r), size_word(r)),
+        Call::Begun(_) => placing::begun(r),
+        Call::Placed(_) => placing::drawn(r),
         Call::Alone(_) => String::new(),
         Call::Sheet => format!(" {}", hex_word(&sheet_bytes(r))),
         Call::SheetCall => sheet_call(r),

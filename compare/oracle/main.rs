@@ -1,9 +1,11 @@
 //! The Rust side of the comparison.
 //!
 //!     oracle                                      answers the requests on its standard input
+//!     oracle words                                names them: the word of each, (none) for what is none
 //!     oracle generate SEED COUNT [MODE [WORD..]]  writes requests
 //!     oracle beside                               holds a sheet's pervading and the test of two
-//!                                                 opening lists beside the Rust's
+//!                                                 opening lists beside the Rust's, and the steps
+//!                                                 of a sheet beside its check
 //!     oracle kinds                                prints the table of kinds, one number to a line
 
 mod beside;
@@ -20,20 +22,24 @@ mod limits;
 mod names;
 mod naming;
 mod opposed;
+mod placing;
 mod requests;
 mod rules;
 mod sheet;
 mod specs;
 mod standins;
+mod steps;
 #[path = "../target/uiua.rs"]
 mod uiua;
+mod version;
 
 use std::io::{BufRead, BufWriter, Write, stdin, stdout};
 
 fn main() -> std::io::Result<()> {
     let arguments: Vec<String> = std::env::args().skip(1).collect();
     match arguments.as_slice() {
-        [] => answer_all(),
+        [] => each_line(requests::answer),
+        [word] if word == "words" => each_line(|line| requests::word(line).to_string()),
         [word, seed, count, rest @ ..] if word == "generate" => {
             let mode = rest.first().map_or("mix", String::as_str);
             let words = rest.get(1..).unwrap_or(&[]);
@@ -42,7 +48,7 @@ fn main() -> std::io::Result<()> {
         [word] if word == "beside" => std::process::exit(!beside::all() as i32),
         [word] if word == "kinds" => print_table(),
         _ => fail(
-            "oracle, oracle generate SEED COUNT [MODE [WORD..]], oracle beside, or oracle kinds",
+            "oracle, oracle words, oracle generate SEED COUNT [MODE [WORD..]], oracle beside, or oracle kinds",
         ),
     }
 }
@@ -56,13 +62,14 @@ fn fail(why: &str) -> ! {
     std::process::exit(2)
 }
 
-fn answer_all() -> std::io::Result<()> {
+/// A line for each of the lines on standard input; the last of them may lack its line feed.
+fn each_line(told: impl Fn(&[u8]) -> String) -> std::io::Result<()> {
     let mut input = stdin().lock();
     let mut output = BufWriter::new(stdout().lock());
     let mut line = Vec::new();
     while input.read_until(b'\n', &mut line)? > 0 {
         let end = line.len() - line.ends_with(b"\n") as usize;
-        writeln!(output, "{}", requests::answer(&line[..end]))?;
+        writeln!(output, "{}", told(&line[..end]))?;
         line.clear();
     }
     output.flush()

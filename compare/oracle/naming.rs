@@ -14,11 +14,11 @@ use crate::{buried, sheet};
 
 // Steps. Their bytes need be no name and no type.
 
-fn declared(name: &[u8], ty: &[u8]) -> Vec<u8> {
+pub fn declared(name: &[u8], ty: &[u8]) -> Vec<u8> {
     [&sheet::DECLARE[..], &spelled(name), ty].concat()
 }
 
-fn used(name: &[u8]) -> Vec<u8> {
+pub fn used(name: &[u8]) -> Vec<u8> {
     [&sheet::USE[..], &spelled(name)].concat()
 }
 
@@ -330,7 +330,7 @@ fn three() -> Type {
 }
 
 /// Lengths of a name, and its bytes at the front, in the middle and at the end.
-fn at_limits() -> Vec<Vec<u8>> {
+pub fn at_limits() -> Vec<Vec<u8>> {
     let lengths = [0, 1, 2, LETTERS - 1, LETTERS, LETTERS + 1, 254, 255];
     let mut names: Vec<Vec<u8>> = lengths.map(|length| vec![b'n'; length]).into();
     for length in [1, 3, LETTERS] {

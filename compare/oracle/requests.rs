@@ -3,12 +3,14 @@
 use std::cmp::Ordering;
 use std::fmt::Write;
 
-use crate::bytes::{No, def_bytes, no, read_lone, scalar_bytes, shape_bytes, type_bytes};
+use crate::bytes::{
+    No, begun_length, def_bytes, no, read_lone, scalar_bytes, shape_bytes, type_bytes,
+};
 use crate::failing::Verdict;
 use crate::limits::{LARGEST, LENT, LINE};
 use crate::standins::SubSide;
 use crate::uiua::{Dim, DynShape, Scalar, Type, TypeVal};
-use crate::{kinds, rules, sheet};
+use crate::{kinds, rules, sheet, steps, version};
 
 const NAN_BITS: u64 = 0x7ff8_0000_0000_0000;
 
@@ -28,6 +30,10 @@ pub enum Call {
     Numbers(fn(&[f64]) -> Answer),
     Value(fn(TypeVal) -> Answer),
     Sizes(fn(Dim, Dim) -> Answer),
+    /// Bytes that a type begins.
+    Begun(fn(&[u8]) -> Answer),
+    /// A place and a sheet, which need not be one that is accepted.
+    Placed(fn(u64, &[u8]) -> Answer),
     /// No argument at all.
     Alone(fn() -> Answer),
     Sheet,
@@ -84,6 +90,9 @@ pub const REQUESTS: &[(&str, Call)] = &[
     ("sheet_call", Call::SheetCall),
     ("write_shape", Call::Written(|a| shape_bytes(&a.shape))),
     ("write_scalar", Call::Written(|a| scalar_bytes(&a.scalar))),
+    ("type_length", Call::Begun(|bytes| Ok(begun_length(bytes)?.to_string()))),
+    ("find_step", Call::Placed(found)),
+    ("version", Call::Alone(|| Ok(version::number().to_string()))),
 ];
 
 // Calls that take more than a line.
@@ -116,6 +125,13 @@ fn sizes(v: TypeVal) -> Answer {
     Ok(match rules::as_dims(&v)? {
         None => "none".into(),
         Some(dims) => dims.iter().fold(dims.len().to_string(), |text, &d| text + " " + &size(d)),
+    })
+}
+
+fn found(place: u64, sheet: &[u8]) -> Answer {
+    Ok(match steps::find(place, sheet) {
+        None => "none".into(),
+        Some((number, mark)) => format!("{number} {mark}"),
     })
 }
 
@@ -210,12 +226,24 @@ pub fn answer(line: &[u8]) -> String {
     }
 }
 
+/// The request that these bytes before the first space are.
+fn named(first: &[u8]) -> Option<&'static (&'static str, Call)> {
+    REQUESTS.iter().find(|(word, _)| word.as_bytes() == first)
+}
+
+/// The request's word, for counting: it has no blank and no sign that a table could trip over, whatever
+/// the line has.
+pub fn word(line: &[u8]) -> &'static str {
+    let first = line.split(|&byte| byte == b' ').next().unwrap_or(line);
+    named(first).map_or("(none)", |(word, _)| word)
+}
+
 fn answered(line: &[u8]) -> Taken<String> {
     if line.len() > LINE {
         return bad("long");
     }
     let words: Vec<&[u8]> = line.split(|&byte| byte == b' ').collect();
-    let Some((_, call)) = REQUESTS.iter().find(|(word, _)| word.as_bytes() == words[0]) else {
+    let Some((_, call)) = named(words[0]) else {
         return bad("request");
     };
     if words.iter().any(|word| word.is_empty()) {
@@ -269,6 +297,15 @@ fn called(call: &Call, words: &[&[u8]]) -> Taken<String> {
             let [a, b] = exactly(words)?;
             let (a, b) = (decimal_size(a)?, decimal_size(b)?);
             call(limited(a, 0)?, limited(b, 1)?)?
+        }
+        Call::Begun(call) => {
+            let [bytes] = exactly(words)?;
+            call(&unhex(bytes)?)?
+        }
+        Call::Placed(call) => {
+            let [place, sheet] = exactly(words)?;
+            let (place, sheet) = (decimal(place)?, unhex(sheet)?);
+            call(place, &sheet)?
         }
         Call::Alone(call) => {
             let [] = exactly(words)?;

@@ -5,7 +5,7 @@ use crate::bytes::{No, Reader, no, type_bytes};
 use crate::limits::{INPUT, PLACES, RESULT, SCRATCH, STEPS};
 use crate::names::{self, Names};
 use crate::uiua::Type;
-use crate::{filled, rules};
+use crate::{filled, rules, steps};
 
 pub const PUT: [u8; 2] = *b"PU";
 pub const ROW: [u8; 2] = *b"RW";
@@ -25,8 +25,17 @@ pub fn call(scratch: usize, result: usize, sheet: &[u8]) -> Result<Vec<Type>, No
     if scratch < SCRATCH {
         return no(7, 0);
     }
-    let left = run(sheet)?;
+    let left = told(sheet)?;
     if length(&left) > result { no(7, sheet.len()) } else { Ok(left) }
+}
+
+/// The types left. A refusal must be of the step to which its place belongs: an oracle that disagrees
+/// with itself must not answer.
+fn told(sheet: &[u8]) -> Result<Vec<Type>, No> {
+    steps_worked(sheet, VALIDATED).map_err(|refused| {
+        assert!(steps::found(sheet, &refused), "{refused:?} is of another step");
+        refused.no
+    })
 }
 
 pub fn length(types: &[Type]) -> usize {
@@ -35,23 +44,40 @@ pub fn length(types: &[Type]) -> usize {
 
 /// The types left, bottom first.
 pub fn run(sheet: &[u8]) -> Result<Vec<Type>, No> {
-    run_with(sheet, |spec, ty| rules::validated(None, spec, ty))
+    run_with(sheet, VALIDATED)
 }
 
 /// How a spec, the first, is held against a type.
 type Validation = fn(Type, Type) -> Result<Type, No>;
 
+pub const VALIDATED: Validation = |spec, ty| rules::validated(None, spec, ty);
+
 /// The same with another validation.
 pub fn run_with(sheet: &[u8], validated: Validation) -> Result<Vec<Type>, No> {
+    steps_worked(sheet, validated).map_err(|refused| refused.no)
+}
+
+/// A refusal with the step that was being worked: its number, counted from 1, and where its mark is.
+#[derive(Debug)]
+pub struct Refused {
+    pub no: No,
+    pub step: usize,
+    pub mark: usize,
+}
+
+pub fn steps_worked(sheet: &[u8], validated: Validation) -> Result<Vec<Type>, Refused> {
     let mut reader = Reader::new(sheet);
     let (mut stack, mut names) = (Vec::new(), Names::default());
-    let mut steps = 0;
+    let mut taken = 0;
     while !reader.ended() {
-        if steps == STEPS {
-            return no(12, reader.at);
-        }
-        step(&mut reader, &mut stack, &mut names, validated)?;
-        steps += 1;
+        let mark = reader.at;
+        let outcome = if taken == STEPS {
+            no(12, mark)
+        } else {
+            step(&mut reader, &mut stack, &mut names, validated)
+        };
+        taken += 1;
+        outcome.map_err(|no| Refused { no, step: taken, mark })?;
     }
     Ok(stack)
 }

@@ -15,6 +15,7 @@ int main(int argc, char **argv)
 {
     const char *failed;
     vg_answer answer;
+    outlive_failed_writes();
     if (argc != 2) {
         return fail("one sheet's file", "is wanted");
     }
@@ -26,6 +27,6 @@ int main(int argc, char **argv)
     if (failed != NULL) {
         return fail("the sheet", failed);
     }
-    print_answer(answer, result);
+    print_answer("", answer, result);
     return is_written() ? 0 : fail("the answer", "cannot be written");
 }

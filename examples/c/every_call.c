@@ -3,6 +3,9 @@
 #include <stdio.h>
 #include <string.h>
 #include "expect.h"
+#include "host.h"
+
+const char *const host = "every_call";
 
 /* ---- what is handed in ----------------------------------------------------------------------------------------------------- */
 
@@ -44,6 +47,9 @@ static int wrote(vg_answer a, const char *text) { return wrote_bytes(a, hex(text
 #define WROTE(call, text) (fresh(), expect(#call, wrote(call, text)))
 
 /* ---- the calls ------------------------------------------------------------------------------------------------------------- */
+
+/* A value is no answer here, but the number itself. */
+static void version(void) { expect("vg_version", vg_version() == VG_VERSION); }
 
 static void types(void)
 {
@@ -497,6 +503,61 @@ static void validation(void)
             }
         }
     }
+}
+
+/* ---- the length of a type -------------------------------------------------------------------------------------------------- */
+
+static vg_answer length_of(bytes b)
+{
+    fresh();
+    return vg_type_length(b.data, b.length);
+}
+
+/* Of a type alone, and of one before each of these. */
+static void expect_length(const char *ty)
+{
+    static const char *const rests[] = {"", "00", "53", "5348", SCALAR NUM, PAIR, "5858", PUT SCALAR NUM, "ffffffffffffffff"};
+    const bytes alone_bytes = hex(ty);
+    char what[512];
+    for (size_t i = 0; i < sizeof rests / sizeof rests[0]; i++) {
+        snprintf(what, sizeof what, "vg_type_length, %s before %s", ty, rests[i]);
+        expect(what, value(length_of(followed(alone_bytes, hex(rests[i]))), alone_bytes.length));
+    }
+    /* Cut off anywhere it is as vg_read has it. */
+    for (size_t i = 0; i < alone_bytes.length; i++) {
+        bytes cut = alone_bytes;
+        cut.length = i;
+        snprintf(what, sizeof what, "vg_type_length, %s cut off after %zu", ty, i);
+        fresh();
+        expect(what, refused(length_of(cut), VG_ENDED, vg_read(cut.data, cut.length).place));
+    }
+}
+
+static void lengths(void)
+{
+    static const char *const made_types[] = {SCALAR NUM,      OPEN ANY, ONE("03") NUM, UNKNOWN_ONE NUM, TWO("02", "03") CHAR, PAIR, SCALAR BOX_ANY,
+                                             TWO_BOXES SCALAR NUM, TWO_BOXES TWO_BOXES TWO_BOXES SCALAR ALL SCALAR NUM};
+    char what[512];
+    for (size_t i = 0; i < sizeof made_types / sizeof made_types[0]; i++) {
+        expect_length(made_types[i]);
+    }
+    /* What is no type is refused as by vg_read, but bytes behind a type are none of its own. */
+    for (const damage *d = damages; d < damages + damages_made; d++) {
+        snprintf(what, sizeof what, "vg_type_length, %s", d->bytes);
+        if (d->number == VG_TRAILING) {
+            expect(what, value(length_of(hex(d->bytes)), d->place));
+        } else {
+            expect(what, refused(length_of(hex(d->bytes)), d->number, d->place));
+        }
+    }
+    begin();
+    append_largest(&types_left, 1);
+    fresh();
+    expect("vg_type_length, a largest type", value(vg_type_length(types_left.data, types_left.length), VG_TYPE_BYTES));
+    append_largest(&types_left, 2);
+    expect("vg_type_length, a largest type before another", value(vg_type_length(types_left.data, types_left.length), VG_TYPE_BYTES));
+    expect("vg_type_length, a largest type that lacks a byte",
+           is(vg_type_length(types_left.data, VG_TYPE_BYTES - 1), VG_REFUSED, VG_ENDED, VG_TYPE_BYTES - 21, 0, 0));
 }
 
 /* ---- compatible shapes: the greatest index that fails ---------------------------------------------------------------------- */
@@ -994,6 +1055,8 @@ static void lent_to_sheets(void)
 
 int main(void)
 {
+    outlive_failed_writes();
+    version();
     types();
     shapes();
     scalars();
@@ -1002,17 +1065,17 @@ int main(void)
     values();
     rows();
     validation();
+    lengths();
     compatible_shapes();
+    found_steps();
     steps();
     sheets();
     lent_to_sheets();
     named_tables();
     worked_types();
     printf("%u calls, %u wrong\n", calls, wrong);
-    /* What was printed counts only once it is written. */
-    if (fflush(stdout) != 0 || ferror(stdout)) {
-        fprintf(stderr, "every_call: the answer cannot be written\n");
-        return 2;
+    if (!is_written()) {
+        return fail("the answer", "cannot be written");
     }
     return wrong == 0 ? 0 : 1;
 }

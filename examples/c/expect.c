@@ -116,6 +116,39 @@ void lend(const char *what, outcome o, size_t result_length, size_t scratch_leng
 
 void lend_exactly(const char *what, outcome o) { lend(what, o, types_left.length, VG_SCRATCH_BYTES); }
 
+/* The number of the step that a place of what was made belongs to, 0 if none has it. */
+static uint64_t step_of(uint64_t place) { return vg_find_step(made.data, made.length, place).first; }
+
+/* Where that step begins. Numbers of steps only grow from place to place. */
+static size_t start_of_step(uint64_t place)
+{
+    const uint64_t number = step_of(place);
+    size_t from = 0, to = (size_t)place;
+    while (from < to) {
+        const size_t middle = from + (to - from) / 2;
+        if (step_of(middle) < number) {
+            from = middle + 1;
+        } else {
+            to = middle;
+        }
+    }
+    return from;
+}
+
+/* Whether the place of a refusal belongs to the step that is refused: those before it are accepted. */
+static int is_refused_step(uint64_t place)
+{
+    const size_t start = start_of_step(place);
+    return step_of(place) > 0 && vg_check_sheet(made.data, start, long_result, sizeof long_result, scratch, sizeof scratch).kind == VG_VALUE;
+}
+
+static void expect_refused_step(const char *what, uint64_t place)
+{
+    char text[256];
+    snprintf(text, sizeof text, "%s, the step refused at %llu", what, (unsigned long long)place);
+    expect(text, is_refused_step(place));
+}
+
 void lend_each(const char *what, outcome o)
 {
     const size_t enough = o.types * VG_TYPE_BYTES, exact = types_left.length;
@@ -123,6 +156,9 @@ void lend_each(const char *what, outcome o)
     const size_t scratches[] = {0, 1, VG_SCRATCH_BYTES - 1, VG_SCRATCH_BYTES, VG_SCRATCH_BYTES + 1,
                                 VG_SHEET_RESULT_BYTES - 1, VG_SHEET_RESULT_BYTES, sizeof scratch};
     size_t untried = 0;
+    if (o.number != 0) {
+        expect_refused_step(what, o.place);
+    }
     for (size_t i = 0; i < sizeof results / sizeof results[0]; i++) {
         /* None is tried twice; and more than there is cannot be lent, nor one fewer than none. */
         if (results[i] >= untried && results[i] <= sizeof long_result) {

@@ -103,7 +103,7 @@ void lend(const char *what, outcome o, size_t result_length, size_t scratch_leng
 void lend_exactly(const char *what, outcome o);
 
 /* The same with every length at which the answer may turn. VG_TYPE_BYTES for each type left are among them; a scratch that could hold
- * six types as a result does is only a longer one. */
+ * six types as a result does is only a longer one. And whether vg_find_step finds the step that is refused. */
 void lend_each(const char *what, outcome o);
 
 /* A sheet or steps, and how it is refused. */
@@ -114,6 +114,9 @@ typedef struct refused_sheet {
 } refused_sheet;
 
 /* ---- checks in files of their own ------------------------------------------------------------------------------------------ */
+
+/* Which step of a sheet a place belongs to, in whole, cut and damaged sheets (found_steps.c). */
+void found_steps(void);
 
 /* Sheets that declare names for types and use them (named_tables.c). */
 void named_tables(void);

@@ -3,34 +3,28 @@
  *   print_kinds
  */
 #include <stdio.h>
+#include "host.h"
 #include "velgrodis.h"
 
-static uint8_t table[VG_KIND_TABLE_BYTES];
+const char *const host = "print_kinds";
 
-static int fail(const char *sentence)
-{
-    fprintf(stderr, "print_kinds: %s\n", sentence);
-    return 2;
-}
+static uint8_t table[VG_KIND_TABLE_BYTES];
 
 int main(int argc, char **argv)
 {
     vg_answer answer;
     size_t i;
     (void)argv;
+    outlive_failed_writes();
     if (argc != 1) {
-        return fail("no argument is wanted");
+        return fail("no argument", "is wanted");
     }
     answer = vg_kinds(table, sizeof table);
     if (answer.kind != VG_VALUE || answer.first != sizeof table) {
-        return fail("the table was not written");
+        return fail("the library's table", "is not understood");
     }
     for (i = 0; i < sizeof table; i++) {
         printf("%u\n", (unsigned)table[i]);
     }
-    /* What was printed counts only once it is written. */
-    if (fflush(stdout) != 0 || ferror(stdout)) {
-        return fail("the table cannot be written");
-    }
-    return 0;
+    return is_written() ? 0 : fail("the table", "cannot be written");
 }

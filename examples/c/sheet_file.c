@@ -1,38 +1,88 @@
+#define _XOPEN_SOURCE 700 /* open, read, fstat */
+#include <errno.h>
+#include <fcntl.h>
 #include <inttypes.h>
 #include <stdio.h>
+#include <string.h>
+#include <sys/stat.h>
+#include <unistd.h>
 #include "sheet_file.h"
 
-int fail(const char *what, const char *how)
+/* ---- reading --------------------------------------------------------------------------------------------------------------- */
+
+/* What went wrong last. */
+static char wrong[256];
+
+static const char *because(const char *what)
 {
-    fprintf(stderr, "%s: %s %s\n", host, what, how);
-    return 2;
+    snprintf(wrong, sizeof wrong, "%s: %s", what, strerror(errno));
+    return wrong;
+}
+
+/* Whether reading came to the end, or filled the room that there is. */
+static int read_to_end(int file, sheet_file *sheet)
+{
+    sheet->length = 0;
+    while (sheet->length < sizeof sheet->bytes) {
+        const ssize_t got = read(file, sheet->bytes + sheet->length, sizeof sheet->bytes - sheet->length);
+        if (got == 0) {
+            return 1;
+        }
+        if (got > 0) {
+            sheet->length += (size_t)got;
+        } else if (errno != EINTR) {
+            return 0;
+        }
+    }
+    return 1;
+}
+
+/* The bytes of a regular file from where its reading begins. Standard input may have been read from before. */
+static uintmax_t size_from(const struct stat *file, off_t start)
+{
+    return file->st_size > start ? (uintmax_t)(file->st_size - start) : 0;
+}
+
+/* Of a sheet that is too long the front alone was read. */
+static int is_whole(uintmax_t before, uintmax_t after, size_t length)
+{
+    return before == after && (length > VG_PROGRAM_SHEET_BYTES ? before >= length : before == length);
+}
+
+const char *read_open_sheet(int file, sheet_file *sheet)
+{
+    struct stat before, after;
+    const off_t start = lseek(file, 0, SEEK_CUR); /* -1 for a pipe, of which it is not asked */
+    if (fstat(file, &before) != 0 || !read_to_end(file, sheet) || fstat(file, &after) != 0) {
+        return because("cannot be read");
+    }
+    if (S_ISREG(before.st_mode) && !is_whole(size_from(&before, start), size_from(&after, start), sheet->length)) {
+        snprintf(wrong, sizeof wrong, "was not read whole: it had %" PRIuMAX " bytes before and %" PRIuMAX " after, and %zu were read",
+                 size_from(&before, start), size_from(&after, start), sheet->length);
+        return wrong;
+    }
+    return NULL;
 }
 
 const char *read_sheet(const char *path, sheet_file *sheet)
 {
-    int failed;
-    FILE *file = fopen(path, "rb");
-    if (file == NULL) {
-        return "cannot be opened";
+    const char *failed;
+    const int file = open(path, O_RDONLY | O_NOCTTY);
+    if (file < 0) {
+        return because("cannot be opened");
     }
-    sheet->length = fread(sheet->bytes, 1, sizeof sheet->bytes, file);
-    failed = ferror(file);
-    fclose(file);
-    return failed ? "cannot be read" : NULL;
+    failed = read_open_sheet(file, sheet);
+    close(file);
+    return failed;
 }
 
-/* The length of the first of the types that stand one after the other: all bytes, or those before the first extra one. 0 if there is
- * no type. */
-static size_t first_length(const uint8_t *types, size_t length)
+/* ---- checking -------------------------------------------------------------------------------------------------------------- */
+
+/* The length of the type that begins the bytes; 0 if none does. */
+static size_t type_length(const uint8_t *bytes, size_t length)
 {
-    vg_answer answer = vg_read(types, length);
-    if (answer.kind == VG_VALUE) {
-        return length;
-    }
-    if (answer.kind == VG_REFUSED && answer.number == VG_TRAILING && answer.place < length) {
-        return (size_t)answer.place;
-    }
-    return 0;
+    const vg_answer answer = vg_type_length(bytes, length);
+    return answer.kind == VG_VALUE && answer.first <= length ? (size_t)answer.first : 0;
 }
 
 /* Whether the bytes are so many types. */
@@ -40,7 +90,7 @@ static int are_types(const uint8_t *types, uint64_t count, size_t bytes)
 {
     size_t at = 0;
     for (uint64_t i = 0; i < count; i++) {
-        size_t length = first_length(types + at, bytes - at);
+        const size_t length = type_length(types + at, bytes - at);
         if (length == 0) {
             return 0;
         }
@@ -49,12 +99,12 @@ static int are_types(const uint8_t *types, uint64_t count, size_t bytes)
     return at == bytes;
 }
 
-static int is_understood(vg_answer answer, const uint8_t *result, size_t result_len)
+static int is_understood(vg_answer answer, const sheet_file *sheet, const uint8_t *result, size_t result_len)
 {
     if (answer.kind == VG_VALUE) {
         return answer.second <= result_len && are_types(result, answer.first, (size_t)answer.second);
     }
-    return answer.kind == VG_REFUSED;
+    return answer.kind == VG_REFUSED && answer.number >= VG_ENDED && answer.number <= VG_TOO_MANY_NAMES && answer.place <= sheet->length;
 }
 
 const char *check_sheet(const sheet_file *sheet, uint8_t *result, size_t result_len, uint8_t *scratch, size_t scratch_len, vg_answer *answer)
@@ -65,16 +115,18 @@ const char *check_sheet(const sheet_file *sheet, uint8_t *result, size_t result_
         return NULL;
     }
     *answer = vg_check_sheet(sheet->bytes, sheet->length, result, result_len, scratch, scratch_len);
-    return is_understood(*answer, result, result_len) ? NULL : "has an answer that is not understood";
+    return is_understood(*answer, sheet, result, result_len) ? NULL : "has an answer that is not understood";
 }
 
-static void print_types(const uint8_t *types, uint64_t count, size_t bytes)
+/* ---- printing -------------------------------------------------------------------------------------------------------------- */
+
+static void print_types(const char *before, const uint8_t *types, uint64_t count, size_t bytes)
 {
     size_t at = 0;
-    printf("ok %" PRIu64 " %zu\n", count, bytes);
+    printf("%sok %" PRIu64 " %zu\n", before, count, bytes);
     for (uint64_t i = 0; i < count; i++) {
-        size_t end = at + first_length(types + at, bytes - at);
-        printf("%" PRIu64 " ", i);
+        const size_t end = at + type_length(types + at, bytes - at);
+        printf("%s%" PRIu64 " ", before, i);
         for (; at < end; at++) {
             printf("%02x", types[at]);
         }
@@ -82,13 +134,11 @@ static void print_types(const uint8_t *types, uint64_t count, size_t bytes)
     }
 }
 
-void print_answer(vg_answer answer, const uint8_t *result)
+void print_answer(const char *before, vg_answer answer, const uint8_t *result)
 {
     if (answer.kind == VG_REFUSED) {
-        printf("no %" PRIu64 " %" PRIu64 "\n", answer.number, answer.place);
+        printf("%sno %" PRIu64 " %" PRIu64 "\n", before, answer.number, answer.place);
     } else {
-        print_types(result, answer.first, (size_t)answer.second);
+        print_types(before, result, answer.first, (size_t)answer.second);
     }
 }
-
-int is_written(void) { return fflush(stdout) == 0 && !ferror(stdout); }

@@ -10,7 +10,7 @@
  *
  * Where a sheet cannot be read or checked, or its answer is not understood, nothing is printed; where the answers cannot be written
  * whole, what came out of them is none. Standard error says so, and the status is 2. A file is read once and to its end, also if it is
- * named for both; of a pipe whose writer failed the end looks like any other.
+ * named for both, and one that was cut while it was read is none; of a pipe whose writer failed the end looks like any other.
  */
 #include <pthread.h>
 #include <stddef.h>
@@ -94,6 +94,7 @@ static int check_both(void)
 
 int main(int argc, char **argv)
 {
+    outlive_failed_writes();
     if (argc != 3) {
         return fail("two sheets' files are wanted,", "the matinee's and the evening's");
     }
@@ -101,7 +102,7 @@ int main(int argc, char **argv)
     if (read_both(argv[1], argv[2]) != 0 || check_both() != 0) {
         return 2;
     }
-    print_answer(matinee.answer, matinee.result);
-    print_answer(evening.answer, evening.result);
+    print_answer("", matinee.answer, matinee.result);
+    print_answer("", evening.answer, evening.result);
     return is_written() ? 0 : fail("the answers", "cannot be written");
 }

@@ -46,12 +46,12 @@ pub record Gathered (s : List ℕ) (count : ℕ) (ds : List Dim) (sizes : List �
   pub counted : i + length rest ≡ count
   pub gathered : ds ≡ map dimOf (take i sizes) ++ rest
 
-pub gathered-none : (s : List ℕ) (count : ℕ) (ds : List Dim) (sizes : List ℕ) (start : ℕ) → DimsAt s start ds → length ds ≡ count → Gathered s count ds sizes 0 start
+gathered-none : (s : List ℕ) (count : ℕ) (ds : List Dim) (sizes : List ℕ) (start : ℕ) → DimsAt s start ds → length ds ≡ count → Gathered s count ds sizes 0 start
 gathered-none s count ds sizes start h e = record { rest = ds; there = h; counted = omega arith; gathered = refl }
 
 module _ {s : List ℕ} {count : ℕ} {ds : List Dim} {sizes : List ℕ} {i at : ℕ} (g : Gathered s count ds sizes i at) where
   module _ (less : i < count) where
-    pub size-there : at + 8 ≤ length s
+    size-there : at + 8 ≤ length s
     size-there = go (g .rest) (g .there) (g .counted)
       where
         go : (r : List Dim) → DimsAt s at r → i + length r ≡ count → at + 8 ≤ length s
@@ -60,7 +60,7 @@ module _ {s : List ℕ} {count : ℕ} {ds : List Dim} {sizes : List ℕ} {i at :
             let long = length-writeDims (d ∷ r) in
             omega (arith, stands-within s at (writeDims (d ∷ r)) (omega arith) (h .stands))
 
-    pub gathered-more : {v : ℕ} → i < length sizes → v ≡ eightBytes s at → Gathered s count ds (set sizes i v) (i + 1) (at + 8)
+    gathered-more : {v : ℕ} → i < length sizes → v ≡ eightBytes s at → Gathered s count ds (set sizes i v) (i + 1) (at + 8)
     gathered-more {v} l e = go (g .rest) (g .there) (g .counted) (g .gathered)
       where
         go : (r : List Dim) → DimsAt s at r → i + length r ≡ count → ds ≡ map dimOf (take i sizes) ++ r → Gathered s count ds (set sizes i v) (i + 1) (at + 8)
@@ -72,12 +72,39 @@ module _ {s : List ℕ} {count : ℕ} {ds : List Dim} {sizes : List ℕ} {i at :
             let more : map dimOf (take (i + 1) (set sizes i v)) ++ r ≡ map dimOf (take i sizes) ++ (d ∷ r) = rw (one-more sizes i v l, is) (append-assoc (map dimOf (take i sizes)) (d ∷ []) r) in
             record { rest = r; there = record { stands = behind; records = (omega (arith, h .records .0), h .records .1 .1) }; counted = omega (arith, n); gathered = x ∙ sym more }
 
-  pub gathered-all : i ≡ count → map dimOf (take count sizes) ≡ ds
+  gathered-all : i ≡ count → map dimOf (take count sizes) ≡ ds
   gathered-all e = go (g .rest) (g .counted) (g .gathered)
     where
       go : (r : List Dim) → i + length r ≡ count → ds ≡ map dimOf (take i sizes) ++ r → map dimOf (take count sizes) ≡ ds
       go [] n x = sym (x ∙ rw (e, append-nil))
       go (d ∷ r) n x = absurd (omega arith)
+
+-- All the places of the array are gone through: up to the count each step puts one more size, and past it none.
+pub record Gathering (s : List ℕ) (start count : ℕ) (ds : List Dim) (sizes : List ℕ) (i : ℕ) : Type 0 where
+  pub during : i ≤ count → Gathered s count ds sizes i (start + 8 * i)
+  pub after : count ≤ i → map dimOf (take count sizes) ≡ ds
+
+-- As long as sizes are put, what is gathered is all that there is to know.
+gathering-by : {s : List ℕ} {start count : ℕ} {ds : List Dim} {sizes : List ℕ} {i : ℕ} → i ≤ count → Gathered s count ds sizes i (start + 8 * i) → Gathering s start count ds sizes i
+gathering-by h g = record { during = λ _. g; after = λ l. gathered-all g (omega arith) }
+
+pub gathering-none : (s : List ℕ) (start count : ℕ) (ds : List Dim) (sizes : List ℕ) → DimsAt s start ds → length ds ≡ count → Gathering s start count ds sizes 0
+gathering-none s start count ds sizes h e =
+    let first : start + 8 * 0 ≡ start = omega arith in
+    gathering-by (omega arith) (rw first (gathered-none s count ds sizes start h e))
+
+module _ {s : List ℕ} {start count : ℕ} {ds : List Dim} {sizes : List ℕ} {i : ℕ} (f : Gathering s start count ds sizes i) where
+  module _ (less : i < count) where
+    pub next-there : start + 8 * i + 8 ≤ length s
+    next-there = size-there (f .during (omega arith)) less
+
+    pub gathering-more : {v : ℕ} → i < length sizes → v ≡ eightBytes s (start + 8 * i) → Gathering s start count ds (set sizes i v) (i + 1)
+    gathering-more l e =
+        let next : start + 8 * i + 8 ≡ start + 8 * (i + 1) = omega arith in
+        gathering-by (omega arith) (rw next at (gathered-more (f .during (omega arith)) less l e))
+
+  pub gathering-past : count ≤ i → Gathering s start count ds sizes (i + 1)
+  gathering-past h = record { during = λ l. absurd (omega arith); after = λ _. f .after h }
 
 -- ---- the record of a shape
 

@@ -23,10 +23,12 @@ fn dims_at(s: &[u8], start: usize, count: usize) -> Dims
 {
     let mut sizes = [0u64; MAX_SIZES];
     let mut i = 0;
-    let mut at = start;
-    while i < count {
-        sizes[i] = number_at(s, at);
-        at += 8;
+    // All eight places are gone through, so that the compiler unrolls the loop and keeps each size in a register of its
+    // own; an array that is filled up to a count it must store, and whoever copies it then waits for the stores.
+    while i < MAX_SIZES {
+        if i < count {
+            sizes[i] = number_at(s, start + 8 * i);
+        }
         i += 1;
     }
     Dims { sizes, count }

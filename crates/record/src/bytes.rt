@@ -128,7 +128,7 @@ pub fn read_mark(s: &[u8], place: usize, at: usize, due: Mark) -> Reading
     }
 }
 
-// Eight bytes, low byte first.
+// Eight bytes, low byte first. The sum is flat: so the compiler makes one load of it.
 pub fn number_at(s: &[u8], at: usize) -> u64
     requires { ⌜ at + 8 ≤ length (now s) ⌝ }
     ensures { λ r. ⌜ r ≡ eightBytes (now (s .entry)) at ⌝ }
@@ -141,7 +141,14 @@ pub fn number_at(s: &[u8], at: usize) -> u64
     let f = wide(s[at + 5]);
     let g = wide(s[at + 6]);
     let h = wide(s[at + 7]);
-    a + 256 * (b + 256 * (c + 256 * (d + 256 * (e + 256 * (f + 256 * (g + 256 * h))))))
+    a
+        + 256 * b
+        + 65536 * c
+        + 16777216 * d
+        + 4294967296 * e
+        + 1099511627776 * f
+        + 281474976710656 * g
+        + 72057594037927936 * h
 }
 
 // How many a list holds, by its count, which may be absent.

@@ -8,7 +8,7 @@ use mathlib.Core.Path.{_≡_, refl, sym, _∙_, ap}
 use lib.ListN.{length, take, drop, replicate, length-append, length-drop, length-replicate}
 use lib.Seq.{length-take-le}
 use lib.Dec.{leb}
-use borrow.Author.Tests.{lt-ltb, le-ltb}
+use borrow.Author.Tests.{le-leb, lt-ltb, le-ltb}
 use Rattle.model.specs.Refusals.{tooShort, overflow}
 use Rattle.model.specs.Types.{Ty}
 use Rattle.format.specs.Reader.{Read, stopped}
@@ -17,13 +17,13 @@ use Rattle.machine.specs.SheetLimits.{maxSteps, maxStack, maxNames, scratchByte
 use Rattle.machine.specs.Run.{Stack}
 use Rattle.machine.specs.Sheet.{State, fresh, workFrom, sheetFrom, sheetRun}
 use Rattle.machine.specs.SheetSteps.{work-taken, sheetFrom-end, sheetFrom-over, sheetFrom-step, sheetFrom-stop}
-use Rattle.machine.specs.Call.{Called, called, tally, writeTypes, firstZero, zeroed, atFront, handOver, sheetCall}
+use Rattle.machine.specs.Call.{Called, called, tally, writeTypes, firstZero, zeroed, atFront, leftWith, handOver, sheetCall}
 use Rattle.names.specs.Table.{HasNames}
 use Rattle.names.specs.TableLaws.{none-in-force}
 use Rattle.stack.specs.Stack.{Memory, memory, fullTrays, size, Stacked, HasStack, Keeps}
 use Rattle.stack.specs.StackLaws.{stacked-none, stacked-sizes}
 use Rattle.step.specs.Answers.{NameTable, nameTable, StepsTo}
-use Rattle.run.specs.Answers.{InState, Going, ReadOn, Runs, calledOf}
+use Rattle.run.specs.Answers.{InState, Going, ReadOn, Runs, Answers, calledOf}
 use Rattle.step.specs.declared.Stepped.{Stepped}
 use Rattle.run.specs.declared.Ran.{Ran}
 use Rattle.step.specs.declared.Reached.the-variants.{At, Refused}
@@ -179,6 +179,23 @@ module _ (size : ℕ) (us : List Ty) (result out x : List ℕ) where
 -- how long each of them is
 pub handed-sizes : (m : Memory) (count : ℕ) {ts : Stack} → Stacked m count ts → (us : List Ty) → accepted (reverse ts) ≡ accepted us → take count (m .lengths) ≡ map size us
 handed-sizes m count {ts} h us e = let x : reverse ts ≡ us = cc in rw (← x) (stacked-sizes m count h)
+
+-- where the result has room, the types left stand in it
+left-whole : (size : ℕ) (us : List Ty) (result x : List ℕ) → length (writeTypes us) ≤ length result → leftWith us result x ≡ handOver size (accepted us) result x
+unfolding handOver
+left-whole size us result x h = rw (le-leb (length (writeTypes us)) (length result) h)
+
+-- a sheet without a step leaves none
+module _ (s result lengths : List ℕ) (none : length s ≤ 0) where
+  empty-run : sheetRun s ≡ accepted []
+  empty-run = run-left s (fresh []) 0 none refl
+
+  pub no-steps : Answers (Accepted 0 0) result lengths s result
+  unfolding writeTypes
+  no-steps = record { called = rw empty-run (left-whole (length s) [] result [] (omega arith)); measured = λ ts is. nothing-else ts (sym empty-run ∙ is) }
+    where
+      nothing-else : (ts : List Ty) → accepted [] ≡ accepted ts → [] ≡ map size ts
+      nothing-else ts e = let x : [] ≡ ts = cc in rw (← x)
 
 -- ---- both buffers
 

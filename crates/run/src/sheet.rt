@@ -67,8 +67,24 @@ pub fn measure_sheet(
     answer
 }
 
-// The answer and the result; what the scratch then has is left open.
+// The answer and the result; what the scratch then has is left open. Buffers are made where there is a step to use them.
 fn run_sheet(
+    sheet: &[u8],
+    result: &mut [u8],
+    scratch: &mut [u8],
+    lengths: &mut [usize],
+) -> SheetAnswer
+    requires { ⌜ (maxStack ≤ length (now lengths)) × (scratchBytes ≤ length (now scratch)) ⌝ }
+    ensures { λ r. ⌜ Answers r (now (result .exit)) (now (lengths .exit)) (now (sheet .entry)) (now (result .entry)) ⌝ }
+{
+    if sheet.len() == 0 {
+        return SheetAnswer::Accepted { types: 0, bytes: 0 };
+    }
+    run_small(sheet, &mut *result, &mut *scratch, &mut *lengths)
+}
+
+// The same with small trays, as far as they go.
+fn run_small(
     sheet: &[u8],
     result: &mut [u8],
     scratch: &mut [u8],

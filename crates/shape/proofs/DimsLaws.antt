@@ -5,9 +5,9 @@ use native.Mathlib.Numerals.{add-one, one-add}
 use mathlib.Core.Bool.{Bool, true, false, not}
 use mathlib.Core.List.{List, [], _∷_, _++_, map}
 use mathlib.Core.Option.{Option, none, some}
-use mathlib.Core.Path.{_≡_, refl, sym, _∙_, ap}
+use mathlib.Core.Path.{_≡_, refl, sym, _∙_, ap, subst}
 use lib.Dec.{eqb}
-use lib.ListN.{length, take, drop, getD, set, getElem?, length-drop}
+use lib.ListN.{length, take, drop, getD, set, getElem?, length-drop, length-set}
 use lib.Seq.{take-suc, take-length, getD-drop}
 use borrow.Author.Tests.{eqb-true, eqb-false, le-leb, lt-leb, not-true, not-false}
 use Rattle.model.specs.Types.{Dim, unknown}
@@ -74,6 +74,33 @@ module _ (l : List Dim) (sizes : List ℕ) where
 
   pub build-end : (i : ℕ) {n : ℕ} → i ≡ n → n ≡ length l → Built l sizes i → map dimOf (take n sizes) ≡ l
   build-end i {n} e f b = ap (λ k. map dimOf (take k sizes)) (sym e) ∙ b ∙ ap (λ k. take k l) (e ∙ f) ∙ take-length l
+
+-- ---- the same in a walk through all eight places, which leaves those past the count n alone
+
+abbrev pub Listed : List Dim → ℕ → List ℕ → ℕ → Type 0
+Listed l n sizes i = (i ≤ 8) × (length sizes ≡ 8) × Built l sizes (min i n)
+
+pub listed-none : (l : List Dim) (n : ℕ) (sizes : List ℕ) → length sizes ≡ 8 → Listed l n sizes 0
+listed-none l n sizes e =
+    let none-yet : 0 ≡ min 0 n = omega arith in
+    (omega arith, e, subst (Built l sizes) none-yet (build-start l sizes))
+
+module _ (l : List Dim) (n : ℕ) (sizes : List ℕ) (i : ℕ) where
+  -- one place, by whether it is one of the list's
+  module _ {next : List ℕ} (turn : i < 8) (f : Listed l n sizes i) where
+    pub listed-more : (v : ℕ) → i < n → next ≡ set sizes i v → (Built l sizes i → Built l (set sizes i v) (i + 1)) → Listed l n next (i + 1)
+    listed-more v h e more =
+        let here : min i n ≡ i = omega arith in
+        let there : i + 1 ≡ min (i + 1) n = omega arith in
+        rw e (omega arith, simp length-set (f .1), subst (Built l (set sizes i v)) there (more (subst (Built l sizes) here (f .2))))
+
+    pub listed-past : n ≤ i → next ≡ sizes → Listed l n next (i + 1)
+    listed-past h e =
+        let there : min i n ≡ min (i + 1) n = omega arith in
+        rw e (omega arith, f .1, subst (Built l sizes) there (f .2))
+
+  pub listed-all : 8 ≤ i → n ≤ 8 → n ≡ length l → Listed l n sizes i → map dimOf (take n sizes) ≡ l
+  listed-all h k e f = build-end l sizes (min i n) (omega arith) e (f .2)
 
 -- ---- one index of each rule
 

@@ -1,4 +1,6 @@
 // Lists of sizes by value, index by index: eight-element arrays beside a count.
+// The loops that make a list, but for that of `join_ends`, go through all eight places, so that the compiler unrolls them and keeps each
+// size in a register of its own; an array filled up to a count it must store, and whoever copies it then waits for the stores.
 use crate::Compatibility;
 use crate::Spot;
 use crate::sizes::join_sizes;
@@ -26,8 +28,10 @@ pub fn merge_dims(a: Dims, b: Dims) -> Dims
     let count = longer(a, b);
     let mut sizes = [0u64; MAX_SIZES];
     let mut i = 0;
-    while i < count {
-        sizes[i] = merge_at(a, b, i);
+    while i < MAX_SIZES {
+        if i < count {
+            sizes[i] = merge_at(a, b, i);
+        }
         i += 1;
     }
     Dims { sizes, count }
@@ -52,8 +56,10 @@ pub fn join_dims(a: Dims, b: Dims) -> Dims
     let count = shorter(a, b);
     let mut sizes = [0u64; MAX_SIZES];
     let mut i = 0;
-    while i < count {
-        sizes[i] = join_sizes(size_at(a, i), size_at(b, i));
+    while i < MAX_SIZES {
+        if i < count {
+            sizes[i] = join_sizes(size_at(a, i), size_at(b, i));
+        }
         i += 1;
     }
     Dims { sizes, count }
@@ -116,8 +122,10 @@ pub fn rest_dims(d: Dims) -> Dims
     let count = n - 1;
     let mut sizes = [0u64; MAX_SIZES];
     let mut i = 0;
-    while i < count {
-        sizes[i] = size_at(d, i + 1);
+    while i < MAX_SIZES {
+        if i < count {
+            sizes[i] = size_at(d, i + 1);
+        }
         i += 1;
     }
     Dims { sizes, count }

@@ -73,11 +73,11 @@ pub enum Pervasion {
 }
 
 struct DimsPervaded {
-    pub answer: Pervasion,
     pub dims: Dims,
+    pub answer: Pervasion,
 }
 
 pub struct ShapePervaded {
-    pub answer: Pervasion,
     pub shape: DynShape,
+    pub answer: Pervasion,
 }

@@ -52,7 +52,7 @@ pub fn pervade_dyn_shapes(
     let answer = walk.answer;
     let dims = walk.dims;
     let shape = pervade_closing(dims, a, b);
-    ShapePervaded { answer, shape }
+    ShapePervaded { shape, answer }
 }
 
 // Whether any size may grow: in sheets, where a side is filled.
@@ -109,13 +109,13 @@ fn pervade_dims(a: Dims, b: Dims, filling: Filling) -> DimsPervaded
     };
     if at < count {
         return DimsPervaded {
-            answer: Pervasion::Stopped(at),
             dims: no_dims(),
+            answer: Pervasion::Stopped(at),
         };
     }
     DimsPervaded {
-        answer: Pervasion::Pervaded,
         dims: Dims { sizes, count },
+        answer: Pervasion::Pervaded,
     }
 }
 

@@ -45,10 +45,10 @@ enum Clash {
     Numbered { number: u8 },
 }
 
-// The same, and the shape that the type has if it does not.
+// The same, and the shape that the type has if it does not, in front, so that its sizes stand aligned.
 struct ShapeChecked {
-    pub clash: Clash,
     pub shape: DynShape,
+    pub clash: Clash,
 }
 
 // A list of types: where it stands, how many they are, and whether they stand one after the other or all at that place.

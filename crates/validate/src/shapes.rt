@@ -18,6 +18,7 @@ ghost use mathlib.Core.Path.{_≡_};
 ghost use mathlib.Core.Option.{some};
 ghost use Rattle.model.specs.Types.{shape};
 ghost use Rattle.record.specs.Answers.{dimsOf, shapeFor};
+ghost use Rattle.rules.specs.Shapes.{mergeFrom};
 ghost use Rattle.validation.specs.CheckShape.{unsided, left, right, sizesAgree, clash, mismatch, shapeMismatch, sidedShape, checkShape};
 ghost use Rattle.validate.specs.Answers.{sideOf, clashOf, checkedOf};
 
@@ -116,23 +117,30 @@ fn find_clash(side: Side, spec: DynShape, t: DynShape) -> Clash
     mismatch(side, dims, t)
 }
 
-// What is merged: for a side the spec's opening sizes alone, open, and for the right side as closing sizes.
-fn sided_shape(side: Side, spec: DynShape) -> DynShape
-    ensures { λ r. ⌜ shapeFor r ≡ sidedShape (sideOf side) (shapeFor spec) ⌝ }
+// The merge with what a side takes of the spec: without one all of it, with one its opening sizes alone, open, and for the right side as
+// closing sizes. Each side merges for itself, since a shape chosen first would be copied.
+fn merge_sided(side: Side, t: DynShape, spec: DynShape) -> DynShape
+    ensures { λ r. ⌜ shapeFor r ≡ mergeFrom (shapeFor t) (sidedShape (sideOf side) (shapeFor spec)) ⌝ }
 {
     let sizes = spec.dims;
     match side {
-        Side::Unsided => spec,
-        Side::Left => DynShape {
-            dims: sizes,
-            suffix: no_dims(),
-            closed: false,
-        },
-        Side::Right => DynShape {
-            dims: no_dims(),
-            suffix: sizes,
-            closed: false,
-        },
+        Side::Unsided => merge_from(t, spec),
+        Side::Left => merge_from(
+            t,
+            DynShape {
+                dims: sizes,
+                suffix: no_dims(),
+                closed: false,
+            },
+        ),
+        Side::Right => merge_from(
+            t,
+            DynShape {
+                dims: no_dims(),
+                suffix: sizes,
+                closed: false,
+            },
+        ),
     }
 }
 
@@ -142,11 +150,10 @@ pub fn check_shapes(side: Side, spec: DynShape, t: DynShape) -> ShapeChecked
 {
     let clash = find_clash(side, spec, t);
     let Clash::Clear = clash else {
-        return ShapeChecked { clash, shape: t };
+        return ShapeChecked { shape: t, clash };
     };
-    let merged = merge_from(t, sided_shape(side, spec));
     ShapeChecked {
+        shape: merge_sided(side, t, spec),
         clash,
-        shape: merged,
     }
 }

@@ -1,27 +1,28 @@
 use borrow.Author.Needs.{needs}
-use mathlib.Core.Path.{_≡_, sym, _∙_}
+use mathlib.Core.Path.{sym, _∙_}
 use native.Mathlib.Omega.{arith}
-use Prim.Native.Nat.{_-_, _≤_}
-use lib.ListN.{length, length-set}
+use Prim.Native.Nat.{_-_}
+use mathlib.Core.Logic.{⊎-elim}
 use Rattle.record.specs.Answers.{dimsOf}
 use Rattle.rules.specs.Shapes.{joinDims}
 use Rattle.rules.specs.ShapesLaws.{join-length}
-use Rattle.shape.proofs.DimsLaws.{Built, build-start, build-end, join-more}
-use mathlib.Core.List.{[]}
+use Rattle.shape.proofs.DimsLaws.{Listed, listed-none, listed-more, listed-past, listed-all, join-more}
 use Rattle.shape.proofs.dims.join_dims.Statement.{statement}
 use Rattle.shape.proofs.dims.join_dims.Tie as tie
 
 abbrev Inv-loop : tie.InvT-loop
-Inv-loop a b count sizes₀ i₀ sizes i = (i ≤ count) × (length sizes ≡ 8) × Built (joinDims (dimsOf a) (dimsOf b)) sizes i
+Inv-loop a b count sizes₀ i₀ sizes i = Listed (joinDims (dimsOf a) (dimsOf b)) count sizes i
 
 abbrev μ-loop : tie.MeasureT-loop
-μ-loop a b count sizes₀ i₀ sizes i = count - i
+μ-loop a b count sizes₀ i₀ sizes i = 8 - i
 
 shorter-requires : tie.Need-shorter-requires Inv-loop μ-loop
 shorter-requires c κs = search needs
 
 loop-holds : tie.Need-loop-holds Inv-loop μ-loop
-loop-holds c = (search needs, search needs, build-start (joinDims (dimsOf (c .before .args .a)) (dimsOf (c .before .args .b))) [])
+loop-holds c =
+    let args = c .before .args in
+    listed-none (joinDims (dimsOf (args .a)) (dimsOf (args .b))) (c .shorter .result) _ (search needs)
 
 size-at-requires : tie.Need-size-at-requires Inv-loop μ-loop
 size-at-requires c κs = search needs
@@ -46,24 +47,23 @@ loop-less c = search needs
 
 loop-again : tie.Need-loop-again Inv-loop μ-loop
 loop-again c =
-    let entry = c .before .before .before .before .before .before in
-    let at-shorter = c .before .before .before .before .before in
-    let at-loop = c .before .before .before .before in
-    let at-size-at = c .before .before in
-    let args = entry .args in (
-      omega arith,
-      simp length-set (at-loop .loop .inv .1),
-      join-more (dimsOf (args .a)) (dimsOf (args .b)) (at-loop .loop .sizes) (at-loop .loop .i) (c .join-sizes .result) (omega arith)
-          (omega (arith, at-shorter .shorter .ensures .0)) (at-size-at .size-at .ensures) (c .before .size-at2 .ensures) (c .join-sizes .ensures) (at-loop .loop .inv .2),
-    )
+    let at-shorter = c .before .before .before in
+    let args = at-shorter .before .args in
+    let at-loop = c .before .before .loop in
+    let list = joinDims (dimsOf (args .a)) (dimsOf (args .b)) in
+    let count = at-shorter .shorter .result in
+    ⊎-elim
+    (λ w. listed-more list count (at-loop .sizes) (at-loop .i) (c .before .loop-test .taken) (at-loop .inv) (w .3 .result) (w .0 .taken) (w .4)
+    (join-more (dimsOf (args .a)) (dimsOf (args .b)) (at-loop .sizes) (at-loop .i) (w .3 .result) (omega arith) (omega (arith, at-shorter .shorter .ensures .0))
+    (w .1 .ensures) (w .2 .ensures) (w .3 .ensures)))
+    (λ w. listed-past list count (at-loop .sizes) (at-loop .i) (c .before .loop-test .taken) (at-loop .inv) (w .0 .left) (w .1)) (c .if1 .came)
 
 returns : tie.Need-returns Inv-loop μ-loop
 returns c =
-    let entry = c .before .before .before in
     let at-shorter = c .before .before in
-    let args = entry .args in
-    build-end (joinDims (dimsOf (args .a)) (dimsOf (args .b))) (c .before .loop .sizes) (c .before .loop .i) (omega arith)
-    (at-shorter .shorter .ensures .0 ∙ sym (join-length (dimsOf (args .a)) (dimsOf (args .b)))) (c .before .loop .inv .2)
+    let args = at-shorter .before .args in
+    listed-all (joinDims (dimsOf (args .a)) (dimsOf (args .b))) (at-shorter .shorter .result) (c .before .loop .sizes) (c .before .loop .i) (c .loop-test .left) (at-shorter .shorter .ensures .1)
+    (at-shorter .shorter .ensures .0 ∙ sym (join-length (dimsOf (args .a)) (dimsOf (args .b)))) (c .before .loop .inv)
 
 pub join-dims-spec : {M : Type 1} → statement M
 join-dims-spec =

@@ -1,6 +1,4 @@
-use mathlib.Core.Path.{ap, _∙_}
 use borrow.Author.Needs.{needs}
-use Rattle.rules.specs.Shapes.{mergeFrom}
 use Rattle.record.specs.Answers.{shapeFor}
 use Rattle.validate.specs.Answers.{sideOf}
 use Rattle.validate.proofs.ShapesLaws.{clashed, merged}
@@ -8,9 +6,8 @@ use Rattle.validate.proofs.shapes.check_shapes.Statement.{statement}
 use Rattle.validate.proofs.shapes.check_shapes.Tie as tie
 use Rattle.validate.proofs.shapes.check_shapes.Reads as reads
 use Rattle.validate.proofs.shapes.check_shapes.Lts as lts
-use Rattle.shape.proofs.merge_from.Reads as merge-from-reads
 use Rattle.validate.proofs.shapes.find_clash.Reads as find-clash-reads
-use Rattle.validate.proofs.shapes.sided_shape.Reads as sided-shape-reads
+use Rattle.validate.proofs.shapes.merge_sided.Reads as merge-sided-reads
 
 find-clash-requires : tie.Need-find-clash-requires
 find-clash-requires c κs = search needs
@@ -28,20 +25,16 @@ returns c =
     let args = entry .args in
     clashed (sideOf (args .side)) (shapeFor (args .spec)) (shapeFor (args .t)) (at-find-clash .find-clash .ensures) (shapeFor (args .t)) (c .enum-told2 .given .1)
 
-sided-shape-requires : tie.Need-sided-shape-requires
-sided-shape-requires c κs = search needs
-
-merge-from-requires : tie.Need-merge-from-requires
-merge-from-requires c κs = search needs
+merge-sided-requires : tie.Need-merge-sided-requires
+merge-sided-requires c κs = search needs
 
 returns-2 : tie.Need-returns-2
 returns-2 c =
-    let entry = c .before .before .before .before .before in
-    let at-find-clash = c .before .before .before .before in
-    let at-enum-told = c .before .before in
+    let entry = c .before .before .before .before in
+    let at-find-clash = c .before .before .before in
+    let at-enum-told = c .before in
     let args = entry .args in
-    merged (sideOf (args .side)) (shapeFor (args .spec)) (shapeFor (args .t)) (at-find-clash .find-clash .ensures) (at-enum-told .enum-told .given .1)
-    (c .merge-from .ensures ∙ ap (mergeFrom (shapeFor (args .t))) (c .before .sided-shape .ensures))
+    merged (sideOf (args .side)) (shapeFor (args .spec)) (shapeFor (args .t)) (at-find-clash .find-clash .ensures) (at-enum-told .enum-told .given .1) (c .merge-sided .ensures)
 
 pub check-shapes-spec : {M : Type 1} → statement M
 check-shapes-spec =
@@ -51,6 +44,5 @@ check-shapes-spec =
     enum-told
     enum-told-2
     returns
-    sided-shape-requires
-    merge-from-requires
+    merge-sided-requires
     returns-2)

@@ -2,18 +2,21 @@
 -- whole table is right; and the table handed out.
 use Prim.Native.Nat.{ℕ, _+_, _*_, _<_, _≤_}
 use native.Mathlib.Omega.{arith}
+use mathlib.Core.Bool.{true}
 use mathlib.Core.List.{List, [], _∷_, _++_, append-assoc, append-nil}
 use mathlib.Core.Path.{_≡_, refl, sym, _∙_, ap}
 use lib.Dec.{eqb}
 use lib.ListN.{getD, length, length-append}
+use borrow.Author.Tests.{ne-eqb}
 use Rattle.model.specs.Types.{Scalar}
-use Rattle.format.specs.Records.{code}
+use Rattle.format.specs.Records.{code, boxCode}
 use Rattle.lent.specs.Over.{over, over-over}
 use Rattle.rules.specs.Order.{codeOf, kindPlace}
 use Rattle.rules.specs.Scalars.{supersetCodes, compatibleCodes, supersetOf, compatibleScalars, union}
-use Rattle.rules.specs.KindTable.{kindCount, pairCount, unionNumber, squares, inARow, kindTable}
+use Rattle.rules.specs.ScalarsLaws.{supersetCodes-refl}
+use Rattle.rules.specs.KindTable.{kindCount, pairCount, contentsDecide, unionNumber, squares, inARow, kindTable}
 use Rattle.kind_table.specs.Rows.{RowsLaid}
-use Rattle.rules.specs.KindTableLaws.{numberAt, WholeTable, whole-table, table-length, superset-entry, compatible-entry, yes-says}
+use Rattle.rules.specs.KindTableLaws.{numberAt, WholeTable, whole-table, unionCodes, union-by-codes, table-length, superset-entry, compatible-entry, yes-says}
 
 module _ (t : List (List (List ℕ))) (c d : ℕ) (same : t ≡ squares) where
   abbrev whole : WholeTable t
@@ -27,6 +30,22 @@ module _ (t : List (List (List ℕ))) (c d : ℕ) (same : t ≡ squares) where
 
   pub union-found : (k l : Scalar) → c ≡ codeOf k → d ≡ codeOf l → numberAt (getD t 2 []) c d ≡ unionNumber k l
   union-found k l h g = ap (λ n. numberAt (getD t 2 []) n d) h ∙ (ap (numberAt (getD t 2 []) (codeOf k)) g ∙ whole .union-number k l)
+
+-- ---- a kind beside itself, which needs no table
+
+module _ (c d : ℕ) (same : c ≡ d) where
+  pub superset-itself : true ≡ supersetCodes c d
+  superset-itself = sym (supersetCodes-refl c) ∙ ap (supersetCodes c) same
+
+  pub union-itself : (c ≡ boxCode → ⊥) → (k l : Scalar) → c ≡ codeOf k → d ≡ codeOf l → c ≡ unionNumber k l
+  union-itself apart k l h g =
+      let is : c ≡ unionCodes c c = rw (ne-eqb c boxCode apart, supersetCodes-refl c) in
+      is ∙ ap (unionCodes c) (same ∙ g) ∙ ap (λ n. unionCodes n (codeOf l)) h ∙ union-by-codes k l
+
+  pub boxes-themselves : c ≡ boxCode → (k l : Scalar) → c ≡ codeOf k → d ≡ codeOf l → contentsDecide ≡ unionNumber k l
+  boxes-themselves box k l h g =
+      let is : contentsDecide ≡ unionCodes c c = rw box in
+      is ∙ ap (unionCodes c) (same ∙ g) ∙ ap (λ n. unionCodes n (codeOf l)) h ∙ union-by-codes k l
 
 -- ---- the table handed out
 

@@ -1,8 +1,12 @@
 // Two kinds by their codes, looked up in the table of kinds (document 02, 2026-02), and the table handed out.
+// The table is a constant, which is made anew on the stack wherever a number is looked up in it. So the most frequent pairs, a kind beside
+// itself, are answered before.
 mod table;
 
 use lent::Written;
 use lent::lay;
+use limits::BOX;
+use limits::CONTENTS_DECIDE;
 use limits::KIND_COUNT;
 use limits::KIND_NUMBERS;
 use limits::KIND_PAIRS;
@@ -28,6 +32,10 @@ pub fn superset_codes(k: u64, l: u64) -> bool
     requires { ⌜ (k < kindCount) × (l < kindCount) ⌝ }
     ensures { λ r. ⌜ r ≡ supersetCodes k l ⌝ }
 {
+    // Each kind covers itself.
+    if k == l {
+        return true;
+    }
     let superset = KINDS[SUPERSET];
     superset[k as usize][l as usize] == 1
 }
@@ -46,6 +54,13 @@ pub fn union_code(k: u64, l: u64) -> u8
     requires { ⌜ (k < kindCount) × (l < kindCount) ⌝ }
     ensures { λ r. ⌜ ((x y : Scalar) → k ≡ codeOf x → l ≡ codeOf y → r ≡ unionNumber x y) ⌝ }
 {
+    // A kind with itself is that kind; of two boxes the contents decide.
+    if k == l {
+        if k == BOX {
+            return CONTENTS_DECIDE;
+        }
+        return k as u8;
+    }
     let union = KINDS[UNION];
     union[k as usize][l as usize]
 }

@@ -1,13 +1,13 @@
 -- Shapes: the counts of their records, and the sizes that stand behind them.
 use Prim.Native.Nat.{ℕ, suc, _+_, _*_, _-_, _≤_, _<_, _^_}
 use native.Mathlib.Omega.{arith}
-use mathlib.Core.Bool.{false}
+use mathlib.Core.Bool.{Bool, true, false}
 use mathlib.Core.List.{List, [], _∷_, _++_, map, append-assoc, append-nil}
 use mathlib.Core.Option.{Option, none, some}
 use mathlib.Core.Path.{_≡_, refl, sym, _∙_, ap}
 use lib.ListN.{length, getD, take, set, length-append}
 use lib.Dec.{eqb, lit<}
-use borrow.Author.Tests.{ne-eqb}
+use borrow.Author.Tests.{eq-eqb, ne-eqb}
 use Rattle.model.specs.Limits.{ones, maxSizes}
 use Rattle.model.specs.Types.{Dim, static, unknown, shape, Scalar, Ty, ty, shapeOf}
 use Rattle.model.specs.Within.{Each, DimWithin, DimsWithin}
@@ -22,7 +22,7 @@ use Rattle.record.specs.declared.Dims.{Dims}
 use Rattle.record.proofs.ByteLaws.{number-eight}
 use Rattle.record.proofs.ByValue.{one-more}
 use Rattle.rules.specs.Shapes.{isAny}
-use Rattle.known.specs.Known.{TypeAt, DimsAt, HasType, HasDims}
+use Rattle.known.specs.Known.{TypeAt, DimsAt, HasType, HasDims, openingOf, isClosed}
 
 -- ---- sizes, of which the first i stand in an array
 
@@ -108,10 +108,6 @@ module _ {s : List ℕ} {start count : ℕ} {ds : List Dim} {sizes : List ℕ} {
 
 -- ---- the record of a shape
 
-is-closed : (c : Option (List Dim)) → Each DimsWithin c → countOf c ≡ absent → c ≡ none
-is-closed none h e = refl
-is-closed (some c) h e = absurd (omega (arith, h .0))
-
 is-open : {C : Type 0} (c : Option (List Dim)) → (countOf c ≡ absent → ⊥) → ((ds : List Dim) → c ≡ some ds → C) → C
 is-open none e f = absurd (e refl)
 is-open (some c) e f = f c refl
@@ -182,19 +178,31 @@ module _ (s : List ℕ) (at d : ℕ) where
       let many : m ≡ length (listOf c) = e ∙ ap listCount (p .closing) ∙ listCount-ok maxSizes (lit< tt) c (p .second .records .0) in
       omega (arith, p .opening, p .long)
 
-  module _ (first : Dims) (dims : (ds : List Dim) → DimsAt s (at + 4) ds → length ds ≡ getD s (at + 2) 0 → dimsOf first ≡ ds) where
-    pub shape-closed : getD s (at + 3) 0 ≡ absent → (t : Ty) → TypeAt s at d t → shape (dimsOf first) none ≡ shapeOf t
-    shape-closed e (ty (shape o c) k) h =
-        let p = shape-there h in
-        rw (dims o (p .first) (sym (p .opening)), is-closed c (p .within) (sym (p .closing) ∙ e))
+  pub opening-is : (first : Dims) → ((ds : List Dim) → DimsAt s (at + 4) ds → length ds ≡ getD s (at + 2) 0 → dimsOf first ≡ ds) → (t : Ty) → TypeAt s at d t → dimsOf first ≡ openingOf (shapeOf t)
+  opening-is first dims (ty (shape o c) k) h = let p = shape-there h in dims o (p .first) (sym (p .opening))
 
-    module _ (second : Dims) (suffix : (ds : List Dim) → DimsAt s (at + 4 + 8 * getD s (at + 2) 0) ds → length ds ≡ getD s (at + 3) 0 → dimsOf second ≡ ds) where
-      pub shape-opened : (getD s (at + 3) 0 ≡ absent → ⊥) → (t : Ty) → TypeAt s at d t → shape (dimsOf first) (some (dimsOf second)) ≡ shapeOf t
-      shape-opened e (ty (shape o c) k) h =
+  pub closed-by-count : (t : Ty) → TypeAt s at d t → eqb (getD s (at + 3) 0) absent ≡ isClosed (shapeOf t)
+  closed-by-count (ty (shape o none) k) h = rw (shape-there h .closing)
+  closed-by-count (ty (shape o (some c)) k) h = let p = shape-there h in rw (p .closing) (ne-eqb (length c) absent (λ e. omega (arith, p .within .0)))
+
+  -- ---- a shape that is not closed
+
+  module _ {closed : Bool} (says : (d : ℕ) (t : Ty) → TypeAt s at d t → closed ≡ isClosed (shapeOf t)) (left : closed ≡ false) where
+    pub counted-open : HasType s at d → getD s (at + 3) 0 ≡ absent → ⊥
+    counted-open h e =
+        let no : isClosed (shapeOf (h .type)) ≡ false = sym (says d (h .type) (h .there)) ∙ left in
+        let yes : true ≡ isClosed (shapeOf (h .type)) = sym (eq-eqb _ _ e) ∙ closed-by-count (h .type) (h .there) in
+        let z : _≡_ {A = ℕ} 0 1 = cc in
+        absurd (omega arith)
+
+    module _ (first second : Dims) (opening : (d : ℕ) (t : Ty) → TypeAt s at d t → dimsOf first ≡ openingOf (shapeOf t))
+        (suffix : (ds : List Dim) → DimsAt s (at + 4 + 8 * getD s (at + 2) 0) ds → length ds ≡ getD s (at + 3) 0 → dimsOf second ≡ ds) where
+      pub shape-opened : (t : Ty) → TypeAt s at d t → shape (dimsOf first) (some (dimsOf second)) ≡ shapeOf t
+      shape-opened (ty (shape o none) k) h = let no = says d _ h in cc
+      shape-opened (ty (shape o (some c)) k) h =
           let p = shape-there h in
-          is-open c (λ f. e (p .closing ∙ f)) λ ds f.
-          let there : DimsAt s (at + 4 + 8 * getD s (at + 2) 0) ds = rw (p .opening) (rw f at (p .second)) in
-          rw (dims o (p .first) (sym (p .opening)), suffix ds there (sym (p .closing ∙ rw f)), f)
+          let there : DimsAt s (at + 4 + 8 * getD s (at + 2) 0) c = rw (p .opening) (p .second) in
+          rw (opening d _ h, suffix c there (sym (p .closing)))
 
   -- ---- whether it is [..]
 

@@ -7,7 +7,7 @@ use mathlib.Core.Option.{Option, none, some}
 use mathlib.Core.Path.{_≡_}
 use lib.ListN.{length, take, drop}
 use Rattle.model.specs.Limits.{maxFields, maxTypes}
-use Rattle.model.specs.Types.{Dim, Shape, Kind, Scalar, plain, boxAny, boxAll, boxDef, Fields, Ty, ty, fieldCount, types, inside, among, depth, below, deepest}
+use Rattle.model.specs.Types.{Dim, Shape, shape, Kind, Scalar, plain, boxAny, boxAll, boxDef, Fields, Ty, ty, fieldCount, types, inside, among, depth, below, deepest}
 use Rattle.model.specs.Within.{Each, DimsWithin, NameWithin, ScalarWithin, FieldsWithin, RecordsWithin}
 use Rattle.format.specs.Records.{code, boxCode, boxStart, countOf, listOf, writeDims, writeScalar, writeFields, writeTy}
 use Rattle.format.specs.Views.{Stands}
@@ -83,6 +83,14 @@ pub record HasFields (s : List ℕ) (at d count : ℕ) : Type 0 where
   pub counted : fieldCount fields ≡ count
 
 -- ---- what is said of them
+
+-- of a shape: its opening sizes, and whether it is closed
+abbrev pub openingOf : Shape → List Dim
+openingOf (shape o c) = o
+
+abbrev pub isClosed : Shape → Bool
+isClosed (shape o none) = true
+isClosed (shape o (some c)) = false
 
 -- of a type: how many types it is, how deep, and the place after it
 pub record SpanIs (at : ℕ) (t : Ty) (r : Span) : Type 0 where

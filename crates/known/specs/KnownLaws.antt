@@ -1,12 +1,12 @@
 -- What stands within what stands at a place, and what the bytes say that are looked at.
 use Prim.Native.Nat.{ℕ, _+_, _-_, _≤_, _<_}
 use native.Mathlib.Omega.{arith}
-use mathlib.Core.Bool.{true, false}
+use mathlib.Core.Bool.{Bool, true, false}
 use mathlib.Core.List.{List, [], _∷_, _++_}
 use mathlib.Core.Option.{Option, none, some}
 use mathlib.Core.Path.{_≡_, refl, sym, _∙_, ap, subst}
 use lib.ListN.{length, getD, take, drop, length-append}
-use Rattle.model.specs.Types.{Shape, Scalar, boxAny, boxAll, boxDef, Fields, field, Ty, ty, shapeOf, scalarOf, fieldCount, inside, among, below, deepest}
+use Rattle.model.specs.Types.{Dim, Shape, shape, Scalar, boxAny, boxAll, boxDef, Fields, field, Ty, ty, shapeOf, scalarOf, fieldCount, inside, among, below, deepest}
 use Rattle.model.specs.Within.{Each, NameWithin}
 use Rattle.format.specs.Reader.{got}
 use Rattle.format.specs.ReaderLaws.{reads-here}
@@ -15,7 +15,7 @@ use Rattle.format.specs.WriteRead.{reads-shape}
 use Rattle.format.specs.Views.{Stands, stands-first, stands-second, stands-byte, stands-within, stands-part}
 use Rattle.rules.specs.Order.{codeOf}
 use Rattle.rules.specs.Views.{formOf, type-least, scalar-least, kind-within, kind-byte, form-within, form-byte, is-plain, is-box-any, is-box-all, is-box-def, is-box-def-else}
-use Rattle.known.specs.Known.{TypeAt, ScalarAt, NameAt, FieldsAt, HasType, HasScalar, HasName, isNamed, NameIs, SeenPlain, SeenAny, SeenAll, SeenDef}
+use Rattle.known.specs.Known.{TypeAt, ScalarAt, NameAt, FieldsAt, HasType, HasScalar, HasName, openingOf, isClosed, isNamed, NameIs, SeenPlain, SeenAny, SeenAll, SeenDef}
 use Rattle.known.specs.declared.Name.{Name}
 
 -- ---- what stands within it
@@ -117,6 +117,19 @@ module _ (s : List ℕ) (at d : ℕ) where
     where
       go : (t : Ty) → TypeAt s at d t → 0 < d
       go (ty o k) h = omega (arith, h .shallow)
+
+-- ---- the shape of a type, by its opening sizes and whether it is closed
+
+is-closed-shape : (o : Shape) {sizes : List Dim} → sizes ≡ openingOf o → isClosed o ≡ true → o ≡ shape sizes none
+is-closed-shape (shape o none) e closed = rw e
+is-closed-shape (shape o (some c)) e closed = cc
+
+module _ {s : List ℕ} {at : ℕ} {sizes : List Dim} {closed : Bool}
+    (opening : (d : ℕ) (t : Ty) → TypeAt s at d t → sizes ≡ openingOf (shapeOf t))
+    (says : (d : ℕ) (t : Ty) → TypeAt s at d t → closed ≡ isClosed (shapeOf t))
+    (d : ℕ) (t : Ty) (h : TypeAt s at d t) where
+  pub closed-shape : closed ≡ true → shapeOf t ≡ shape sizes none
+  closed-shape e = is-closed-shape (shapeOf t) (opening d t h) (sym (says d t h) ∙ e)
 
 -- ---- the scalar of a type, which begins at `place`
 

@@ -12,6 +12,8 @@ pub use scalars::kind_at;
 pub use scalars::look;
 pub use scalars::put_kind;
 pub use shapes::any_shape_at;
+pub use shapes::closed_at;
+pub use shapes::opening_at;
 pub use shapes::scalar_at;
 pub use shapes::shape_at;
 pub use spans::field_at;

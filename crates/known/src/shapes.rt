@@ -14,7 +14,7 @@ ghost use Rattle.model.specs.Types.{Dim, Ty, shapeOf};
 ghost use Rattle.format.specs.Records.{writeShape};
 ghost use Rattle.record.specs.Answers.{dimsOf, shapeFor};
 ghost use Rattle.rules.specs.Shapes.{isAny};
-ghost use Rattle.known.specs.Known.{TypeAt, DimsAt, HasType, HasDims};
+ghost use Rattle.known.specs.Known.{TypeAt, DimsAt, HasType, HasDims, openingOf, isClosed};
 
 // So many sizes from a place on.
 fn dims_at(s: &[u8], start: usize, count: usize) -> Dims
@@ -34,22 +34,36 @@ fn dims_at(s: &[u8], start: usize, count: usize) -> Dims
     Dims { sizes, count }
 }
 
+// The opening sizes of a type.
+pub fn opening_at(s: &[u8], at: usize) -> Dims
+    requires { ⌜ ((d : ℕ) × HasType (now s) at d) ⌝ }
+    ensures { λ r. ⌜ ((d : ℕ) (t : Ty) → TypeAt (now (s .entry)) at d t → dimsOf r ≡ openingOf (shapeOf t)) ⌝ }
+{
+    dims_at(s, at + 4, s[at + 2] as usize)
+}
+
+// Whether the shape of a type is closed, by the count of its closing sizes.
+pub fn closed_at(s: &[u8], at: usize) -> bool
+    requires { ⌜ ((d : ℕ) × HasType (now s) at d) ⌝ }
+    ensures { λ r. ⌜ ((d : ℕ) (t : Ty) → TypeAt (now (s .entry)) at d t → r ≡ isClosed (shapeOf t)) ⌝ }
+{
+    s[at + 3] as u64 == ABSENT
+}
+
 // The shape of a type.
 pub fn shape_at(s: &[u8], at: usize) -> DynShape
     requires { ⌜ ((d : ℕ) × HasType (now s) at d) ⌝ }
     ensures { λ r. ⌜ ((d : ℕ) (t : Ty) → TypeAt (now (s .entry)) at d t → shapeFor r ≡ shapeOf t) ⌝ }
 {
-    let opening = s[at + 2] as usize;
-    let closing = s[at + 3] as u64;
-    let dims = dims_at(s, at + 4, opening);
-    if closing == ABSENT {
+    let dims = opening_at(s, at);
+    if closed_at(s, at) {
         return DynShape {
             dims,
             suffix: no_dims(),
             closed: true,
         };
     }
-    let suffix = dims_at(s, at + 4 + 8 * opening, closing as usize);
+    let suffix = dims_at(s, at + 4 + 8 * s[at + 2] as usize, s[at + 3] as usize);
     DynShape {
         dims,
         suffix,

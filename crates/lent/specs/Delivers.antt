@@ -1,13 +1,16 @@
 -- What `deliver` comes to, for each way out of a call.
 use Prim.Native.Nat.{ℕ, _≤_, _<_}
+use native.Mathlib.Omega.{arith}
 use mathlib.Core.List.{List}
+use mathlib.Core.Logic.{_⊎_, ⊎-elim}
 use mathlib.Core.Path.{_≡_, sym, _∙_, ap}
 use lib.ListN.{length}
 use borrow.Author.Tests.{le-leb, lt-leb}
+use Rattle.model.specs.Limits.{maxBytes}
 use Rattle.model.specs.Refusals.{tooShort}
 use Rattle.format.specs.Outcome.{Outcome, accepted, refused, Delivery, delivery, deliver}
 use Rattle.lent.specs.Over.{over, over-front}
-use Rattle.lent.specs.Written.{writtenOf, delivered}
+use Rattle.lent.specs.Written.{writtenOf, delivered, Puts, Short}
 use Rattle.lent.specs.declared.Written.{Written}
 
 module _ (buffer : List ℕ) where
@@ -35,3 +38,7 @@ module _ (buffer : List ℕ) where
     -- a count and a buffer that are those of the bytes written
     pub deliver-wrote : {n : ℕ} {after : List ℕ} → length w ≤ length buffer → n ≡ length w → after ≡ over buffer 0 w → delivery (accepted n) after ≡ deliver o buffer
     deliver-wrote {n} {after} h same laid = ap (λ k. delivery (accepted k) after) same ∙ ap (delivery (accepted (length w))) laid ∙ sym (deliver-whole h)
+
+-- where any type has room, the buffer is not found too short
+pub roomy-puts : (w : Written) (out : List ℕ) (o : Outcome (List ℕ)) → maxBytes ≤ length out → Puts w out o ⊎ Short w out → Puts w out o
+roomy-puts w out o room answers = ⊎-elim (λ puts. puts) (λ short. absurd (omega (arith, short .1))) answers

@@ -6,10 +6,10 @@ use mathlib.Core.Bool.{Bool, true, false, not, _&&_, _||_, cond, and-true}
 use mathlib.Core.List.{List, map, [], _∷_}
 use mathlib.Core.Option.{Option, none, some, Option·map}
 use mathlib.Core.Path.{_≡_, sym, _∙_, ap, refl}
-use lib.ListN.{length, take, drop, set, getElem?, length-map}
+use lib.ListN.{length, take, drop, getD, set, getElem?, length-map}
 use lib.Seq.{length-take-le}
-use lib.Dec.{eqb}
-use borrow.Author.Tests.{eqb-true, ne-eqb}
+use lib.Dec.{eqb, ltb}
+use borrow.Author.Tests.{eqb-true, ne-eqb, ltb-true, ltb-false}
 use Rattle.model.specs.Limits.{ones}
 use Rattle.model.specs.Types.{Dim, static, unknown, Shape, shape}
 use Rattle.format.specs.Records.{dimOf}
@@ -21,6 +21,7 @@ use Rattle.rules.specs.Pervade.{againstAbsent, byOrder, together, IndexRule, pe
 use Rattle.rules.specs.PervadeInSheets.{otherThanOne, unsettled, mayGrow, inSheetsAt, pervadeInSheets}
 use Rattle.rules.specs.PervadeSteps.{walk-step, walk-end, after, after-start, after-more, after-stop, after-end}
 use Rattle.rules.specs.Sizes.{Order, cmpDim}
+use Rattle.rules.specs.Lists.{getElem?-out}
 use Rattle.record.proofs.ByValue.{one-more}
 use Rattle.shape.specs.Answers.{pervadeAs, anyGrows, ruleFor, sizesBeside, shapeBeside}
 use Rattle.shape.specs.declared.Pervading.{Pervading}
@@ -29,6 +30,7 @@ use Rattle.shape.specs.declared.Filling.{Filling}
 use Rattle.shape.specs.declared.Pervasion.{Pervasion}
 use Rattle.shape.specs.declared.Pervasion.the-variants.{Pervaded as Pervades, Stopped}
 use Rattle.shape.proofs.SizeLaws.{one-number}
+use Rattle.shape.proofs.DimsLaws.{slot-there}
 
 -- ---- two sizes
 
@@ -114,6 +116,23 @@ module _ (t : Filling) (x y : Option Dim) where
     pub index-stays : {c : Option Dim} → v ≡ false → c ≡ pervadeAt (t .«a_fill») (t .«b_fill») x y → c ≡ ruleFor t x y
     unfolding inSheetsAt
     index-stays k e = rw (h, ← either, k) e
+
+-- ---- what stands at an index, as the walk looks at it
+
+spot-at : (d : Dims) (i : ℕ) {n : ℕ} {r : Option Dim} → n ≡ length (dimsOf d) → r ≡ cond (ltb i n) (some (dimOf (getD (d .sizes) i 0))) none → r ≡ getElem? (dimsOf d) i
+spot-at d i {n} e w = go (ltb i n) refl w
+  where
+    go : {r : Option Dim} (t : Bool) → ltb i n ≡ t → r ≡ cond t (some (dimOf (getD (d .sizes) i 0))) none → r ≡ getElem? (dimsOf d) i
+    go true h w = let k = ltb-true i n h in w ∙ sym (slot-there d i (omega arith))
+    go false h w = let k = ltb-false i n h in w ∙ sym (getElem?-out (dimsOf d) i (omega arith))
+
+module _ (rule : IndexRule) (a b : Dims) (i : ℕ) {m n : ℕ} (e : m ≡ length (dimsOf a)) (f : n ≡ length (dimsOf b)) where
+  pub looked-at : {x y r : Option Dim}
+      → x ≡ cond (ltb i m) (some (dimOf (getD (a .sizes) i 0))) none
+      → y ≡ cond (ltb i n) (some (dimOf (getD (b .sizes) i 0))) none
+      → r ≡ rule x y
+      → r ≡ rule (getElem? (dimsOf a) i) (getElem? (dimsOf b) i)
+  looked-at h k w = w ∙ rw (spot-at a i e h, spot-at b i f k)
 
 -- ---- the walk over the indices
 
@@ -206,12 +225,26 @@ open-not s = go (s .closed)
     go false = refl
 
 -- The pervading that is asked for, by whether any size may grow: where no side is filled the two are one.
-pub pervaded-as : (f g : Bool) (s t : DynShape) (v : Pervading) {grows : Bool} → grows ≡ anyGrows v f g
-    → closedBy (pervadeClosing (closingFor s) (closingFor t))
-    (walk (λ x y. cond grows (inSheetsAt f g (not (s .closed)) (not (t .closed)) x y) (pervadeAt f g x y)) (dimsOf (s .dims)) (dimsOf (t .dims)))
-    ≡ pervadeAs v f g (shapeFor s) (shapeFor t)
-unfolding inSheetsAt pervadeInSheets pervade
-pervaded-as f g s t Separate e = rw e
-pervaded-as true g s t InSheets e = rw (e, open-not s, open-not t)
-pervaded-as false true s t InSheets e = rw (e, open-not s, open-not t)
-pervaded-as false false s t InSheets e = rw e
+module _ (f g : Bool) (v : Pervading) {grows : Bool} (e : grows ≡ anyGrows v f g) where
+  pervaded-by : (o p : List Dim) (c d : Option (List Dim))
+      → closedBy (pervadeClosing c d) (walk (λ x y. cond grows (inSheetsAt f g (isOpen c) (isOpen d) x y) (pervadeAt f g x y)) o p) ≡ pervadeAs v f g (shape o c) (shape p d)
+  unfolding inSheetsAt pervadeInSheets pervade
+  pervaded-by o p c d = rw e (go f g v)
+    where
+      go : (f g : Bool) (v : Pervading)
+          → closedBy (pervadeClosing c d) (walk (λ x y. cond (anyGrows v f g) (inSheetsAt f g (isOpen c) (isOpen d) x y) (pervadeAt f g x y)) o p) ≡ pervadeAs v f g (shape o c) (shape p d)
+      go f g Separate = refl
+      go true g InSheets = refl
+      go false true InSheets = refl
+      go false false InSheets = refl
+
+  pub pervaded-as : (s t : DynShape)
+      → closedBy (pervadeClosing (closingFor s) (closingFor t))
+      (walk (λ x y. cond grows (inSheetsAt f g (not (s .closed)) (not (t .closed)) x y) (pervadeAt f g x y)) (dimsOf (s .dims)) (dimsOf (t .dims)))
+      ≡ pervadeAs v f g (shapeFor s) (shapeFor t)
+  pervaded-as s t = rw (← open-not s, ← open-not t) (pervaded-by (dimsOf (s .dims)) (dimsOf (t .dims)) (closingFor s) (closingFor t))
+
+  pub pervaded-closed : (a b : Dims)
+      → closedBy none (walk (λ x y. cond grows (inSheetsAt f g false false x y) (pervadeAt f g x y)) (dimsOf a) (dimsOf b)) ≡ pervadeAs v f g (shape (dimsOf a) none) (shape (dimsOf b) none)
+  unfolding pervadeClosing
+  pervaded-closed a b = pervaded-by (dimsOf a) (dimsOf b) none none

@@ -2,7 +2,7 @@
 use mathlib.Core.Bool.{Bool, false, _||_, cond}
 use mathlib.Core.List.{List}
 use mathlib.Core.Option.{Option, none, some}
-use Rattle.model.specs.Types.{Dim, Shape}
+use Rattle.model.specs.Types.{Dim, Shape, shape}
 use Rattle.format.specs.Records.{dimOf}
 use Rattle.rules.specs.Sizes as rules
 use Rattle.rules.specs.Shapes as shapes
@@ -67,6 +67,10 @@ dimsPervadedOf r = sizesBeside (r .answer) (dimsOf (r .dims))
 abbrev pub shapeBeside : Pervasion → Shape → Option Shape
 shapeBeside Pervades s = some s
 shapeBeside (Stopped i) s = none
+
+-- The sizes of a closed shape.
+abbrev pub closedPervadedOf : DimsPervaded → Option Shape
+closedPervadedOf r = shapeBeside (r .answer) (shape (dimsOf (r .dims)) none)
 
 abbrev pub shapePervadedOf : ShapePervaded → Option Shape
 shapePervadedOf r = shapeBeside (r .answer) (shapeFor (r .shape))

@@ -4,6 +4,10 @@ mod pervade;
 mod shapes;
 mod sizes;
 
+pub use dims::join_dims;
+pub use dims::merge_dims;
+pub use dims::rest_dims;
+pub use pervade::pervade_closed;
 pub use pervade::pervade_dyn_shapes;
 use record::Dims;
 use record::DynShape;
@@ -72,7 +76,7 @@ pub enum Pervasion {
     Stopped(usize),
 }
 
-struct DimsPervaded {
+pub struct DimsPervaded {
     pub dims: Dims,
     pub answer: Pervasion,
 }

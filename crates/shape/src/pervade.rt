@@ -7,7 +7,6 @@ use crate::Pervading;
 use crate::Pervasion;
 use crate::ShapePervaded;
 use crate::Spot;
-use crate::dims::get;
 use crate::dims::longer;
 use crate::shapes::of_parts;
 use crate::sizes::cmp;
@@ -17,17 +16,16 @@ use record::Dims;
 use record::DynShape;
 use record::no_dims;
 use writer::size_count;
-ghost use mathlib.Core.Bool.{_||_};
+ghost use mathlib.Core.Bool.{_||_, cond};
 ghost use mathlib.Core.Path.{_≡_};
-ghost use mathlib.Core.Option.{Option·map};
-ghost use lib.ListN.{getElem?};
+ghost use mathlib.Core.Option.{none, some, Option·map};
 ghost use Rattle.model.specs.Types.{shape};
 ghost use Rattle.format.specs.Records.{dimOf};
 ghost use Rattle.record.specs.Answers.{dimsOf, closingFor, shapeFor};
 ghost use Rattle.rules.specs.Pervade.{filled, againstAbsent, together, pervadeAt, walk, pervadeClosing};
 ghost use Rattle.rules.specs.PervadeInSheets as rules;
 ghost use Rattle.rules.specs.PervadeInSheets.{otherThanOne, mayGrow};
-ghost use Rattle.shape.specs.Answers.{pervadeAs, anyGrows, spotOf, meetingOf, ruleFor, dimsPervadedOf, shapePervadedOf};
+ghost use Rattle.shape.specs.Answers.{pervadeAs, anyGrows, spotOf, meetingOf, ruleFor, dimsPervadedOf, closedPervadedOf, shapePervadedOf};
 
 // Asked for the separate call's pervading it is the Rust's function of this name; both take the one walk.
 pub fn pervade_dyn_shapes(
@@ -53,6 +51,26 @@ pub fn pervade_dyn_shapes(
     let dims = walk.dims;
     let shape = pervade_closing(dims, a, b);
     ShapePervaded { shape, answer }
+}
+
+// The opening sizes of two closed shapes: nothing else is to be pervaded of them, so no closing list is carried about.
+pub fn pervade_closed(
+    a: Dims,
+    b: Dims,
+    a_fill: bool,
+    b_fill: bool,
+    pervading: Pervading,
+) -> DimsPervaded
+    ensures { λ r. ⌜ closedPervadedOf r ≡ pervadeAs pervading «a_fill» «b_fill» (shape (dimsOf a) none) (shape (dimsOf b) none) ⌝ }
+{
+    let filling = Filling {
+        a_fill,
+        b_fill,
+        a_open: false,
+        b_open: false,
+        grows: any_grows(pervading, a_fill, b_fill),
+    };
+    pervade_dims(a, b, filling)
 }
 
 // Whether any size may grow: in sheets, where a side is filled.
@@ -86,10 +104,12 @@ fn pervade_closing(dims: Dims, a: DynShape, b: DynShape) -> DynShape
     of_parts(dims, no_dims(), false)
 }
 
-// The walk stops at the first index that refuses.
+// The walk stops at the first index that refuses. It looks at the sizes itself: a callee that takes a list is given a copy of it.
 fn pervade_dims(a: Dims, b: Dims, filling: Filling) -> DimsPervaded
     ensures { λ r. ⌜ dimsPervadedOf r ≡ walk (ruleFor filling) (dimsOf a) (dimsOf b) ⌝ }
 {
+    let m = size_count(a);
+    let n = size_count(b);
     let count = longer(a, b);
     let mut sizes = [0u64; MAX_SIZES];
     let mut i = 0;
@@ -97,7 +117,9 @@ fn pervade_dims(a: Dims, b: Dims, filling: Filling) -> DimsPervaded
         if i == count {
             break i;
         }
-        match pervade_at(a, b, i, filling) {
+        let x = spot(i < m, a.sizes[i]);
+        let y = spot(i < n, b.sizes[i]);
+        match pervade_spots(x, y, filling) {
             Meeting::Gives(size) => {
                 sizes[i] = size;
             }
@@ -119,12 +141,20 @@ fn pervade_dims(a: Dims, b: Dims, filling: Filling) -> DimsPervaded
     }
 }
 
-// Unknown where a size may grow, else as in the separate call.
-fn pervade_at(a: Dims, b: Dims, i: usize, filling: Filling) -> Meeting
-    ensures { λ r. ⌜ meetingOf r ≡ ruleFor filling (getElem? (dimsOf a) i) (getElem? (dimsOf b) i) ⌝ }
+// What stands at an index whose place holds this size: the places past a list's count hold none of its sizes.
+fn spot(there: bool, size: u64) -> Spot
+    ensures { λ r. ⌜ spotOf r ≡ cond «there» (some (dimOf size)) none ⌝ }
 {
-    let x = get(a, i);
-    let y = get(b, i);
+    if there {
+        return Spot::Size(size);
+    }
+    Spot::Absent
+}
+
+// Unknown where a size may grow, else as in the separate call.
+fn pervade_spots(x: Spot, y: Spot, filling: Filling) -> Meeting
+    ensures { λ r. ⌜ meetingOf r ≡ ruleFor filling (spotOf x) (spotOf y) ⌝ }
+{
     if filling.grows && either_grows(x, y, filling) {
         return Meeting::Gives(UNKNOWN);
     }

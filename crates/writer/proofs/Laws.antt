@@ -5,7 +5,7 @@ use native.Mathlib.Numerals.{add-one, unary-clauses}
 use mathlib.Core.List.{List, [], _∷_, _++_, map, append-assoc, append-nil}
 use mathlib.Core.Path.{_≡_, refl, sym, _∙_, ap}
 use lib.ListN.{length, getD, set, take, length-map, length-take, List·getD-map}
-use lib.Seq.{sets, sets-eq, take-suc, take-length, getD-take, length-take-le, paste-zero}
+use lib.Seq.{sets, sets-eq, take-suc, take-all, getD-take, length-take-le, paste-zero}
 use Rattle.format.specs.Suffices.{length-writeDims}
 use Rattle.model.specs.Types.{Dim}
 use Rattle.format.specs.Reader.{bytesOf}
@@ -51,16 +51,20 @@ module _ (out : List ℕ) (start : ℕ) (sizes : List ℕ) (count : ℕ) where
   pub lay-none : Laid out 0
   lay-none = paste-zero out start []
 
-  pub lay-more : (now : List ℕ) (i at : ℕ) → i < length dims → start + 8 * length dims ≤ length out → at ≡ start + 8 * i → Laid now i → Laid (over now at (bytesOf 8 (getD sizes i 0))) (i + 1)
-  lay-more now i at h fits e laid =
+  pub lay-more : {now : List ℕ} {i : ℕ} → i < length dims → start + 8 * length dims ≤ length out → Laid now i → Laid (over now (start + 8 * i) (bytesOf 8 (getD sizes i 0))) (i + 1)
+  lay-more {now} {i} h fits laid =
       let w : List ℕ = writeDims (take i dims) in
       let b : List ℕ = bytesOf 8 (getD sizes i 0) in
       let l : length w ≡ 8 * i = length-some i (omega arith) in
-      let k : at ≡ start + length w = omega arith in
-      ap (λ x. over x at b) laid
-      ∙ ap (λ j. over (over out start w) j b) k
+      ap (λ x. over x (start + 8 * i) b) laid
+      ∙ ap (λ n. over (over out start w) (start + n) b) (sym l)
       ∙ over-over out start w (omega arith) b
       ∙ ap (over out start) (sym (dims-more i h))
 
-  pub lay-all : (now : List ℕ) (i : ℕ) → i ≡ length dims → Laid now i → now ≡ over out start (writeDims dims)
-  lay-all now i e laid = laid ∙ ap (λ ds. over out start (writeDims ds)) (ap (λ n. take n dims) e ∙ take-length dims)
+  -- past the last of them nothing more is written
+  module _ (i : ℕ) {now : List ℕ} (past : length dims ≤ i) (laid : Laid now i) where
+    pub lay-all : now ≡ over out start (writeDims dims)
+    lay-all = laid ∙ ap (λ ds. over out start (writeDims ds)) (take-all i dims past)
+
+    pub lay-past : Laid now (i + 1)
+    lay-past = lay-all ∙ sym (ap (λ ds. over out start (writeDims ds)) (take-all (i + 1) dims (omega arith)))

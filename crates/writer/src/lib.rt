@@ -30,7 +30,7 @@ ghost use Rattle.format.specs.Outcome.{accepted, deliver, mapped, lone, shapeRe
 ghost use Rattle.lent.specs.Over.{over};
 ghost use Rattle.lent.specs.Written.{delivered};
 ghost use Rattle.record.specs.Answers.{dimsOf, closingFor, shapeFor};
-ghost use Rattle.writer.specs.Kinds.{kindRecord};
+ghost use Rattle.writer.specs.Kinds.{kindRecord, closedRecord};
 
 // Eight bytes, low byte first.
 pub fn put_number(out: &mut [u8], at: usize, n: u64)
@@ -75,6 +75,23 @@ fn put_dims(out: &mut [u8], start: usize, d: Dims) -> usize
         i += 1;
     }
     at
+}
+
+// The same over all eight places, so that the compiler unrolls the loop: a list that was just made then goes from registers to the bytes, and
+// need not stand in memory. For one that comes within a shape, and stands there, the longer code is slower.
+fn put_places(out: &mut [u8], start: usize, d: Dims) -> usize
+    requires { ⌜ start + 8 * length (dimsOf d) ≤ length (now out) ⌝ }
+    ensures { λ r. ⌜ (r ≡ start + 8 * length (dimsOf d)) × (now (out .exit) ≡ over (now (out .entry)) start (writeDims (dimsOf d))) ⌝ }
+{
+    let n = size_count(d);
+    let mut i = 0;
+    while i < MAX_SIZES {
+        if i < n {
+            put_number(&mut *out, start + 8 * i, d.sizes[i]);
+        }
+        i += 1;
+    }
+    start + 8 * n
 }
 
 // The count byte of a shape's closing sizes.
@@ -142,6 +159,16 @@ pub fn put_plain(out: &mut [u8], at: usize, kind: u8) -> usize
     at + PLAIN_BYTES
 }
 
+// A type whose shape is closed and whose scalar is plain, from `at` on. Answers the place after it.
+pub fn put_closed(out: &mut [u8], at: usize, dims: Dims, kind: u8) -> usize
+    requires { ⌜ at + length (closedRecord (dimsOf dims) kind) ≤ length (now out) ⌝ }
+    ensures { λ r. ⌜ (r ≡ at + length (closedRecord (dimsOf dims) kind)) × (now (out .exit) ≡ over (now (out .entry)) at (closedRecord (dimsOf dims) kind)) ⌝ }
+{
+    put_head(&mut *out, at, size_count(dims) as u8, ABSENT as u8);
+    let next = put_places(&mut *out, at + 4, dims);
+    put_plain(&mut *out, next, kind)
+}
+
 // A box's record up to its form, from `at` on. Answers the place after it.
 pub fn put_box(out: &mut [u8], at: usize, form: u64) -> usize
     requires { ⌜ (at + length (boxStart form) ≤ length (now out)) × (form < 256) ⌝ }
@@ -197,6 +224,19 @@ pub fn write_plain(shape: DynShape, kind: u8, result: &mut [u8]) -> Written
     }
     put_shape(&mut *result, 0, shape);
     Written::Wrote(put_plain(&mut *result, n, kind))
+}
+
+// A type whose shape is closed and whose scalar is plain, to the front of the result: it is written at once, and no closing list is made for it.
+pub fn write_closed(dims: Dims, kind: u8, result: &mut [u8]) -> Written
+    ensures { λ r. ⌜ delivered r (now (result .exit)) ≡ deliver (accepted (closedRecord (dimsOf dims) kind)) (now (result .entry)) ⌝ }
+{
+    if result.len() < 4 + 8 * size_count(dims) + PLAIN_BYTES {
+        return Written::Refused {
+            number: TOO_SHORT,
+            place: 0,
+        };
+    }
+    Written::Wrote(put_closed(&mut *result, 0, dims, kind))
 }
 
 // The record of a type's shape.

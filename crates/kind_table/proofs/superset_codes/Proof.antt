@@ -3,12 +3,13 @@ use Rattle.format.specs.Records.{code}
 use Rattle.rules.specs.Order.{codeOf, kindPlace}
 use Rattle.rules.specs.Scalars.{supersetCodes, compatibleCodes, supersetOf, compatibleScalars, union}
 use Rattle.rules.specs.KindTable.{squares}
-use Rattle.kind_table.proofs.TableLaws.{superset-found}
+use Rattle.kind_table.proofs.TableLaws.{superset-itself, superset-found}
 use borrow.Author.Needs.{needs}
 use Rattle.kind_table.proofs.superset_codes.Statement.{statement}
 use Rattle.kind_table.proofs.superset_codes.Tie as tie
-use Rattle.kind_table.proofs.superset_codes.Reads as reads
-use Rattle.kind_table.proofs.superset_codes.Lts as lts
+
+returns : tie.Need-returns
+returns c = superset-itself _ _ (c .if1 .taken)
 
 array-copy-out-superset : tie.Need-array-copy-out-superset
 array-copy-out-superset c = search needs
@@ -22,10 +23,13 @@ index-1-result c = search needs
 index-2-result : tie.Need-index-2-result
 index-2-result c = search needs
 
-returns : tie.Need-returns
+returns-2 : tie.Need-returns-2
 unfolding squares code codeOf kindPlace supersetCodes compatibleCodes supersetOf compatibleScalars union
-returns c = superset-found _ _ _ refl (c .before .before .pre .0) (c .before .before .pre .1)
+returns-2 c =
+    let entry = c .before .before .before in
+    superset-found _ _ _ refl (entry .pre .0) (entry .pre .1)
 
 pub superset-codes-spec : {M : Type 1} → statement M
 superset-codes-spec =
-    tie.close (tie.spec array-copy-out-superset mul-result index-1-result index-2-result returns)
+    tie.close
+    (tie.spec returns array-copy-out-superset mul-result index-1-result index-2-result returns-2)

@@ -1,16 +1,14 @@
-use mathlib.Core.Path.{_≡_, _∙_}
+use mathlib.Core.Path.{_≡_, _∙_, ap}
 use Prim.Native.Nat.{_+_, _*_, _-_, _≤_, _<_}
 use native.Mathlib.Omega.{arith}
 use borrow.Author.Needs.{needs}
-use lib.ListN.{length}
+use lib.ListN.{length, getD}
+use Rattle.format.specs.Reader.{bytesOf}
+use Rattle.lent.specs.Over.{over}
 use Rattle.record.specs.Answers.{dimsOf}
 use Rattle.writer.proofs.Laws.{Laid, lay-none, lay-more, lay-all}
 use Rattle.writer.proofs.put_dims.Statement.{statement}
 use Rattle.writer.proofs.put_dims.Tie as tie
-use Rattle.writer.proofs.put_dims.Reads as reads
-use Rattle.writer.proofs.put_dims.Lts as lts
-use Rattle.writer.proofs.put_number.Reads as put-number-reads
-use Rattle.writer.proofs.size_count.Reads as size-count-reads
 
 abbrev Inv-loop : tie.InvT-loop
 Inv-loop out₀ start d n at₀ i₀ out at i = (i ≤ n) × (at ≡ start + 8 * i) × (length out ≡ length out₀) × Laid out₀ start (d .sizes) (d .count) out i
@@ -58,8 +56,8 @@ loop-again c =
       omega arith,
       at-put-number .put-number .kept .0 ∙ at-loop .loop .inv .2,
       at-put-number .put-number .ensures
-          ∙ lay-more (args .out .now) (args .start) (args .t3 .sizes) (args .t3 .count) (at-loop .loop .out) (at-loop .loop .i) (at-loop .loop .at) h (entry .pre) (at-loop .loop .inv .1)
-          (at-loop .loop .inv .3),
+          ∙ ap (λ p. over (at-loop .loop .out) p (bytesOf 8 (getD (args .t3 .sizes) (at-loop .loop .i) 0))) (at-loop .loop .inv .1)
+          ∙ lay-more (args .out .now) (args .start) (args .t3 .sizes) (args .t3 .count) h (entry .pre) (at-loop .loop .inv .3),
     )
 
 same-length : tie.Need-same-length Inv-loop μ-loop
@@ -71,8 +69,7 @@ returns c =
     let at-size-count = c .before .before in
     let args = entry .args in
     let n : at-size-count .size-count .result ≡ length (dimsOf (args .t3)) = at-size-count .size-count .ensures .0 in
-    let e : c .before .loop .i ≡ length (dimsOf (args .t3)) = omega arith in
-    (omega arith, lay-all (args .out .now) (args .start) (args .t3 .sizes) (args .t3 .count) (c .before .loop .out) (c .before .loop .i) e (c .before .loop .inv .3))
+    (omega arith, lay-all (args .out .now) (args .start) (args .t3 .sizes) (args .t3 .count) (c .before .loop .i) (omega arith) (c .before .loop .inv .3))
 
 pub put-dims-spec : {M : Type 1} → statement M
 put-dims-spec =

@@ -40,7 +40,7 @@ returns-2 c =
     let placed = at-put-plain .put-plain .ensures in
     let whole = length-plain (shapeFor (args .shape)) (args .kind) in
     deliver-wrote _ refl (omega (arith, long, whole, room)) (omega (arith, long, whole, placed .0))
-    (lay-plain (shapeFor (args .shape)) (args .kind) _ long room (at-put-shape .put-shape .ensures .1) (placed .1))
+    (lay-plain (shapeFor (args .shape)) (args .kind) _ 0 (omega arith) room (at-put-shape .put-shape .ensures .1) (placed .1))
 
 pub write-plain-spec : {M : Type 1} → statement M
 write-plain-spec =

@@ -22,7 +22,7 @@ returns c =
     let at-pervade-dims = c .before .before in
     let args = entry .args in
     closed-beside (pervadeClosing (closingFor (args .a)) (closingFor (args .b))) (at-pervade-dims .pervade-dims .result .answer) (at-pervade-dims .pervade-dims .ensures) (c .pervade-closing .ensures)
-    ∙ pervaded-as (args .a-fill) (args .b-fill) (args .a) (args .b) (args .pervading) (at-any-grows .any-grows .ensures)
+    ∙ pervaded-as (args .a-fill) (args .b-fill) (args .pervading) (at-any-grows .any-grows .ensures) (args .a) (args .b)
 
 pub pervade-dyn-shapes-spec : {M : Type 1} → statement M
 pervade-dyn-shapes-spec = tie.close (tie.spec any-grows-requires pervade-dims-requires pervade-closing-requires returns)

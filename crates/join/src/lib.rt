@@ -1,6 +1,8 @@
 // The join of two types: the join of their shapes with the union of their scalars.
 use kind_table::union_code;
+use known::closed_at;
 use known::kind_at;
+use known::opening_at;
 use known::scalar_at;
 use known::shape_at;
 use lent::Written;
@@ -14,8 +16,10 @@ use record::whichever;
 use scalar::United;
 use scalar::unite_boxes;
 use shape::join as join_shapes;
+use shape::join_dims;
 use ty::write_parts;
 use writer::as_written;
+use writer::write_closed;
 use writer::write_plain;
 ghost use mathlib.Core.Path.{_≡_};
 ghost use Rattle.model.specs.Types.{ty};
@@ -24,6 +28,7 @@ ghost use Rattle.format.specs.Outcome.{accepted, deliver, both, lone};
 ghost use Rattle.lent.specs.Written.{delivered};
 ghost use Rattle.record.specs.Answers.{nothings, shapeFor};
 ghost use Rattle.rules.specs.Scalars.{union};
+ghost use Rattle.rules.specs.KindTable.{unionNumber};
 ghost use Rattle.known.specs.Whole.{ofScalars};
 ghost use Rattle.join.specs.Calls.{joinCall};
 
@@ -42,8 +47,27 @@ pub fn join_known(a: &[u8], b: &[u8], result: &mut [u8]) -> Written
     requires { ⌜ both nothings (lone (now a)) (lone (now b)) ≡ accepted 0 ⌝ }
     ensures { λ r. ⌜ delivered r (now (result .exit)) ≡ deliver (joinCall (now (a .entry)) (now (b .entry))) (now (result .entry)) ⌝ }
 {
+    // Where one of two shapes is closed, so is their join: no closing list is made, and a kind is written behind the opening sizes at once.
+    if closed_at(a, 0) || closed_at(b, 0) {
+        let kind = union_kind(a, b);
+        if kind != CONTENTS_DECIDE {
+            return write_closed(
+                join_dims(opening_at(a, 0), opening_at(b, 0)),
+                kind,
+                &mut *result,
+            );
+        }
+    }
     let shape = join_shapes(shape_at(a, 0), shape_at(b, 0));
     write_union(shape, a, b, &mut *result)
+}
+
+// The kind of the union of two types' scalars, by its code, or the mark where the boxes' contents decide.
+pub fn union_kind(a: &[u8], b: &[u8]) -> u8
+    requires { ⌜ both nothings (lone (now a)) (lone (now b)) ≡ accepted 0 ⌝ }
+    ensures { λ r. ⌜ ofScalars unionNumber (now (a .entry)) (now (b .entry)) ≡ accepted r ⌝ }
+{
+    union_code(kind_at(a, scalar_at(a, 0)), kind_at(b, scalar_at(b, 0)))
 }
 
 // A shape with the union of two types' scalars: the kind that the table says; or, of two boxes, one of them as it stands or a box Any.

@@ -2,30 +2,39 @@
 use Prim.Native.Nat.{ℕ, zero, suc, _+_, _-_, _≤_, _<_}
 use native.Mathlib.Omega.{arith}
 use mathlib.Core.Bool.{Bool, true, false, cond}
-use mathlib.Core.List.{List, [], _++_, append-assoc}
+use mathlib.Core.List.{List, [], _∷_, _++_, append-assoc}
 use mathlib.Core.Option.{none, some}
 use mathlib.Core.Path.{_≡_, refl, sym, _∙_, ap}
 use lib.ListN.{length, take, drop, length-append}
 use lib.Dec.{ltb}
 use borrow.Author.Tests.{eq-eqb, ne-eqb, lt-ltb, le-ltb, ltb-true, ltb-false}
+use Rattle.model.specs.Limits.{maxDepth}
 use Rattle.model.specs.Refusals.{tooShort}
-use Rattle.model.specs.Types.{Shape, Scalar, plain, boxAny, boxAll, boxDef, Fields, noFields, field, Ty, ty, boxOf, shapeOf, fieldCount}
+use Rattle.model.specs.Types.{Dim, Shape, shape, Scalar, plain, boxAny, boxAll, boxDef, Fields, noFields, field, Ty, ty, boxOf, shapeOf, scalarOf, fieldCount}
 use Rattle.format.specs.Reader.{Bytes}
-use Rattle.format.specs.Records.{boxStart, writeShape, writeScalar, writeTy}
+use Rattle.format.specs.Records.{boxCode, boxStart, writeShape, writeScalar, writeTy}
 use Rattle.format.specs.Outcome.{Outcome, accepted, refused, mapped, lone, scalarRecord, delivery, deliver}
 use Rattle.format.specs.Views.{rest-is}
 use Rattle.lent.specs.Delivers.{deliver-short, deliver-wrote}
 use Rattle.lent.specs.Over.{over, over-over}
 use Rattle.record.specs.Answers.{nothing}
+use Rattle.record.proofs.LoneLaws.{passed-accepted}
+use Rattle.rules.specs.Order.{codeOf}
+use Rattle.rules.specs.KindTable.{kindCount}
+use Rattle.rules.specs.KindTableLaws.{coded-below}
+use Rattle.rules.specs.Views.{is-plain}
 use Rattle.rules.specs.Shapes.{rank, rowShape}
 use Rattle.rules.specs.Types.{anyTy, fieldIn, firstField, lastField, nthField, orElse, stretch, fieldPlace, rowScalar, rowBy}
-use Rattle.known.specs.WholeLaws.{Begins, whole-scalar}
+use Rattle.known.specs.Known.{TypeAt, ScalarAt, openingOf, isClosed}
+use Rattle.known.specs.KnownLaws.{closed-shape}
+use Rattle.known.specs.WholeLaws.{type-there, Begins, scalar-there, whole-scalar}
 use Rattle.known.specs.declared.View.{View}
+use Rattle.writer.specs.Kinds.{closedRecord}
 use Rattle.ty.specs.Parts.{LoneDef}
 use Rattle.ty.specs.Rows.{chosen, indexOf, reshaped, rowOfDef}
 use Rattle.ty.specs.declared.rows.Which.{Which}
 use Rattle.ty.specs.declared.rows.Which.the-variants.{First, Last, Nth}
-use Rattle.ty.proofs.PartLaws.{Inside, in-plain, in-any, in-all, in-def, NoDef}
+use Rattle.ty.proofs.PartLaws.{scalar-known, Inside, in-plain, in-any, in-all, in-def, NoDef}
 use Rattle.ty.proofs.ContentLaws.{anyBytes, any-bytes, first-is, field-found, field-lacks, shaped-as}
 
 -- ---- three stretches, one after the other
@@ -143,11 +152,11 @@ module _ (s : List ℕ) (small : Bytes s) {start count : ℕ} (def : LoneDef s s
 
 -- ---- the row
 
-module _ (s : List ℕ) {d : Shape} (shaped : mapped shapeOf (lone s) ≡ accepted d) {row : Shape} (dropped : row ≡ rowShape d) (w : Which) where
-  abbrev RowBytes : Outcome (List ℕ)
-  RowBytes = mapped (λ t. writeTy (rowBy (chosen w) t)) (lone s)
+abbrev RowBytes : List ℕ → Which → Outcome (List ℕ)
+RowBytes s w = mapped (λ t. writeTy (rowBy (chosen w) t)) (lone s)
 
-  pub row-ranked : (rank d ≡ 1 → ⊥) → RowBytes ≡ mapped (reshaped row) (lone s)
+module _ (s : List ℕ) {d : Shape} (shaped : mapped shapeOf (lone s) ≡ accepted d) {row : Shape} (dropped : row ≡ rowShape d) (w : Which) where
+  pub row-ranked : (rank d ≡ 1 → ⊥) → RowBytes s w ≡ mapped (reshaped row) (lone s)
   unfolding rowBy rowScalar reshaped
   row-ranked e = shaped-as s shaped λ k is. rw (is, dropped) (ap (λ l. accepted (writeTy (ty (rowShape d) l))) (go k))
     where
@@ -160,13 +169,38 @@ module _ (s : List ℕ) {d : Shape} (shaped : mapped shapeOf (lone s) ≡ accept
   same : {o : Shape} {k : Scalar} → lone s ≡ accepted (ty o k) → o ≡ d
   same {o} {k} e = let x : accepted o ≡ accepted d = sym (ap (mapped shapeOf) e) ∙ shaped in cc
 
-  pub row-kept : {v : View} → Inside s v → NoDef v → RowBytes ≡ mapped (reshaped row) (lone s)
+  pub row-kept : {v : View} → Inside s v → NoDef v → RowBytes s w ≡ mapped (reshaped row) (lone s)
   unfolding rowBy rowScalar reshaped
   row-kept (in-plain o k e) u = rw (e, dropped, same e)
   row-kept (in-any o e) u = rw (e, dropped, same e)
   row-kept (in-all a) u = rw (a .is, dropped, same (a .is))
   row-kept (in-def def inner bytes) u = absurd u
 
-  pub row-taken : {start count : ℕ} → LoneDef s start count → rank d ≡ 1 → RowBytes ≡ mapped (rowOfDef row w) (lone s)
+  pub row-taken : {start count : ℕ} → LoneDef s start count → rank d ≡ 1 → RowBytes s w ≡ mapped (rowOfDef row w) (lone s)
   unfolding rowBy rowScalar rowOfDef
   row-taken def r = rw (def .is, dropped, same (def .is), eq-eqb (rank d) 1 r)
+
+-- ---- the row of a closed shape with a plain scalar
+
+rest-row : (o : List Dim) → rowShape (shape o none) ≡ shape (drop 1 o) none
+unfolding rowShape
+rest-row [] = refl
+rest-row (d ∷ o) = refl
+
+plain-row : (w : Which) (o : List Dim) (t : Ty) {x : ℕ} → shapeOf t ≡ shape o none → x ≡ codeOf (scalarOf t) → (x ≡ boxCode → ⊥) → writeTy (rowBy (chosen w) t) ≡ closedRecord (drop 1 o) x
+unfolding rowBy rowScalar writeTy writeScalar codeOf
+plain-row w o (ty s k) shaped coded apart = is-plain k (λ e. apart (coded ∙ e)) λ l is. rw (coded ∙ ap codeOf is, is, shaped, rest-row o)
+
+-- its scalar begins at `at`, and its kind has the code x
+module _ (s : List ℕ) (small : Bytes s) (good : mapped nothing (lone s) ≡ accepted 0) {at : ℕ} (begins : Begins s at) {x : ℕ} (kind : (d : ℕ) (k : Scalar) → ScalarAt s at d k → x ≡ codeOf k) where
+  pub code-known : x < kindCount
+  code-known = let (d, there) = scalar-known s small good begins in coded-below (there .scalar) (kind d (there .scalar) (there .there))
+
+  module _ {o : List Dim} {closed : Bool}
+      (opening : (d : ℕ) (t : Ty) → TypeAt s 0 d t → o ≡ openingOf (shapeOf t))
+      (says : (d : ℕ) (t : Ty) → TypeAt s 0 d t → closed ≡ isClosed (shapeOf t)) where
+    pub row-closed : closed ≡ true → (x ≡ boxCode → ⊥) → (w : Which) {r : List Dim} → r ≡ drop 1 o → RowBytes s w ≡ accepted (closedRecord r x)
+    row-closed e apart w is = passed-accepted (lone s) good λ t read.
+        let shaped = closed-shape opening says maxDepth t (type-there s small t read) e in
+        let coded = kind (maxDepth - 1) (scalarOf t) (scalar-there s small begins t read) in
+        rw (read, is) (ap accepted (plain-row w o t shaped coded apart))

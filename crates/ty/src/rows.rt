@@ -2,11 +2,15 @@
 use crate::parts::Part;
 use crate::parts::find_field;
 use known::View;
+use known::closed_at;
+use known::kind_at;
 use known::look;
+use known::opening_at;
 use known::scalar_at;
 use known::shape_at;
 use lent::Written;
 use lent::lay;
+use limits::BOX;
 use limits::records::ANY_TYPE;
 use limits::records::BOX_ALL_START;
 use limits::refusal::TOO_SHORT;
@@ -15,9 +19,11 @@ use record::Lone;
 use record::read_lone;
 use shape::into_row as shape_row;
 use shape::rank;
+use shape::rest_dims;
 use writer::as_written;
 use writer::put_shape;
 use writer::shape_length;
+use writer::write_closed;
 ghost use mathlib.Core.Path.{_≡_};
 ghost use mathlib.Core.List.{_++_};
 ghost use Prim.Native.Nat.{_≤_};
@@ -76,6 +82,21 @@ fn row_by(ty: &[u8], which: Which, result: &mut [u8]) -> Written
 
 // The same of bytes that are known to be a type.
 pub fn row_known(ty: &[u8], which: Which, result: &mut [u8]) -> Written
+    requires { ⌜ mapped nothing (lone (now ty)) ≡ accepted 0 ⌝ }
+    ensures { λ r. ⌜ delivered r (now (result .exit)) ≡ deliver (mapped (λ t. writeTy (rowBy (chosen which) t)) (lone (now (ty .entry)))) (now (result .entry)) ⌝ }
+{
+    // A closed shape with a plain scalar, as most types have, keeps its kind: no closing list is made, and the row is written at once.
+    if closed_at(ty, 0) {
+        let kind = kind_at(ty, scalar_at(ty, 0));
+        if kind != BOX {
+            return write_closed(rest_dims(opening_at(ty, 0)), kind as u8, &mut *result);
+        }
+    }
+    row_any(ty, which, &mut *result)
+}
+
+// The row of any type, by its whole shape and a look at its scalar.
+fn row_any(ty: &[u8], which: Which, result: &mut [u8]) -> Written
     requires { ⌜ mapped nothing (lone (now ty)) ≡ accepted 0 ⌝ }
     ensures { λ r. ⌜ delivered r (now (result .exit)) ≡ deliver (mapped (λ t. writeTy (rowBy (chosen which) t)) (lone (now (ty .entry)))) (now (result .entry)) ⌝ }
 {

@@ -1,5 +1,6 @@
 mod DimsLaws
 mod ShapesLaws
+mod PlainLaws
 mod CallLaws
 mod ListLaws
 mod PlanLaws

@@ -21,6 +21,11 @@ use Rattle.validate.specs.Answers.{clashOf}
 use Rattle.validate.specs.declared.Clash.{Clash}
 use Rattle.validate.specs.declared.Clash.the-variants.{Clear, Numbered}
 
+-- m sizes of a closed type, n of the spec, and whether they agree
+pub closed-unsided : (o p : List Dim) {m n : ℕ} → m ≡ length p → n ≡ length o → {b : Bool} → b ≡ agree compatible p o → clash (eqb m n) b true ≡ mismatch unsided o (shape p none)
+unfolding mismatch countTest sizesAgree namesAll
+closed-unsided o p f g a = rw (f, g, a)
+
 module _ (o : List Dim) (t : DynShape) where
   abbrev p : List Dim
   p = dimsOf (t .dims)
@@ -28,12 +33,11 @@ module _ (o : List Dim) (t : DynShape) where
   abbrev d : List Dim
   d = dimsOf (t .suffix)
 
+  pub unsided-closed : t .closed ≡ true → mismatch unsided o (shape p none) ≡ mismatch unsided o (shapeFor t)
+  unsided-closed e = rw e
+
   -- m sizes of the type, n of the spec, and whether they agree
   module _ (e : t .closed ≡ true) {m n : ℕ} (f : m ≡ length p) (g : n ≡ length o) {b : Bool} where
-    pub unsided-closed : b ≡ agree compatible p o → clash (eqb m n) b true ≡ mismatch unsided o (shapeFor t)
-    unfolding mismatch countTest sizesAgree namesAll
-    unsided-closed a = rw (e, f, g, a)
-
     pub left-closed : b ≡ agree compatible p o → clash (leb n m) b true ≡ mismatch left o (shapeFor t)
     unfolding mismatch countTest sizesAgree namesAll
     left-closed a = rw (e, f, g, a)

@@ -12,19 +12,19 @@ use known::shape_at;
 use lent::Written;
 use lent::hand_over;
 use limits::MAX_BYTES;
+use limits::refusal::TOO_SHORT;
 use record::Two;
 use record::read_two;
 use ty::write_parts;
 use writer::put_shape;
 use writer::shape_length;
 ghost use mathlib.Core.List.{List};
+ghost use mathlib.Core.Logic.{_⊎_};
 ghost use mathlib.Core.Path.{_≡_};
-ghost use Prim.Native.Nat.{ℕ, _≤_};
-ghost use lib.ListN.{length};
-ghost use Rattle.model.specs.Limits.{maxBytes};
+ghost use Prim.Native.Nat.{ℕ};
 ghost use Rattle.format.specs.Records.{writeTy};
 ghost use Rattle.format.specs.Outcome.{accepted, deliver, mapped, both, lone};
-ghost use Rattle.lent.specs.Written.{delivered, Puts};
+ghost use Rattle.lent.specs.Written.{delivered, Puts, Short};
 ghost use Rattle.record.specs.Answers.{nothings, twoOf};
 ghost use Rattle.validation.specs.Validate.{validate, checkScalarOnly, checkShapeOnly};
 ghost use Rattle.validation.specs.Separate.{neither, separate, separately};
@@ -110,11 +110,18 @@ fn deliver_validated(side: Side, spec: &[u8], ty: &[u8], result: &mut [u8]) -> W
     }
 }
 
-// The same to the front of a buffer that holds any type. A refusal says nothing of the buffer.
+// The same to the front of a buffer. A refusal says nothing of the buffer, unless it is too short: one that does not hold any type may be.
 pub fn validate_known(side: Side, spec: &[u8], ty: &[u8], out: &mut [u8]) -> Written
-    requires { ⌜ (both nothings (lone (now spec)) (lone (now ty)) ≡ accepted 0) × (maxBytes ≤ length (now out)) ⌝ }
-    ensures { λ r. ⌜ Puts r (now (out .exit)) (both (λ s t. mapped writeTy (validate (sideOf side) s t)) (lone (now (spec .entry))) (lone (now (ty .entry)))) ⌝ }
+    requires { ⌜ both nothings (lone (now spec)) (lone (now ty)) ≡ accepted 0 ⌝ }
+    ensures { λ r. ⌜ Puts r (now (out .exit)) (both (λ s t. mapped writeTy (validate (sideOf side) s t)) (lone (now (spec .entry))) (lone (now (ty .entry)))) ⊎ Short r (now (out .exit)) ⌝ }
 {
+    // How much it writes before it is done is not known here.
+    if out.len() < MAX_BYTES {
+        return Written::Refused {
+            number: TOO_SHORT,
+            place: 0,
+        };
+    }
     let w = check_type(side, spec, 0, ty, 0, 0, 0, &mut *out, 0);
     match w {
         Validated::Done { end, types: _ } => Written::Wrote(end),

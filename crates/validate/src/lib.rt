@@ -6,6 +6,7 @@ mod descent;
 mod dims;
 mod heads;
 mod lists;
+mod plain;
 mod plans;
 mod shapes;
 
@@ -13,6 +14,7 @@ pub use calls::check_scalar;
 pub use calls::check_shape;
 pub use calls::validate;
 pub use calls::validate_known;
+pub use plain::validate_plain;
 use record::DynShape;
 
 // The side that a validation is for, or none.

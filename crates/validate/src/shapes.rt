@@ -15,7 +15,7 @@ use shape::is_any;
 use shape::merge_from;
 use writer::size_count;
 ghost use mathlib.Core.Path.{_≡_};
-ghost use mathlib.Core.Option.{some};
+ghost use mathlib.Core.Option.{none, some};
 ghost use Rattle.model.specs.Types.{shape};
 ghost use Rattle.record.specs.Answers.{dimsOf, shapeFor};
 ghost use Rattle.rules.specs.Shapes.{mergeFrom};
@@ -44,15 +44,22 @@ fn judge(count: bool, sizes: bool, all: bool) -> Clash
     Clash::Clear
 }
 
-// The opening sizes of a spec against a type's shape, without a side.
+// The opening sizes of a spec against a closed type's, without a side.
+pub fn mismatch_closed(o: Dims, dims: Dims) -> Clash
+    ensures { λ r. ⌜ clashOf r ≡ mismatch unsided (dimsOf o) (shape (dimsOf dims) none) ⌝ }
+{
+    judge(size_count(dims) == size_count(o), agree(dims, o), true)
+}
+
+// The same against a type's shape.
 fn mismatch_unsided(o: Dims, t: DynShape) -> Clash
     ensures { λ r. ⌜ clashOf r ≡ mismatch unsided (dimsOf o) (shapeFor t) ⌝ }
 {
     let dims = t.dims;
-    let count = size_count(o);
     if t.closed {
-        return judge(size_count(dims) == count, agree(dims, o), true);
+        return mismatch_closed(o, dims);
     }
+    let count = size_count(o);
     let suffix = t.suffix;
     let named = size_count(dims) + size_count(suffix);
     judge(named <= count, open_agrees(o, dims, suffix), count <= named)

@@ -3,27 +3,34 @@ use Prim.Native.Nat.{ℕ, _+_, _≤_, _<_}
 use native.Mathlib.Omega.{arith}
 use mathlib.Core.Bool.{Bool, true, false, cond}
 use mathlib.Core.List.{List, [], _++_, map, reverse}
-use mathlib.Core.Logic.{_⊎_, ⊎-elim}
+use mathlib.Core.Logic.{inr, ⊎-elim}
 use mathlib.Core.Path.{_≡_, refl, sym, _∙_, ap}
 use lib.ListN.{length, take, drop, replicate, length-append, length-drop, length-replicate}
 use lib.Seq.{length-take-le}
 use lib.Dec.{leb}
 use borrow.Author.Tests.{le-leb, lt-ltb, le-ltb}
+use Rattle.model.specs.Limits.{maxBytes}
 use Rattle.model.specs.Refusals.{tooShort, overflow}
 use Rattle.model.specs.Types.{Ty}
-use Rattle.format.specs.Reader.{Read, stopped}
+use Rattle.format.specs.Reader.{Bytes, Read, got, stopped}
+use Rattle.format.specs.ReaderLaws.{split}
+use Rattle.format.specs.Records.{markBytes}
 use Rattle.format.specs.Outcome.{Outcome, accepted, refused, Delivery, delivery, deliver}
 use Rattle.machine.specs.SheetLimits.{maxSteps, maxStack, maxNames, scratchBytes}
+use Rattle.machine.specs.Steps.{markOf}
+use Rattle.machine.specs.Opcodes.{mark-two}
 use Rattle.machine.specs.Run.{Stack}
-use Rattle.machine.specs.Sheet.{State, fresh, workFrom, sheetFrom, sheetRun}
-use Rattle.machine.specs.SheetSteps.{work-taken, sheetFrom-end, sheetFrom-over, sheetFrom-step, sheetFrom-stop}
+use Rattle.machine.specs.Sheet.{State, fresh, work, writtenFrom, workFrom, sheetFrom, sheetRun}
+use Rattle.machine.specs.SheetSteps.{placed-got, written-got, work-taken, sheetFrom-end, sheetFrom-over, sheetFrom-step, sheetFrom-stop}
 use Rattle.machine.specs.Call.{Called, called, tally, writeTypes, firstZero, zeroed, atFront, leftWith, handOver, sheetCall}
-use Rattle.names.specs.Table.{HasNames}
+use Rattle.machine.specs.StepsTook.{took-step}
+use Rattle.machine.specs.Written.{writtenAs, writeRest, writeStep}
+use Rattle.names.specs.Table.{InForce, HasNames}
 use Rattle.names.specs.TableLaws.{none-in-force}
 use Rattle.stack.specs.Stack.{Memory, memory, fullTrays, size, Stacked, HasStack, Keeps}
 use Rattle.stack.specs.StackLaws.{stacked-none, stacked-sizes}
-use Rattle.step.specs.Answers.{NameTable, nameTable, StepsTo}
-use Rattle.run.specs.Answers.{InState, Going, ReadOn, Runs, Answers, calledOf}
+use Rattle.step.specs.Answers.{NameTable, nameTable, StepsTo, Waits, StepsOrWaits}
+use Rattle.run.specs.Answers.{InState, Going, Ends, ReadOn, Runs, Answers, calledOf}
 use Rattle.step.specs.declared.Stepped.{Stepped}
 use Rattle.run.specs.declared.Ran.{Ran}
 use Rattle.step.specs.declared.Reached.the-variants.{At, Refused}
@@ -69,28 +76,61 @@ state-fresh lengths s trays scratch measured room =
 
 -- ---- all steps
 
+-- no step ends where it begins
+step-forth : (s : List ℕ) → Bytes s → (st st₁ : State Stack) (at n : ℕ) → at < length s → workFrom s st at at ≡ got st₁ n → at < n
+unfolding workFrom
+step-forth s small st st₁ at n more e =
+    split (writtenFrom s (length (st .stack)) (st .names) at at) e λ w m e₁ e₂.
+    placed-got (work w st) at m e₂ λ _ reaches.
+    written-got s (length (st .stack)) (st .names) at at e₁ λ e₃ _ _.
+    let took = took-step s small (length (st .stack)) at at w m e₃ .bytes .is in
+    let long = length-append (writeStep w) (drop m s) in
+    let mark = length-append (markBytes (markOf (writtenAs w))) (writeRest w) in
+    omega (arith, reaches, length-drop at s, length-drop m s, ap length took, long, mark, mark-two (writtenAs w))
+
 module _ (whole : Read (State Stack)) {m : Memory} {t : NameTable} {count named taken at : ℕ} (g : Going whole m t count named taken at) where
   pub going-over : maxSteps ≤ taken → at < length (m .sheet) → whole ≡ stopped overflow at
   going-over l h = g .same ∙ sheetFrom-over (m .sheet) (g .state) at (omega (arith, g .here .steps)) h
 
-  pub going-rest : (length (m .sheet) ≤ at) ⊎ (length (m .trays) < fullTrays) → ReadOn m t count named taken at whole
-  going-rest rest = record { going = g; rest = rest }
+  pub going-ends : {out : List ℕ} → Ends m out at → ReadOn m t count named taken at out whole
+  going-ends ends = record { going = g; ends = ends }
 
   -- one step more
-  module _ (few : taken < maxSteps) (more : at < length (m .sheet)) (r : Stepped) (m₁ : Memory) (t₁ : NameTable) (kept : m₁ .sheet ≡ m .sheet)
-      (to : StepsTo (r .answer) m₁ t₁ (r .count) (r .named) (workFrom (m .sheet) (g .state) at at)) where
-    pub going-step : {n : ℕ} → r .answer ≡ At n → Going whole m₁ t₁ (r .count) (r .named) (taken + 1) n
-    going-step {n} is = go (rw is at to)
+  module _ (few : taken < maxSteps) (more : at < length (m .sheet)) (r : Stepped) (m₁ : Memory) (t₁ : NameTable) (kept : m₁ .sheet ≡ m .sheet) {out : List ℕ}
+      (to : StepsOrWaits (r .answer) m₁ t₁ (r .count) (r .named) at out (g .state)) where
+    -- the same sheet is read after it
+    from-kept : {o : Read (State Stack)} → workFrom (m₁ .sheet) (g .state) at at ≡ o → workFrom (m .sheet) (g .state) at at ≡ o
+    from-kept e = sym (ap (λ s. workFrom s (g .state) at at) kept) ∙ e
+
+    pub going-step : {n : ℕ} → r .answer ≡ At n → (n ≡ at → ⊥) → Going whole m₁ t₁ (r .count) (r .named) (taken + 1) n
+    going-step {n} is on = ⊎-elim (λ steps. go (rw is at steps)) (λ waits. let x : n ≡ at = cc in absurd (on x)) to
       where
-        go : StepsTo (At n) m₁ t₁ (r .count) (r .named) (workFrom (m .sheet) (g .state) at at) → Going whole m₁ t₁ (r .count) (r .named) (taken + 1) n
+        go : StepsTo (At n) m₁ t₁ (r .count) (r .named) (workFrom (m₁ .sheet) (g .state) at at) → Going whole m₁ t₁ (r .count) (r .named) (taken + 1) n
         go (st, e, stacked, force) = record {
           state = st;
-          here = record { stacked = stacked; in-force = force; steps = omega (arith, work-taken (m .sheet) (g .state) st at at n e, g .here .steps) };
-          same = rw kept (g .same ∙ sheetFrom-step (m .sheet) (g .state) at st n (omega (arith, g .here .steps)) more e);
+          here = record { stacked = stacked; in-force = force; steps = omega (arith, work-taken (m₁ .sheet) (g .state) st at at n e, g .here .steps) };
+          same = rw kept (g .same ∙ sheetFrom-step (m .sheet) (g .state) at st n (omega (arith, g .here .steps)) more (from-kept e));
         }
 
     pub going-stop : {k p : ℕ} → r .answer ≡ Refused k p → whole ≡ stopped k p
-    going-stop {k} {p} is = g .same ∙ sheetFrom-stop (m .sheet) (g .state) at k p (omega (arith, g .here .steps)) more (rw is at to)
+    going-stop {k} {p} is = ⊎-elim (λ steps. go (rw is at steps)) (λ waits. let z : _≡_ {A = ℕ} 0 1 = cc in absurd (omega arith)) to
+      where
+        go : workFrom (m₁ .sheet) (g .state) at at ≡ stopped k p → whole ≡ stopped k p
+        go e = g .same ∙ sheetFrom-stop (m .sheet) (g .state) at k p (omega (arith, g .here .steps)) more (from-kept e)
+
+    -- or one that waits: it is to be worked yet
+    pub going-waits : Bytes (m .sheet) → {n : ℕ} → r .answer ≡ At n → n ≡ at → ReadOn m₁ t₁ (r .count) (r .named) taken at out whole
+    going-waits small {n} is stays = ⊎-elim (λ steps. go (rw is at steps)) (λ (waits, force). waiting waits force) to
+      where
+        go : StepsTo (At n) m₁ t₁ (r .count) (r .named) (workFrom (m₁ .sheet) (g .state) at at) → ReadOn m₁ t₁ (r .count) (r .named) taken at out whole
+        go (st, e, stacked, force) = absurd (omega (arith, step-forth (m .sheet) small (g .state) st at n more (from-kept e)))
+
+        waiting : Waits (r .answer) m₁ (r .count) at out (g .state .stack) → InForce (m₁ .sheet) (t₁ .places) (t₁ .bounds) (r .named) (g .state .names)
+            → ReadOn m₁ t₁ (r .count) (r .named) taken at out whole
+        waiting waits force = record {
+          going = record { state = g .state; here = record { stacked = waits .stacked; in-force = force; steps = g .here .steps }; same = rw kept (g .same) };
+          ends = inr (inr (waits .short));
+        }
 
 -- The same from whatever state stack and names were of.
 abbrev pub GoingFrom : Memory → NameTable → ℕ → ℕ → ℕ → ℕ → Memory → NameTable → ℕ → ℕ → ℕ → ℕ → Type 0
@@ -115,8 +155,8 @@ pub run-left : (s : List ℕ) (st : State Stack) (at : ℕ) → length s ≤ at 
 unfolding sheetRun
 run-left s st at h e = rw (e ∙ sheetFrom-end s st at h)
 
-module _ (r : Ran) (m : Memory) (t : NameTable) (whole : Read (State Stack)) (runs : Runs (r .answer) m t (r .count) (r .named) (r .taken) whole) where
-  pub run-stopped : {n : ℕ} → r .answer ≡ At n → ReadOn m t (r .count) (r .named) (r .taken) n whole
+module _ (r : Ran) (m : Memory) (t : NameTable) (out : List ℕ) (whole : Read (State Stack)) (runs : Runs (r .answer) m t (r .count) (r .named) (r .taken) out whole) where
+  pub run-stopped : {n : ℕ} → r .answer ≡ At n → ReadOn m t (r .count) (r .named) (r .taken) n out whole
   run-stopped is = rw is at runs
 
   pub stopped-has : {n : ℕ} → r .answer ≡ At n → HasStack m (r .count)
@@ -127,15 +167,15 @@ module _ (r : Ran) (m : Memory) (t : NameTable) (whole : Read (State Stack)) (ru
 
   -- of a whole sheet
   module _ (all : sheetFrom (m .sheet) (fresh []) 0 ≡ whole) where
-    pub run-finished : {C : Type 0} {n : ℕ} → r .answer ≡ At n → fullTrays ≤ length (m .trays)
+    pub run-finished : {C : Type 0} {n : ℕ} → r .answer ≡ At n → fullTrays ≤ length (m .trays) → maxBytes ≤ length out
         → ((ts : Stack) → Stacked m (r .count) ts → sheetRun (m .sheet) ≡ accepted (reverse ts) → C) → C
-    run-finished {C} {n} is room f =
+    run-finished {C} {n} is trays-room room f =
         let stop = run-stopped is in
         let g = stop .going in
         ⊎-elim
         (λ end. f (g .state .stack) (g .here .stacked) (run-left (m .sheet) (g .state) n end (all ∙ g .same)))
-        (λ short. absurd (omega arith))
-        (stop .rest)
+        (λ short. absurd (⊎-elim (λ h. omega arith) (λ h. omega arith) short))
+        (stop .ends)
 
     pub run-refused : {k p : ℕ} → r .answer ≡ Refused k p → (result : List ℕ) → called (refused k p) result [] ≡ handOver (length (m .sheet)) (sheetRun (m .sheet)) result []
     unfolding sheetRun handOver

@@ -4,6 +4,7 @@ use mathlib.Core.List.{List, [], map}
 use mathlib.Core.Logic.{_⊎_}
 use mathlib.Core.Path.{_≡_}
 use lib.ListN.{length, take}
+use Rattle.model.specs.Limits.{maxBytes}
 use Rattle.model.specs.Types.{Ty}
 use Rattle.format.specs.Reader.{Read, stopped}
 use Rattle.format.specs.Outcome.{Outcome, accepted, refused}
@@ -49,11 +50,15 @@ pub record Going (o : Read (State Stack)) (m : Memory) (t : NameTable) (count na
   pub here : InState m t count named taken state
   pub same : o ≡ sheetFrom (m .sheet) state at
 
--- All steps: the rest is none, unless the trays have not room for every type.
-pub record ReadOn (m : Memory) (t : NameTable) (count named taken at : ℕ) (o : Read (State Stack)) : Type 0 where
-  pub going : Going o m t count named taken at
-  pub rest : (length (m .sheet) ≤ at) ⊎ (length (m .trays) < fullTrays)
+-- why steps end at a place: there is none left, or the trays have not room for every type, or the buffer that rules write to has not
+abbrev pub Ends : Memory → List ℕ → ℕ → Type 0
+Ends m out at = (length (m .sheet) ≤ at) ⊎ ((length (m .trays) < fullTrays) ⊎ (length out < maxBytes))
 
-abbrev pub Runs : Reached → Memory → NameTable → ℕ → ℕ → ℕ → Read (State Stack) → Type 0
-Runs (At n) m t count named taken o = ReadOn m t count named taken n o
-Runs (Refused k p) m t count named taken o = o ≡ stopped k p
+-- All steps, as far as trays and buffer go.
+pub record ReadOn (m : Memory) (t : NameTable) (count named taken at : ℕ) (out : List ℕ) (o : Read (State Stack)) : Type 0 where
+  pub going : Going o m t count named taken at
+  pub ends : Ends m out at
+
+abbrev pub Runs : Reached → Memory → NameTable → ℕ → ℕ → ℕ → List ℕ → Read (State Stack) → Type 0
+Runs (At n) m t count named taken out o = ReadOn m t count named taken n out o
+Runs (Refused k p) m t count named taken out o = o ≡ stopped k p

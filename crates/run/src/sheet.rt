@@ -10,6 +10,7 @@ use limits::SCRATCH_BYTES;
 use limits::refusal::OVERFLOW;
 use limits::refusal::TOO_SHORT;
 use stack::SMALL_TRAYS;
+use stack::TRAYS;
 use stack::TRAYS_BYTES;
 use stack::clear;
 use stack::empty_trays;
@@ -31,6 +32,9 @@ ghost use Rattle.names.specs.Table.{HasNames};
 ghost use Rattle.stack.specs.Stack.{memory, Stacked, HasStack, NoneInTray};
 ghost use Rattle.step.specs.Answers.{nameTable};
 ghost use Rattle.run.specs.Answers.{InState, Runs, Measures, Answers, calledOf};
+
+// Bytes of the buffer that rules write to at first, as many as a small tray has: to zero MAX_BYTES takes as long as a step on small types.
+const SMALL_OUT: usize = SMALL_TRAYS / TRAYS;
 
 // Checks a sheet. The types left go to the result, bottom first; the scratch is zero afterwards, as far as it was asked for.
 pub fn check_sheet(sheet: &[u8], result: &mut [u8], scratch: &mut [u8]) -> SheetAnswer
@@ -83,7 +87,7 @@ fn run_sheet(
     run_small(sheet, &mut *result, &mut *scratch, &mut *lengths)
 }
 
-// The same with small trays, as far as they go.
+// The same with small trays and a small buffer, as far as they go.
 fn run_small(
     sheet: &[u8],
     result: &mut [u8],
@@ -96,7 +100,7 @@ fn run_small(
     let mut ends = [0usize; MAX_STACK];
     let mut places = [0usize; MAX_NAMES];
     let mut bounds = [0usize; MAX_NAMES];
-    let mut out = [0u8; MAX_BYTES];
+    let mut out = [0u8; SMALL_OUT];
     let mut trays = [0u8; SMALL_TRAYS];
     let ran = run_steps(
         sheet,
@@ -117,17 +121,89 @@ fn run_small(
     let named = ran.named;
     let taken = ran.taken;
     match answer {
-        Reached::At(at) => run_rest(
+        Reached::At(at) => {
+            if sheet.len() <= at {
+                return hand_over(
+                    count,
+                    &ends,
+                    &*lengths,
+                    sheet,
+                    &trays,
+                    &*scratch,
+                    &mut *result,
+                );
+            }
+            run_roomy(
+                sheet,
+                at,
+                count,
+                named,
+                taken,
+                &mut ends,
+                &mut *lengths,
+                &mut places,
+                &mut bounds,
+                &mut trays,
+                &mut *scratch,
+                &mut *result,
+            )
+        }
+        Reached::Refused { number, place } => SheetAnswer::Refused { number, place },
+    }
+}
+
+// The rest of a sheet, from a step that waits for a longer buffer or a longer tray: the buffer first, which holds any type, and the same trays.
+fn run_roomy(
+    sheet: &[u8],
+    at: usize,
+    count: usize,
+    named: usize,
+    taken: usize,
+    ends: &mut [usize],
+    lengths: &mut [usize],
+    places: &mut [usize],
+    bounds: &mut [usize],
+    trays: &mut [u8],
+    scratch: &mut [u8],
+    result: &mut [u8],
+) -> SheetAnswer
+    requires { ⌜ HasStack (memory (now ends) (now lengths) (now sheet) (now trays) (now scratch)) count × HasNames (now sheet) (now places) (now bounds) named ⌝ }
+    ensures { λ r. ⌜ ((st : State Stack) → InState (memory (now (ends .entry)) (now (lengths .entry)) (now (sheet .entry)) (now (trays .entry)) (now (scratch .entry)))
+        (nameTable (now (places .entry)) (now (bounds .entry))) count named taken st
+        → sheetFrom (now (sheet .entry)) (fresh []) 0 ≡ sheetFrom (now (sheet .entry)) st at
+        → Answers r (now (result .exit)) (now (lengths .exit)) (now (sheet .entry)) (now (result .entry))) ⌝ }
+{
+    let mut out = [0u8; MAX_BYTES];
+    let ran = run_steps(
+        sheet,
+        at,
+        count,
+        named,
+        taken,
+        &mut *ends,
+        &mut *lengths,
+        &mut *places,
+        &mut *bounds,
+        &mut *trays,
+        &mut *scratch,
+        &mut out,
+    );
+    let answer = ran.answer;
+    let left = ran.count;
+    let in_force = ran.named;
+    let steps = ran.taken;
+    match answer {
+        Reached::At(next) => run_rest(
             sheet,
-            at,
-            count,
-            named,
-            taken,
-            &mut ends,
+            next,
+            left,
+            in_force,
+            steps,
+            &mut *ends,
             &mut *lengths,
-            &mut places,
-            &mut bounds,
-            &trays,
+            &mut *places,
+            &mut *bounds,
+            &*trays,
             &mut *scratch,
             &mut out,
             &mut *result,
@@ -242,7 +318,7 @@ fn run_large(
 
 // The steps from a place on, one after the other, each from the state that the one before left, and the first from any state: so many
 // types on the stack, so many names in force, so many steps taken. They stop early where a type that may be worked on next is too long
-// for the trays.
+// for the trays, or a step waits for a longer buffer.
 fn run_steps(
     s: &[u8],
     start: usize,
@@ -257,12 +333,12 @@ fn run_steps(
     scratch: &mut [u8],
     out: &mut [u8],
 ) -> Ran
-    requires { ⌜ (maxBytes ≤ length (now out)) × HasStack (memory (now ends) (now lengths) (now s) (now trays) (now scratch)) count
+    requires { ⌜ HasStack (memory (now ends) (now lengths) (now s) (now trays) (now scratch)) count
         × HasNames (now s) (now places) (now bounds) named ⌝ }
     ensures { λ r. ⌜ ((st : State Stack) → InState (memory (now (ends .entry)) (now (lengths .entry)) (now (s .entry)) (now (trays .entry)) (now (scratch .entry)))
         (nameTable (now (places .entry)) (now (bounds .entry))) count named taken st
         → Runs (r .answer) (memory (now (ends .exit)) (now (lengths .exit)) (now (s .entry)) (now (trays .exit)) (now (scratch .exit)))
-        (nameTable (now (places .exit)) (now (bounds .exit))) (r .count) (r .named) (r .taken) (sheetFrom (now (s .entry)) st start)) ⌝ }
+        (nameTable (now (places .exit)) (now (bounds .exit))) (r .count) (r .named) (r .taken) (now (out .exit)) (sheetFrom (now (s .entry)) st start)) ⌝ }
 {
     let mut height = count;
     let mut in_force = named;
@@ -314,6 +390,16 @@ fn run_steps(
         };
         height = worked.count;
         in_force = worked.named;
+        if next == at {
+            // The step waits, since none ends where it begins.
+            let waiting = Reached::At(at);
+            return Ran {
+                answer: waiting,
+                count: height,
+                named: in_force,
+                taken: steps,
+            };
+        }
         at = next;
         steps += 1;
     }

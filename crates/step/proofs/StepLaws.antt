@@ -3,11 +3,13 @@ use Prim.Native.Nat.{ℕ, _-_, _≤_, _<_}
 use native.Mathlib.Omega.{arith}
 use mathlib.Core.Bool.{Bool}
 use mathlib.Core.List.{List, [], _∷_}
+use mathlib.Core.Logic.{_⊎_, inl, inr, ⊎-elim}
 use mathlib.Core.Option.{Option, none, some}
-use mathlib.Core.Path.{_≡_, refl, _∙_, ap, subst}
+use mathlib.Core.Path.{_≡_, refl, sym, _∙_, ap, subst}
 use lib.ListN.{length, take}
 use borrow.Author.Tests.{le-leb, lt-leb}
-use Rattle.model.specs.Refusals.{undeclared, tooManyNames}
+use Rattle.model.specs.Limits.{maxBytes}
+use Rattle.model.specs.Refusals.{tooShort, undeclared, tooManyNames}
 use Rattle.model.specs.Types.{Ty}
 use Rattle.model.specs.Within.{Within}
 use Rattle.format.specs.Reader.{Read, got, stopped}
@@ -16,7 +18,7 @@ use Rattle.format.specs.Outcome.{Outcome, accepted, refused, mapped}
 use Rattle.rules.specs.Types.{intoRow, joinTypes}
 use Rattle.validation.specs.CheckShape.{unsided}
 use Rattle.validation.specs.Validate.{validate}
-use Rattle.lent.specs.Written.{Puts}
+use Rattle.lent.specs.Written.{Puts, Short}
 use Rattle.lent.specs.declared.Written.{Written}
 use Rattle.lent.specs.declared.Written.the-variants.{Wrote, Refused as Unwritten}
 use Rattle.machine.specs.SheetLimits.{maxStack, maxNames}
@@ -37,7 +39,7 @@ use Rattle.cursor.specs.declared.StepRead.{StepRead}
 use Rattle.cursor.specs.declared.StepRead.the-variants.{Put, Row, Pervading, Join, Validating, Declaring, Using, Refused as Unread}
 use Rattle.tops.specs.Answers.{Workable, OfTop, OfTwo, atStart}
 use Rattle.tops.proofs.TopLaws.{has-one, has-two}
-use Rattle.step.specs.Answers.{NameTable, nameTable, Works, StepsTo, Ready, StepWorks, UseWorks, NameKept, Ruled, LaysDown, afterRule}
+use Rattle.step.specs.Answers.{NameTable, nameTable, Works, StepsTo, Waits, StepsOrWaits, Ready, RuleWorks, UseWorks, NameKept, Ruled, LaysDown, afterRule}
 use Rattle.step.specs.declared.Reached.{Reached}
 use Rattle.step.specs.declared.Reached.the-variants.{At, Refused}
 use Rattle.step.specs.declared.Worked.{Worked}
@@ -120,12 +122,20 @@ module _ (s : List ℕ) (at : ℕ) {m : Memory} {count named : ℕ} {places boun
   unworked {k} {p} e = work-unread s st at at k p (written-unread s (length (st .stack)) (st .names) at at k p (here e))
 
   -- one of the five
-  pub worked : (r : Worked) (m₁ : Memory) → m₁ .sheet ≡ s → (x : Step) {n : ℕ} → stepFrom s count at at ≡ got (working x) n → StepWorks x at n m count r m₁
-      → StepsTo (r .answer) m₁ (nameTable places bounds) (r .count) named (workFrom s st at at)
-  worked r m₁ same x {n} e w =
-      let read = written-read s (length (st .stack)) (st .names) at at (working x) n (here e) refl refl in
-      rw (work-rule s st at at (working x) n read, steps-one x (st .stack))
-      (lifted st (working x) m₁ (nameTable places bounds) (r .count) (rw same force) at n (r .answer) (step x (st .stack)) (w (st .stack) h))
+  module _ (r : Worked) (m₁ : Memory) (same : m₁ .sheet ≡ s) (x : Step) {n : ℕ} (e : stepFrom s count at at ≡ got (working x) n) where
+    pub worked : Works (r .answer) m₁ (r .count) (placed (step x (st .stack)) at n) → StepsTo (r .answer) m₁ (nameTable places bounds) (r .count) named (workFrom s st at at)
+    worked w =
+        let read = written-read s (length (st .stack)) (st .names) at at (working x) n (here e) refl refl in
+        rw (work-rule s st at at (working x) n read, steps-one x (st .stack))
+        (lifted st (working x) m₁ (nameTable places bounds) (r .count) (rw same force) at n (r .answer) (step x (st .stack)) w)
+
+    -- of which four may wait
+    pub worked-or-waits : (out : List ℕ) → RuleWorks x at n m count out r m₁ → StepsOrWaits (r .answer) m₁ (nameTable places bounds) (r .count) named at out st
+    worked-or-waits out w =
+        ⊎-elim
+        (λ works. inl (subst (λ l. StepsTo (r .answer) m₁ (nameTable places bounds) (r .count) named (workFrom l st at at)) (sym same) (worked works)))
+        (λ waits. inr (waits, rw same force))
+        (w (st .stack) h)
 
   -- a use: the put of the type in force, or 15
   module _ (name : TableName) {n : ℕ} (e : stepFrom s count at at ≡ got (usingName name) n) (r : Worked) (m₁ : Memory) (same : m₁ .sheet ≡ s) where
@@ -181,16 +191,17 @@ validate-step spec t us = refl
 -- ---- what a rule wrote
 
 module _ (o : Outcome Ty) (w : Written) (out : List ℕ) where
-  pub rule-wrote : {C : Type 0} {n : ℕ} → w ≡ Wrote n → Puts w out (mapped writeTy o)
+  pub rule-wrote : {C : Type 0} {n : ℕ} → w ≡ Wrote n → Puts w out (mapped writeTy o) ⊎ Short w out
       → ((t : Ty) → o ≡ accepted t → take n out ≡ writeTy t → n ≤ length out → C) → C
-  rule-wrote {C} {n} is puts f = go o refl (rw is at puts)
+  rule-wrote {C} {n} is given f = ⊎-elim (λ puts. go o refl (rw is at puts)) (λ short. let z : _≡_ {A = ℕ} 0 1 = cc in absurd (omega arith)) given
     where
       go : (x : Outcome Ty) → o ≡ x → Puts (Wrote n) out (mapped writeTy x) → C
       go (refused k p) same (e, fits) = let z : _≡_ {A = ℕ} 0 1 = cc in absurd (omega arith)
       go (accepted t) same (e, fits) = f t same (cc) fits
 
-  pub rule-refused : {k p : ℕ} → w ≡ Unwritten k p → Puts w out (mapped writeTy o) → o ≡ refused k p
-  rule-refused {k} {p} is puts = go o (rw is at puts)
+  -- a refusal of the buffer is one that says so, of a buffer that may be too short
+  pub rule-refused : {k p : ℕ} → w ≡ Unwritten k p → (k ≡ tooShort → maxBytes ≤ length out) → Puts w out (mapped writeTy o) ⊎ Short w out → o ≡ refused k p
+  rule-refused {k} {p} is room given = ⊎-elim (λ puts. go o (rw is at puts)) (λ short. let x : k ≡ tooShort = cc in absurd (omega (arith, room x, short .1))) given
     where
       go : (x : Outcome Ty) → mapped writeTy x ≡ refused k p → x ≡ refused k p
       go (refused j q) e = cc
@@ -199,15 +210,15 @@ module _ (o : Outcome Ty) (w : Written) (out : List ℕ) where
 -- ---- what a rule made of the types on top takes their place
 
 -- a step worked where the types lie otherwise
-pub works-kept : (x : Step) (at n : ℕ) (m m₁ m₂ : Memory) (count : ℕ) (r : Worked) → Keeps m count m₁ → StepWorks x at n m₁ count r m₂ → StepWorks x at n m count r m₂
-works-kept x at n m m₁ m₂ count r kept works ts h = works ts (kept ts h)
+pub works-kept : (x : Step) (at n : ℕ) (m m₁ m₂ : Memory) (count : ℕ) (out : List ℕ) (r : Worked) → Keeps m count m₁ → RuleWorks x at n m₁ count out r m₂ → RuleWorks x at n m count out r m₂
+works-kept x at n m m₁ m₂ count out r kept works ts h = works ts (kept ts h)
 
 pub has-kept : (m m₁ : Memory) (count : ℕ) → Keeps m count m₁ → HasStack m count → HasStack m₁ count
 has-kept m m₁ count kept has = record { types = has .types; stacked = kept (has .types) (has .stacked) }
 
 -- types on top that were unpacked may be worked on
-pub ready-unpacked : {few : ℕ} (m m₁ : Memory) (count : ℕ) {out : List ℕ} → Ready few m count out → Keeps m count m₁ → Unpacked few (m₁ .ends) count → Workable few m₁ count out
-ready-unpacked m m₁ count ready kept unpacked = record { enough = ready .enough; room = ready .room; has = has-kept m m₁ count kept (ready .has); unpacked = unpacked }
+pub ready-unpacked : {few : ℕ} (m m₁ : Memory) (count : ℕ) → Ready few m count → Keeps m count m₁ → Unpacked few (m₁ .ends) count → Workable few m₁ count
+ready-unpacked m m₁ count ready kept unpacked = record { enough = ready .enough; has = has-kept m m₁ count kept (ready .has); unpacked = unpacked }
 
 module _ (m : Memory) (count : ℕ) (w : Written) (out : List ℕ) where
   module _ (f : Ty → Outcome Ty) (within : (t : Ty) → Within t → (x : Ty) → f t ≡ accepted x → Within x) (few : 1 ≤ count) (made : OfTop f m count w out) where
@@ -223,12 +234,12 @@ module _ (m : Memory) (count : ℕ) (w : Written) (out : List ℕ) where
     ruled-one has = has-one (has .types) (has .stacked) few λ t us e. (f t, one-ruled t us (rw e at (has .stacked)))
 
     pub works-one : (x : Step) → ((t : Ty) (us : Stack) → step x (t ∷ us) ≡ onto us (aside (f t))) → (at n : ℕ) (r : Worked) (m₁ : Memory)
-        → LaysDown m count (count - 1) w out at n r m₁ → StepWorks x at n m count r m₁
+        → LaysDown m count (count - 1) w out at n r m₁ → RuleWorks x at n m count out r m₁
     works-one x is at n r m₁ laid ts h =
         has-one ts h few λ t us e.
         let one : count - (count - 1) ≡ 1 = omega arith in
         let same : afterRule ts (count - (count - 1)) (f t) ≡ step x ts = rw (one, e, is t us) in
-        subst (λ o. Works (r .answer) m₁ (r .count) (placed o at n)) same (laid ts (f t) h (one-ruled t us (rw e at h)))
+        subst (λ o. Works (r .answer) m₁ (r .count) (placed o at n) ⊎ Waits (r .answer) m₁ (r .count) at out ts) same (laid ts (f t) h (one-ruled t us (rw e at h)))
 
   module _ (f : Ty → Ty → Outcome Ty) (within : (t u : Ty) → Within t → Within u → (x : Ty) → f t u ≡ accepted x → Within x) (few : 2 ≤ count) (made : OfTwo f m count w out) where
     two-ruled : (t u : Ty) (us : Stack) → Stacked m count (t ∷ u ∷ us) → Ruled count (count - 2) w out (f t u)
@@ -243,9 +254,9 @@ module _ (m : Memory) (count : ℕ) (w : Written) (out : List ℕ) where
     ruled-two has = has-two (has .types) (has .stacked) few λ t u us e. (f t u, two-ruled t u us (rw e at (has .stacked)))
 
     pub works-two : (x : Step) → ((t u : Ty) (us : Stack) → step x (t ∷ u ∷ us) ≡ onto us (aside (f t u))) → (at n : ℕ) (r : Worked) (m₁ : Memory)
-        → LaysDown m count (count - 2) w out at n r m₁ → StepWorks x at n m count r m₁
+        → LaysDown m count (count - 2) w out at n r m₁ → RuleWorks x at n m count out r m₁
     works-two x is at n r m₁ laid ts h =
         has-two ts h few λ t u us e.
         let two : count - (count - 2) ≡ 2 = omega arith in
         let same : afterRule ts (count - (count - 2)) (f t u) ≡ step x ts = rw (two, e, is t u us) in
-        subst (λ o. Works (r .answer) m₁ (r .count) (placed o at n)) same (laid ts (f t u) h (two-ruled t u us (rw e at h)))
+        subst (λ o. Works (r .answer) m₁ (r .count) (placed o at n) ⊎ Waits (r .answer) m₁ (r .count) at out ts) same (laid ts (f t u) h (two-ruled t u us (rw e at h)))

@@ -6,8 +6,10 @@ use crate::Worked;
 use cursor::StepRead;
 use cursor::step_at;
 use lent::Written;
+use limits::MAX_BYTES;
 use limits::MAX_NAMES;
 use limits::refusal::TOO_MANY_NAMES;
+use limits::refusal::TOO_SHORT;
 use limits::refusal::UNDECLARED;
 use names::LookedUp;
 use names::look_up;
@@ -32,12 +34,12 @@ ghost use Rattle.machine.specs.Steps as steps;
 ghost use Rattle.machine.specs.Run.{Stack};
 ghost use Rattle.machine.specs.Written.{TableName};
 ghost use Rattle.machine.specs.Names.{Names, typeInForce, declare};
-ghost use Rattle.machine.specs.Sheet.{State, workFrom};
+ghost use Rattle.machine.specs.Sheet.{State};
 ghost use Rattle.names.specs.Table.{NameStands, Declares, InForce, HasNames};
 ghost use Rattle.stack.specs.Stack.{memory, size, Stacked, HasStack};
-ghost use Rattle.step.specs.Answers.{nameTable, StepsTo, NameKept, Ready, StepWorks, UseWorks, Ruled, LaysDown};
+ghost use Rattle.step.specs.Answers.{nameTable, StepsOrWaits, NameKept, Ready, StepWorks, RuleWorks, UseWorks, Ruled, LaysDown};
 
-// The step whose mark stands at a place. `out` is a buffer that holds any type.
+// The step whose mark stands at a place. Where `out` may be too short for what its rule makes, it waits: the place is answered again.
 pub fn work_step(
     s: &[u8],
     at: usize,
@@ -51,12 +53,12 @@ pub fn work_step(
     scratch: &mut [u8],
     out: &mut [u8],
 ) -> Stepped
-    requires { ⌜ Ready 0 (memory (now ends) (now lengths) (now s) (now trays) (now scratch)) count (now out)
+    requires { ⌜ Ready 0 (memory (now ends) (now lengths) (now s) (now trays) (now scratch)) count
         × HasNames (now s) (now places) (now bounds) named ⌝ }
     ensures { λ r. ⌜ ((st : State Stack) → Stacked (memory (now (ends .entry)) (now (lengths .entry)) (now (s .entry)) (now (trays .entry)) (now (scratch .entry))) count (st .stack)
         → InForce (now (s .entry)) (now (places .entry)) (now (bounds .entry)) named (st .names)
-        → StepsTo (r .answer) (memory (now (ends .exit)) (now (lengths .exit)) (now (s .entry)) (now (trays .exit)) (now (scratch .exit)))
-        (nameTable (now (places .exit)) (now (bounds .exit))) (r .count) (r .named) (workFrom (now (s .entry)) st at at)) ⌝ }
+        → StepsOrWaits (r .answer) (memory (now (ends .exit)) (now (lengths .exit)) (now (s .entry)) (now (trays .exit)) (now (scratch .exit)))
+        (nameTable (now (places .exit)) (now (bounds .exit))) (r .count) (r .named) at (now (out .exit)) st) ⌝ }
 {
     let read = step_at(s, at, count);
     match read {
@@ -279,8 +281,8 @@ fn row(
     scratch: &mut [u8],
     out: &mut [u8],
 ) -> Worked
-    requires { ⌜ Ready 1 (memory (now ends) (now lengths) (now s) (now trays) (now scratch)) count (now out) ⌝ }
-    ensures { λ r. ⌜ StepWorks steps.row at next (memory (now (ends .entry)) (now (lengths .entry)) (now (s .entry)) (now (trays .entry)) (now (scratch .entry))) count r
+    requires { ⌜ Ready 1 (memory (now ends) (now lengths) (now s) (now trays) (now scratch)) count ⌝ }
+    ensures { λ r. ⌜ RuleWorks steps.row at next (memory (now (ends .entry)) (now (lengths .entry)) (now (s .entry)) (now (trays .entry)) (now (scratch .entry))) count (now (out .exit)) r
         (memory (now (ends .exit)) (now (lengths .exit)) (now (s .entry)) (now (trays .exit)) (now (scratch .exit))) ⌝ }
 {
     unpack_top(count, &mut *ends, &*lengths, &mut *trays, &mut *scratch);
@@ -312,8 +314,8 @@ fn pervade(
     scratch: &mut [u8],
     out: &mut [u8],
 ) -> Worked
-    requires { ⌜ Ready 2 (memory (now ends) (now lengths) (now s) (now trays) (now scratch)) count (now out) ⌝ }
-    ensures { λ r. ⌜ StepWorks (steps.pervading «top_fill» «below_fill») at next (memory (now (ends .entry)) (now (lengths .entry)) (now (s .entry)) (now (trays .entry)) (now (scratch .entry))) count r
+    requires { ⌜ Ready 2 (memory (now ends) (now lengths) (now s) (now trays) (now scratch)) count ⌝ }
+    ensures { λ r. ⌜ RuleWorks (steps.pervading «top_fill» «below_fill») at next (memory (now (ends .entry)) (now (lengths .entry)) (now (s .entry)) (now (trays .entry)) (now (scratch .entry))) count (now (out .exit)) r
         (memory (now (ends .exit)) (now (lengths .exit)) (now (s .entry)) (now (trays .exit)) (now (scratch .exit))) ⌝ }
 {
     unpack_two(count, &mut *ends, &*lengths, &mut *trays, &mut *scratch);
@@ -352,8 +354,8 @@ fn join(
     scratch: &mut [u8],
     out: &mut [u8],
 ) -> Worked
-    requires { ⌜ Ready 2 (memory (now ends) (now lengths) (now s) (now trays) (now scratch)) count (now out) ⌝ }
-    ensures { λ r. ⌜ StepWorks steps.join at next (memory (now (ends .entry)) (now (lengths .entry)) (now (s .entry)) (now (trays .entry)) (now (scratch .entry))) count r
+    requires { ⌜ Ready 2 (memory (now ends) (now lengths) (now s) (now trays) (now scratch)) count ⌝ }
+    ensures { λ r. ⌜ RuleWorks steps.join at next (memory (now (ends .entry)) (now (lengths .entry)) (now (s .entry)) (now (trays .entry)) (now (scratch .entry))) count (now (out .exit)) r
         (memory (now (ends .exit)) (now (lengths .exit)) (now (s .entry)) (now (trays .exit)) (now (scratch .exit))) ⌝ }
 {
     unpack_two(count, &mut *ends, &*lengths, &mut *trays, &mut *scratch);
@@ -384,9 +386,9 @@ fn validate(
     scratch: &mut [u8],
     out: &mut [u8],
 ) -> Worked
-    requires { ⌜ Ready 1 (memory (now ends) (now lengths) (now s) (now trays) (now scratch)) count (now out) × ((t : Ty) × (lone (now spec) ≡ accepted t)) ⌝ }
+    requires { ⌜ Ready 1 (memory (now ends) (now lengths) (now s) (now trays) (now scratch)) count × ((t : Ty) × (lone (now spec) ≡ accepted t)) ⌝ }
     ensures { λ r. ⌜ ((t : Ty) → lone (now (spec .entry)) ≡ accepted t
-        → StepWorks (steps.validating t) at next (memory (now (ends .entry)) (now (lengths .entry)) (now (s .entry)) (now (trays .entry)) (now (scratch .entry))) count r
+        → RuleWorks (steps.validating t) at next (memory (now (ends .entry)) (now (lengths .entry)) (now (s .entry)) (now (trays .entry)) (now (scratch .entry))) count (now (out .exit)) r
         (memory (now (ends .exit)) (now (lengths .exit)) (now (s .entry)) (now (trays .exit)) (now (scratch .exit)))) ⌝ }
 {
     unpack_top(count, &mut *ends, &*lengths, &mut *trays, &mut *scratch);
@@ -405,7 +407,8 @@ fn validate(
     )
 }
 
-// What a rule made of the types above the k lowest takes their place; a refusal of the rule names the step's mark.
+// What a rule made of the types above the k lowest takes their place; a refusal of the rule names the step's mark. One of the buffer is
+// no refusal of the sheet.
 fn lay_down(
     count: usize,
     ends: &mut [usize],
@@ -437,6 +440,21 @@ fn lay_down(
                 count: k + 1,
             }
         }
-        Written::Refused { number, place: _ } => refuse(count, number, at),
+        Written::Refused { number, place: _ } => {
+            if number == TOO_SHORT && out.len() < MAX_BYTES {
+                return wait(count, at);
+            }
+            refuse(count, number, at)
+        }
+    }
+}
+
+// The stack is left to the step until it has a longer buffer; its own place says so, since no step ends where it begins.
+fn wait(count: usize, at: usize) -> Worked
+    ensures { λ r. ⌜ (r .answer ≡ Reached.At at) × (r .count ≡ count) ⌝ }
+{
+    Worked {
+        answer: Reached::At(at),
+        count,
     }
 }

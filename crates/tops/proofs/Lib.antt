@@ -1,2 +1,4 @@
 mod RuleLaws
+mod PlainLaws
 pub mod TopLaws
+mod ValidateLaws

@@ -1,21 +1,22 @@
--- What a rule wrote to a buffer that holds any type, and what a pervading makes of bytes that are types.
-use Prim.Native.Nat.{ℕ, _≤_}
+-- What a rule wrote to a buffer, and what a pervading makes of bytes that are types.
+use Prim.Native.Nat.{ℕ}
 use native.Mathlib.Omega.{arith}
-use mathlib.Core.Bool.{Bool}
+use mathlib.Core.Bool.{Bool, true, false, cond}
 use mathlib.Core.List.{List, _++_}
+use mathlib.Core.Logic.{_⊎_, inl, inr}
 use mathlib.Core.Option.{none, some}
 use mathlib.Core.Path.{_≡_, refl, sym, _∙_, ap}
 use lib.ListN.{length, drop, length-append}
 use lib.Seq.{take-append-seam}
-use borrow.Author.Tests.{le-leb}
-use Rattle.model.specs.Limits.{maxBytes}
-use Rattle.model.specs.Refusals.{unpervaded}
+use lib.Dec.{leb}
+use borrow.Author.Tests.{leb-false}
+use Rattle.model.specs.Refusals.{unpervaded, tooShort}
 use Rattle.model.specs.Types.{Shape, Scalar, Ty, ty, shapeOf, scalarOf}
 use Rattle.model.specs.Within.{Within}
 use Rattle.format.specs.Records.{writeTy}
 use Rattle.format.specs.Suffices.{suffices}
 use Rattle.format.specs.Outcome.{Outcome, accepted, refused, mapped, both, delivery, deliver}
-use Rattle.lent.specs.Written.{delivered, Puts}
+use Rattle.lent.specs.Written.{delivered, Puts, Short}
 use Rattle.lent.specs.declared.Written.{Written}
 use Rattle.lent.specs.declared.Written.the-variants.{Wrote, Refused as Unwritten}
 use Rattle.record.specs.Answers.{nothings}
@@ -29,25 +30,31 @@ use Rattle.tops.specs.Answers.{atStart}
 -- ---- what a rule wrote
 
 module _ (o : Outcome Ty) (w : Written) (out : List ℕ) where
-  -- where any type has room, only the rule refuses
+  -- where the rule does not refuse, the buffer may: it is then shorter than a type
   pub delivered-puts : (before : List ℕ) → delivered w out ≡ deliver (mapped writeTy o) before
-      → ((t : Ty) → o ≡ accepted t → Within t) → maxBytes ≤ length before → Puts w out (mapped writeTy o)
+      → ((t : Ty) → o ≡ accepted t → Within t) → Puts w out (mapped writeTy o) ⊎ Short w out
   unfolding deliver
-  delivered-puts before e keeps room = go w o refl e
+  delivered-puts before e keeps = go w o refl e
     where
-      go : (v : Written) (x : Outcome Ty) → o ≡ x → delivered v out ≡ deliver (mapped writeTy x) before → Puts v out (mapped writeTy x)
-      go (Unwritten k p) (refused j q) same e = cc
+      go : (v : Written) (x : Outcome Ty) → o ≡ x → delivered v out ≡ deliver (mapped writeTy x) before → Puts v out (mapped writeTy x) ⊎ Short v out
+      go (Unwritten k p) (refused j q) same e = inl (cc)
       go (Wrote n) (refused j q) same e = let z : _≡_ {A = ℕ} 0 1 = cc in absurd (omega arith)
-      go v (accepted t) same e =
-          let fits : length (writeTy t) ≤ length before = omega (arith, suffices t (keeps t same)) in
-          wrote v (rw (le-leb (length (writeTy t)) (length before) fits) at e)
+      go v (accepted t) same e = fits (leb (length (writeTy t)) (length before)) refl v e
         where
-          wrote : (v : Written) → delivered v out ≡ delivery (accepted (length (writeTy t))) (writeTy t ++ drop (length (writeTy t)) before) → Puts v out (accepted (writeTy t))
-          wrote (Unwritten k p) e = let z : _≡_ {A = ℕ} 0 1 = cc in absurd (omega arith)
-          wrote (Wrote n) e =
+          fits : (b : Bool) → leb (length (writeTy t)) (length before) ≡ b → (v : Written)
+              → delivered v out ≡ cond b (delivery (accepted (length (writeTy t))) (writeTy t ++ drop (length (writeTy t)) before)) (delivery (refused tooShort 0) before)
+              → Puts v out (accepted (writeTy t)) ⊎ Short v out
+          fits true h (Unwritten k p) e = let z : _≡_ {A = ℕ} 0 1 = cc in absurd (omega arith)
+          fits true h (Wrote n) e =
               let x : n ≡ length (writeTy t) = cc in
               let y : out ≡ writeTy t ++ drop (length (writeTy t)) before = cc in
-              rw (x, y) (ap accepted (sym (take-append-seam (writeTy t) (drop (length (writeTy t)) before))), rw length-append (omega arith))
+              inl (rw (x, y) (ap accepted (sym (take-append-seam (writeTy t) (drop (length (writeTy t)) before))), rw length-append (omega arith)))
+          fits false h (Wrote n) e = let z : _≡_ {A = ℕ} 0 1 = cc in absurd (omega arith)
+          fits false h (Unwritten k p) e =
+              let x : k ≡ tooShort = cc in
+              let y : p ≡ 0 = cc in
+              let z : out ≡ before = cc in
+              inr (rw (x, y), rw z (omega (arith, leb-false (length (writeTy t)) (length before) h, suffices t (keeps t same))))
 
 -- ---- a pervading
 

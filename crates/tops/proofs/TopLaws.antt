@@ -48,7 +48,7 @@ module _ (m : Memory) (count : ℕ) where
   below-lone found t u ts h = let l = stacked-below m count h in bytes-lone (found u l) (l .within)
 
 -- what the stack asks for before it hands out the record of one of so many on top
-module _ (few : ℕ) (ends lengths s trays d : List ℕ) (count : ℕ) (out : List ℕ) (ready : Workable few (memory ends lengths s trays d) count out) where
+module _ (few : ℕ) (ends lengths s trays d : List ℕ) (count : ℕ) (ready : Workable few (memory ends lengths s trays d) count) where
   pub record-there : (k : ℕ) → k < count → count ≤ k + few
       → ((d : List ℕ) × HasOne (memory ends lengths s trays d) k) × NotPacked ends k × (k < length ends) × (k < length lengths)
   record-there k less high =

@@ -1,92 +1,100 @@
 use native.Mathlib.Omega.{arith}
-use mathlib.Core.Path.{sym, _∙_, ap}
 use Rattle.model.specs.Limits.{maxDepth}
-use Rattle.format.specs.Outcome.{lone, deliver}
-use Rattle.lent.specs.Delivers.{deliver-refused}
-use Rattle.record.specs.Answers.{shapeFor}
-use Rattle.known.specs.WholeLaws.{first-good, second-good, has-types, whole-shape}
-use Rattle.shape.specs.Answers.{shapeBeside}
-use Rattle.tops.proofs.RuleLaws.{types-clash, types-pervade}
+use Rattle.format.specs.Reader.{Bytes}
+use Rattle.lent.specs.Delivers.{deliver-as}
+use Rattle.known.specs.WholeLaws.{first-good, second-good, has-types}
+use Rattle.tops.proofs.PlainLaws.{whole-closed, types-plain}
 use borrow.Author.Needs.{needs}
 use Rattle.tops.proofs.pervade_types.Statement.{statement}
 use Rattle.tops.proofs.pervade_types.Tie as tie
-use Rattle.tops.proofs.pervade_types.Reads as reads
-use Rattle.tops.proofs.pervade_types.Lts as lts
-use Rattle.join.proofs.write_union.Reads as write-union-reads
-use Rattle.known.proofs.shape_at.Reads as shape-at-reads
-use Rattle.shape.proofs.pervade_dyn_shapes.Reads as pervade-dyn-shapes-reads
 
-shape-at-requires : tie.Need-shape-at-requires
-shape-at-requires c κs =
+closed-at-requires : tie.Need-closed-at-requires
+closed-at-requires c κs =
     let entry = c .before .before .before in
     let at-shared-slice-known = c .before .before in
-    let known = has-types _ _ (entry .pre) (λ i. omega (arith, at-shared-slice-known .shared-slice-known .given i)) (λ i. omega (arith, c .before .shared-slice-known2 .given i)) in
-    (maxDepth, known .0)
+    let small : Bytes (entry .args .a .now) = λ i. omega (arith, at-shared-slice-known .shared-slice-known .given i) in
+    let small′ : Bytes (entry .args .b .now) = λ i. omega (arith, c .before .shared-slice-known2 .given i) in
+    (maxDepth, has-types _ _ (entry .pre) small small′ .0)
 
-shape-at-requires-2 : tie.Need-shape-at-requires-2
-shape-at-requires-2 c κs =
-    let entry = c .before .before .before .before in
-    let at-shared-slice-known = c .before .before .before in
-    let at-shared-slice-known2 = c .before .before in
-    let known = has-types _ _ (entry .pre) (λ i. omega (arith, at-shared-slice-known .shared-slice-known .given i)) (λ i. omega (arith, at-shared-slice-known2 .shared-slice-known2 .given i)) in
-    (maxDepth, known .1)
+closed-at-requires-2 : tie.Need-closed-at-requires-2
+closed-at-requires-2 c κs =
+    let entry = c .before .before .before .before .before in
+    let at-shared-slice-known = c .before .before .before .before in
+    let at-shared-slice-known2 = c .before .before .before in
+    let small : Bytes (entry .args .a .now) = λ i. omega (arith, at-shared-slice-known .shared-slice-known .given i) in
+    let small′ : Bytes (entry .args .b .now) = λ i. omega (arith, at-shared-slice-known2 .shared-slice-known2 .given i) in
+    (maxDepth, has-types _ _ (entry .pre) small small′ .1)
 
-pervade-dyn-shapes-requires : tie.Need-pervade-dyn-shapes-requires
-pervade-dyn-shapes-requires c κs = search needs
+union-kind-requires : tie.Need-union-kind-requires
+union-kind-requires c κs = search needs
 
-enum-told : tie.Need-enum-told
-enum-told c = search needs
+opening-at-requires : tie.Need-opening-at-requires
+opening-at-requires c κs =
+    let entry = c .before .before .before .before .before .before .before .before .before in
+    let at-shared-slice-known = c .before .before .before .before .before .before .before .before in
+    let at-shared-slice-known2 = c .before .before .before .before .before .before .before in
+    let small : Bytes (entry .args .a .now) = λ i. omega (arith, at-shared-slice-known .shared-slice-known .given i) in
+    let small′ : Bytes (entry .args .b .now) = λ i. omega (arith, at-shared-slice-known2 .shared-slice-known2 .given i) in
+    (maxDepth, has-types _ _ (entry .pre) small small′ .0)
 
-returns : tie.Need-returns
-returns c =
-    let entry = c .before .before .before .before .before .before .before .before in
-    let at-shared-slice-known = c .before .before .before .before .before .before .before in
-    let at-shared-slice-known2 = c .before .before .before .before .before .before in
-    let at-shape-at = c .before .before .before .before in
-    let at-shape-at2 = c .before .before .before in
-    let at-pervade-dyn-shapes = c .before .before in
-    let args = entry .args in
-    let first = whole-shape (args .a .now) (λ i. omega (arith, at-shared-slice-known .shared-slice-known .given i)) (first-good _ _ (entry .pre)) (at-shape-at .shape-at .result) (at-shape-at .shape-at .ensures) in
-    let second = whole-shape (args .b .now) (λ i. omega (arith, at-shared-slice-known2 .shared-slice-known2 .given i)) (second-good _ _ (entry .pre)) (at-shape-at2 .shape-at2 .result) (at-shape-at2 .shape-at2 .ensures) in
-    let clash = sym (at-pervade-dyn-shapes .pervade-dyn-shapes .ensures) ∙ ap (λ v. shapeBeside v (shapeFor (at-pervade-dyn-shapes .pervade-dyn-shapes .result .shape))) (c .enum-told .given .1) in
-    sym (deliver-refused _ (types-clash (args .a-fill) (args .b-fill) (lone (args .a .now)) (lone (args .b .now)) first second (entry .pre) clash))
+opening-at-requires-2 : tie.Need-opening-at-requires-2
+opening-at-requires-2 c κs =
+    let entry = c .before .before .before .before .before .before .before .before .before .before in
+    let at-shared-slice-known = c .before .before .before .before .before .before .before .before .before in
+    let at-shared-slice-known2 = c .before .before .before .before .before .before .before .before in
+    let small : Bytes (entry .args .a .now) = λ i. omega (arith, at-shared-slice-known .shared-slice-known .given i) in
+    let small′ : Bytes (entry .args .b .now) = λ i. omega (arith, at-shared-slice-known2 .shared-slice-known2 .given i) in
+    (maxDepth, has-types _ _ (entry .pre) small small′ .1)
 
-enum-told-2 : tie.Need-enum-told-2
-enum-told-2 c = search needs
-
-write-union-requires : tie.Need-write-union-requires
-write-union-requires c κs = search needs
+pervade-plain-requires : tie.Need-pervade-plain-requires
+pervade-plain-requires c κs = search needs
 
 same-length : tie.Need-same-length
 same-length c = search needs
 
-returns-2 : tie.Need-returns-2
-returns-2 c =
-    let entry = c .before .before .before .before .before .before .before .before .before .before .before .before .before in
-    let at-shared-slice-known = c .before .before .before .before .before .before .before .before .before .before .before .before in
-    let at-shared-slice-known2 = c .before .before .before .before .before .before .before .before .before .before .before in
-    let at-shape-at = c .before .before .before .before .before .before .before .before .before in
-    let at-shape-at2 = c .before .before .before .before .before .before .before .before in
-    let at-pervade-dyn-shapes = c .before .before .before .before .before .before .before in
-    let at-enum-told2 = c .before .before .before .before .before in
-    let at-write-union = c .before .before in
+returns : tie.Need-returns
+returns c =
+    let entry = c .before .before .before .before .before .before .before .before .before .before .before .before .before .before .before in
+    let at-shared-slice-known = c .before .before .before .before .before .before .before .before .before .before .before .before .before .before in
+    let at-shared-slice-known2 = c .before .before .before .before .before .before .before .before .before .before .before .before .before in
+    let at-closed-at = c .before .before .before .before .before .before .before .before .before .before .before in
+    let at-if1 = c .before .before .before .before .before .before .before .before .before .before in
+    let at-closed-at2 = c .before .before .before .before .before .before .before .before .before in
+    let at-if2 = c .before .before .before .before .before .before .before .before in
+    let at-union-kind = c .before .before .before .before .before .before .before in
+    let at-if3 = c .before .before .before .before .before .before in
+    let at-opening-at = c .before .before .before .before .before in
+    let at-opening-at2 = c .before .before .before .before in
+    let at-pervade-plain = c .before .before in
     let args = entry .args in
-    let first = whole-shape (args .a .now) (λ i. omega (arith, at-shared-slice-known .shared-slice-known .given i)) (first-good _ _ (entry .pre)) (at-shape-at .shape-at .result) (at-shape-at .shape-at .ensures) in
-    let second = whole-shape (args .b .now) (λ i. omega (arith, at-shared-slice-known2 .shared-slice-known2 .given i)) (second-good _ _ (entry .pre)) (at-shape-at2 .shape-at2 .result) (at-shape-at2 .shape-at2 .ensures) in
-    let meets = sym (at-pervade-dyn-shapes .pervade-dyn-shapes .ensures) ∙ ap (λ v. shapeBeside v (shapeFor (at-pervade-dyn-shapes .pervade-dyn-shapes .result .shape))) (at-enum-told2 .enum-told2 .given .1) in
-    let made = types-pervade (args .a-fill) (args .b-fill) (lone (args .a .now)) (lone (args .b .now)) first second meets in
-    at-write-union .write-union .ensures ∙ ap (λ o. deliver o (args .out .now)) made
+    let small : Bytes (entry .args .a .now) = λ i. omega (arith, at-shared-slice-known .shared-slice-known .given i) in
+    let small′ : Bytes (entry .args .b .now) = λ i. omega (arith, at-shared-slice-known2 .shared-slice-known2 .given i) in
+    let first = whole-closed (args .a .now) small (first-good _ _ (entry .pre)) (at-opening-at .opening-at .ensures) (at-closed-at .closed-at .ensures) (at-if1 .if1 .taken) in
+    let second = whole-closed (args .b .now) small′ (second-good _ _ (entry .pre)) (at-opening-at2 .opening-at2 .ensures) (at-closed-at2 .closed-at2 .ensures) (at-if2 .if2 .taken) in
+    deliver-as (args .out .now) (at-pervade-plain .pervade-plain .ensures)
+    (types-plain (args .a-fill) (args .b-fill) (args .a .now) (args .b .now) (entry .pre) first second (at-union-kind .union-kind .ensures) (at-if3 .if3 .taken))
+
+pervade-any-requires : tie.Need-pervade-any-requires
+pervade-any-requires c κs = search needs
+
+same-length-2 : tie.Need-same-length-2
+same-length-2 c = search needs
+
+returns-2 : tie.Need-returns-2
+returns-2 c = search needs
 
 pub pervade-types-spec : {M : Type 1} → statement M
 pervade-types-spec =
     tie.close
     (tie.spec
-    shape-at-requires
-    shape-at-requires-2
-    pervade-dyn-shapes-requires
-    enum-told
-    returns
-    enum-told-2
-    write-union-requires
+    closed-at-requires
+    closed-at-requires-2
+    union-kind-requires
+    opening-at-requires
+    opening-at-requires-2
+    pervade-plain-requires
     same-length
+    returns
+    pervade-any-requires
+    same-length-2
     returns-2)

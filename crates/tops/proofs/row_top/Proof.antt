@@ -22,7 +22,7 @@ bytes-of-requires : tie.Need-bytes-of-requires
 bytes-of-requires c κs =
     let entry = c .before .before .before .before .before in
     let args = entry .args in
-    record-there 1 (args .ends .now) (args .lengths .now) (args .s .now) (args .trays .now) (entry .pre .0) (args .count) (args .out .now) (entry .pre .1) (args .count - 1) (omega (arith, entry .pre .1 .enough)) (omega arith)
+    record-there 1 (args .ends .now) (args .lengths .now) (args .s .now) (args .trays .now) (entry .pre .0) (args .count) (entry .pre .1) (args .count - 1) (omega (arith, entry .pre .1 .enough)) (omega arith)
 
 row-known-requires : tie.Need-row-known-requires
 row-known-requires c κs =
@@ -44,7 +44,7 @@ returns c =
     λ d t ts h.
     let m = memory (args .ends .now) (args .lengths .now) (args .s .now) (args .trays .now) d in
     let here = top-lone m (args .count) (at-bytes-of .bytes-of .ensures d) t ts h in
-    delivered-puts (accepted (intoRow t)) (at-row-known .row-known .result) _ (args .out .now) (at-row-known .row-known .ensures ∙ rw here) (row-within t (stacked-top m (args .count) h .within)) (entry .pre .1 .room)
+    delivered-puts (accepted (intoRow t)) (at-row-known .row-known .result) _ (args .out .now) (at-row-known .row-known .ensures ∙ rw here) (row-within t (stacked-top m (args .count) h .within))
 
 pub row-top-spec : {M : Type 1} → statement M
 row-top-spec =

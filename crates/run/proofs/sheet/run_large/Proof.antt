@@ -2,6 +2,7 @@ use Prim.Native.Nat.{ℕ, _≤_}
 use native.Mathlib.Omega.{arith}
 use mathlib.Core.Path.{refl}
 use lib.ListN.{length, length-replicate}
+use Rattle.model.specs.Limits.{maxBytes}
 use Rattle.stack.specs.Stack.{fullTrays}
 use Rattle.stack.specs.KeepsLaws.{trays-keep}
 use Rattle.run.proofs.SheetLaws.{state-kept, some-here, stopped-has, run-finished, run-refused}
@@ -22,7 +23,7 @@ run-steps-requires c κs =
     let entry = c .before .before .before .before .before .before .before .before .before .before .before .before .before .before .before in
     let args = entry .args in
     let kept = trays-keep (args .ends .now) (args .lengths .now) (args .sheet .now) (entry .pre .1 .0) _ (args .scratch .now) (args .count) (entry .pre .3) in
-    (entry .pre .0, has-kept _ _ (args .count) kept (entry .pre .1 .1), entry .pre .2)
+    (has-kept _ _ (args .count) kept (entry .pre .1 .1), entry .pre .2)
 
 enum-told : tie.Need-enum-told
 enum-told c = search needs
@@ -38,7 +39,7 @@ hand-over-requires c κs =
     let args = entry .args in
     let kept = trays-keep (args .ends .now) (args .lengths .now) (args .sheet .now) (entry .pre .1 .0) _ (args .scratch .now) (args .count) (entry .pre .3) in
     let here = state-kept (some-here (entry .pre .1 .1) (entry .pre .2) (args .taken)) refl kept in
-    stopped-has (at-run-steps .run-steps .result) _ _ _ (at-run-steps .run-steps .ensures _ here) (at-enum-told .enum-told .given .1)
+    stopped-has (at-run-steps .run-steps .result) _ _ _ _ (at-run-steps .run-steps .ensures _ here) (at-enum-told .enum-told .given .1)
 
 enum-known-answer : tie.Need-enum-known-answer
 enum-known-answer c = search needs
@@ -74,8 +75,9 @@ returns c =
     λ small st h same.
     let kept = trays-keep (args .ends .now) (args .lengths .now) (args .sheet .now) small _ (args .scratch .now) (args .count) (entry .pre .3) in
     let runs = at-run-steps .run-steps .ensures st (state-kept h refl kept) in
-    let room : fullTrays ≤ length (at-run-steps .run-steps .last .1 .1 .1 .1 .1 .1 .1 .1 .1 .0) = omega (arith, at-run-steps .run-steps .kept .1 .1 .1 .1 .1 .1 .1 .1 .1 .0, length-replicate {A = ℕ} fullTrays 0) in
-    run-finished (at-run-steps .run-steps .result) _ _ _ runs same (at-enum-told .enum-told .given .1) room λ ts left e. at-hand-over .hand-over .ensures ts left e
+    let trays-room : fullTrays ≤ length (at-run-steps .run-steps .last .1 .1 .1 .1 .1 .1 .1 .1 .1 .0) = omega (arith, at-run-steps .run-steps .kept .1 .1 .1 .1 .1 .1 .1 .1 .1 .0, length-replicate {A = ℕ} fullTrays 0) in
+    let out-room : maxBytes ≤ length (at-run-steps .run-steps .last .1 .1 .1 .1 .1 .1 .1 .1 .1 .1 .1 .0) = omega (arith, entry .pre .0, at-run-steps .run-steps .kept .1 .1 .1 .1 .1 .1 .1 .1 .1 .1 .1 .0) in
+    run-finished (at-run-steps .run-steps .result) _ _ _ _ runs same (at-enum-told .enum-told .given .1) trays-room out-room λ ts left e. at-hand-over .hand-over .ensures ts left e
 
 same-length-8 : tie.Need-same-length-8
 same-length-8 c = search needs
@@ -104,7 +106,7 @@ returns-2 c =
     λ small st h same.
     let kept = trays-keep (args .ends .now) (args .lengths .now) (args .sheet .now) small _ (args .scratch .now) (args .count) (entry .pre .3) in
     let runs = at-run-steps .run-steps .ensures st (state-kept h refl kept) in
-    record { called = run-refused (at-run-steps .run-steps .result) _ _ _ runs same (at-answer .answer .given .1) _; measured = tt }
+    record { called = run-refused (at-run-steps .run-steps .result) _ _ _ _ runs same (at-answer .answer .given .1) _; measured = tt }
 
 pub run-large-spec : {M : Type 1} → statement M
 run-large-spec =

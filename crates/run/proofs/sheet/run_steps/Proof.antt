@@ -3,11 +3,12 @@ use native.Mathlib.Omega.{arith}
 use mathlib.Core.Path.{_≡_, refl, _∙_}
 use mathlib.Core.Logic.{inl, inr}
 use lib.ListN.{length}
+use Rattle.format.specs.Reader.{Bytes}
 use Rattle.machine.specs.SheetLimits.{maxSteps}
 use Rattle.machine.specs.Sheet.{sheetFrom}
 use Rattle.stack.specs.Stack.{memory}
 use Rattle.step.specs.Answers.{nameTable}
-use Rattle.run.proofs.SheetLaws.{GoingFrom, going-over, going-rest, going-step, going-stop, going-has, going-names}
+use Rattle.run.proofs.SheetLaws.{GoingFrom, going-over, going-ends, going-step, going-stop, going-waits, going-has, going-names}
 use borrow.Author.Needs.{needs}
 use Rattle.run.proofs.sheet.run_steps.Statement.{statement}
 use Rattle.run.proofs.sheet.run_steps.Tie as tie
@@ -81,7 +82,7 @@ wants-trays-requires c κs =
     let t₁ = nameTable (at-loop .loop .places) (at-loop .loop .bounds) in
     let m = memory (args .ends .now) (args .lengths .now) (args .s .now) (args .trays .now) (args .scratch .now) in
     let t = nameTable (args .places .now) (args .bounds .now) in
-    (at-loop .loop .ends, args .s .now, at-loop .loop .scratch, going-has m t (args .count) (args .named) (args .taken) (args .start) {m = m₁} {t = t₁} (entry .pre .1) (entry .pre .2) (at-loop .loop .inv .7))
+    (at-loop .loop .ends, args .s .now, at-loop .loop .scratch, going-has m t (args .count) (args .named) (args .taken) (args .start) {m = m₁} {t = t₁} (entry .pre .0) (entry .pre .1) (at-loop .loop .inv .7))
 
 same-length-8 : tie.Need-same-length-8 Inv-loop μ-loop
 same-length-8 c =
@@ -124,7 +125,7 @@ returns-2 c =
     let at-loop = at-wants-trays .before .before .before .before .before in
     let entry = at-loop .before .before .before .before .before .before .before .before .before in
     let args = entry .args in
-    λ st h. going-rest (sheetFrom (args .s .now) st (args .start)) (at-loop .loop .inv .7 st h) (inr (at-wants-trays .wants-trays .ensures .0 (c .if2 .taken)))
+    λ st h. going-ends (sheetFrom (args .s .now) st (args .start)) (at-loop .loop .inv .7 st h) (inr (inl (at-wants-trays .wants-trays .ensures .0 (c .if2 .taken))))
 
 work-step-requires : tie.Need-work-step-requires Inv-loop μ-loop
 work-step-requires c κs =
@@ -139,11 +140,10 @@ work-step-requires c κs =
     let t = nameTable (args .places .now) (args .bounds .now) in (
       record {
         enough = omega arith;
-        room = omega (arith, at-loop .loop .inv .6, entry .pre .0);
-        has = going-has m t (args .count) (args .named) (args .taken) (args .start) {m = m₁} {t = t₁} (entry .pre .1) (entry .pre .2) (at-loop .loop .inv .7);
+        has = going-has m t (args .count) (args .named) (args .taken) (args .start) {m = m₁} {t = t₁} (entry .pre .0) (entry .pre .1) (at-loop .loop .inv .7);
         fit = at-wants-trays .wants-trays .ensures .1 (at-if2 .if2 .left);
       },
-      going-names m t (args .count) (args .named) (args .taken) (args .start) {m = m₁} {t = t₁} (entry .pre .1) (entry .pre .2) (at-loop .loop .inv .7),
+      going-names m t (args .count) (args .named) (args .taken) (args .start) {m = m₁} {t = t₁} (entry .pre .0) (entry .pre .1) (at-loop .loop .inv .7),
     )
 
 enum-known-answer : tie.Need-enum-known-answer Inv-loop μ-loop
@@ -207,6 +207,63 @@ returns-3 c =
     let to = at-work-step .work-step .ensures (g .state) (g .here .stacked) (g .here .in-force) in
     rw (c .enum-told .given .1) (going-stop (sheetFrom (args .s .now) st (args .start)) g (at-if1 .if1 .left) (at-loop-test .loop-test .taken) (at-work-step .work-step .result) _ _ refl to (c .enum-told .given .1))
 
+same-length-22 : tie.Need-same-length-22 Inv-loop μ-loop
+same-length-22 c =
+    let at-work-step = c .before .before .before .before .before .before .before .before .before .before .before .before .before .before .before .before .before .before in
+    let at-loop = at-work-step .before .before .before .before .before .before .before .before .before .before .before .before .before .before in
+    at-work-step .work-step .kept .1 .1 .1 .1 .0 ∙ at-loop .loop .inv .0
+
+same-length-23 : tie.Need-same-length-23 Inv-loop μ-loop
+same-length-23 c =
+    let at-work-step = c .before .before .before .before .before .before .before .before .before .before .before .before .before .before .before .before .before .before in
+    let at-loop = at-work-step .before .before .before .before .before .before .before .before .before .before .before .before .before .before in
+    at-work-step .work-step .kept .1 .1 .1 .1 .1 .0 ∙ at-loop .loop .inv .1
+
+same-length-24 : tie.Need-same-length-24 Inv-loop μ-loop
+same-length-24 c =
+    let at-work-step = c .before .before .before .before .before .before .before .before .before .before .before .before .before .before .before .before .before .before in
+    let at-loop = at-work-step .before .before .before .before .before .before .before .before .before .before .before .before .before .before in
+    at-work-step .work-step .kept .1 .1 .1 .1 .1 .1 .0 ∙ at-loop .loop .inv .2
+
+same-length-25 : tie.Need-same-length-25 Inv-loop μ-loop
+same-length-25 c =
+    let at-work-step = c .before .before .before .before .before .before .before .before .before .before .before .before .before .before .before .before .before .before in
+    let at-loop = at-work-step .before .before .before .before .before .before .before .before .before .before .before .before .before .before in
+    at-work-step .work-step .kept .1 .1 .1 .1 .1 .1 .1 .0 ∙ at-loop .loop .inv .3
+
+same-length-26 : tie.Need-same-length-26 Inv-loop μ-loop
+same-length-26 c =
+    let at-work-step = c .before .before .before .before .before .before .before .before .before .before .before .before .before .before .before .before .before .before in
+    let at-loop = at-work-step .before .before .before .before .before .before .before .before .before .before .before .before .before .before in
+    at-work-step .work-step .kept .1 .1 .1 .1 .1 .1 .1 .1 .0 ∙ at-loop .loop .inv .4
+
+same-length-27 : tie.Need-same-length-27 Inv-loop μ-loop
+same-length-27 c =
+    let at-work-step = c .before .before .before .before .before .before .before .before .before .before .before .before .before .before .before .before .before .before in
+    let at-loop = at-work-step .before .before .before .before .before .before .before .before .before .before .before .before .before .before in
+    at-work-step .work-step .kept .1 .1 .1 .1 .1 .1 .1 .1 .1 .0 ∙ at-loop .loop .inv .5
+
+same-length-28 : tie.Need-same-length-28 Inv-loop μ-loop
+same-length-28 c =
+    let at-work-step = c .before .before .before .before .before .before .before .before .before .before .before .before .before .before .before .before .before .before in
+    let at-loop = at-work-step .before .before .before .before .before .before .before .before .before .before .before .before .before .before in
+    at-work-step .work-step .kept .1 .1 .1 .1 .1 .1 .1 .1 .1 .1 .0 ∙ at-loop .loop .inv .6
+
+returns-4 : tie.Need-returns-4 Inv-loop μ-loop
+returns-4 c =
+    let at-answer = c .before .before in
+    let at-work-step = at-answer .before .before .before .before .before .before .before .before .before .before .before .before .before .before .before .before in
+    let at-if1 = at-work-step .before .before .before .before .before .before .before .before .before .before .before .before in
+    let at-loop-test = at-if1 .before in
+    let at-loop = at-loop-test .before in
+    let at-shared-slice-known = at-loop .before .before .before .before .before .before .before .before in
+    let args = at-shared-slice-known .before .args in
+    let small : Bytes (args .s .now) = λ i. omega (arith, at-shared-slice-known .shared-slice-known .given i) in
+    λ st h.
+    let g = at-loop .loop .inv .7 st h in
+    let to = at-work-step .work-step .ensures (g .state) (g .here .stacked) (g .here .in-force) in
+    going-waits (sheetFrom (args .s .now) st (args .start)) g (at-if1 .if1 .left) (at-loop-test .loop-test .taken) (at-work-step .work-step .result) _ _ refl to small (at-answer .answer .given .1) (c .if3 .taken)
+
 add-steps : tie.Need-add-steps Inv-loop μ-loop
 add-steps c = search needs
 
@@ -215,7 +272,7 @@ loop-less c = search needs
 
 loop-again : tie.Need-loop-again Inv-loop μ-loop
 loop-again c =
-    let at-answer = c .before in
+    let at-answer = c .before .before in
     let at-work-step = at-answer .before .before .before .before .before .before .before .before .before .before .before .before .before .before .before .before in
     let at-if1 = at-work-step .before .before .before .before .before .before .before .before .before .before .before .before in
     let at-loop-test = at-if1 .before in
@@ -232,50 +289,50 @@ loop-again c =
       λ st h.
           let g = at-loop .loop .inv .7 st h in
           let to = at-work-step .work-step .ensures (g .state) (g .here .stacked) (g .here .in-force) in
-          going-step (sheetFrom (args .s .now) st (args .start)) g (at-if1 .if1 .left) (at-loop-test .loop-test .taken) (at-work-step .work-step .result) _ _ refl to (at-answer .answer .given .1),
+          going-step (sheetFrom (args .s .now) st (args .start)) g (at-if1 .if1 .left) (at-loop-test .loop-test .taken) (at-work-step .work-step .result) _ _ refl to (at-answer .answer .given .1) (c .if3 .left),
     )
 
-same-length-22 : tie.Need-same-length-22 Inv-loop μ-loop
-same-length-22 c =
+same-length-29 : tie.Need-same-length-29 Inv-loop μ-loop
+same-length-29 c =
     let at-loop = c .before in
     at-loop .loop .inv .0
 
-same-length-23 : tie.Need-same-length-23 Inv-loop μ-loop
-same-length-23 c =
+same-length-30 : tie.Need-same-length-30 Inv-loop μ-loop
+same-length-30 c =
     let at-loop = c .before in
     at-loop .loop .inv .1
 
-same-length-24 : tie.Need-same-length-24 Inv-loop μ-loop
-same-length-24 c =
+same-length-31 : tie.Need-same-length-31 Inv-loop μ-loop
+same-length-31 c =
     let at-loop = c .before in
     at-loop .loop .inv .2
 
-same-length-25 : tie.Need-same-length-25 Inv-loop μ-loop
-same-length-25 c =
+same-length-32 : tie.Need-same-length-32 Inv-loop μ-loop
+same-length-32 c =
     let at-loop = c .before in
     at-loop .loop .inv .3
 
-same-length-26 : tie.Need-same-length-26 Inv-loop μ-loop
-same-length-26 c =
+same-length-33 : tie.Need-same-length-33 Inv-loop μ-loop
+same-length-33 c =
     let at-loop = c .before in
     at-loop .loop .inv .4
 
-same-length-27 : tie.Need-same-length-27 Inv-loop μ-loop
-same-length-27 c =
+same-length-34 : tie.Need-same-length-34 Inv-loop μ-loop
+same-length-34 c =
     let at-loop = c .before in
     at-loop .loop .inv .5
 
-same-length-28 : tie.Need-same-length-28 Inv-loop μ-loop
-same-length-28 c =
+same-length-35 : tie.Need-same-length-35 Inv-loop μ-loop
+same-length-35 c =
     let at-loop = c .before in
     at-loop .loop .inv .6
 
-returns-4 : tie.Need-returns-4 Inv-loop μ-loop
-returns-4 c =
+returns-5 : tie.Need-returns-5 Inv-loop μ-loop
+returns-5 c =
     let at-loop = c .before in
     let entry = at-loop .before .before .before .before .before .before .before .before .before in
     let args = entry .args in
-    λ st h. going-rest (sheetFrom (args .s .now) st (args .start)) (at-loop .loop .inv .7 st h) (inl (c .loop-test .left))
+    λ st h. going-ends (sheetFrom (args .s .now) st (args .start)) (at-loop .loop .inv .7 st h) (inl (c .loop-test .left))
 
 pub run-steps-spec : {M : Type 1} → statement M
 run-steps-spec =
@@ -312,9 +369,6 @@ run-steps-spec =
     same-length-20
     same-length-21
     returns-3
-    add-steps
-    loop-less
-    loop-again
     same-length-22
     same-length-23
     same-length-24
@@ -322,4 +376,15 @@ run-steps-spec =
     same-length-26
     same-length-27
     same-length-28
-    returns-4)
+    returns-4
+    add-steps
+    loop-less
+    loop-again
+    same-length-29
+    same-length-30
+    same-length-31
+    same-length-32
+    same-length-33
+    same-length-34
+    same-length-35
+    returns-5)

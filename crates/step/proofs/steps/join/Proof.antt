@@ -66,7 +66,7 @@ returns c =
     let args = entry .args in
     let m = memory (args .ends .now) (args .lengths .now) (args .s .now) (args .trays .now) (args .scratch .now) in
     let m₁ = memory (at-unpack-two .unpack-two .last .1 .0) (args .lengths .now) (args .s .now) (at-unpack-two .unpack-two .last .1 .1 .1 .0) (at-unpack-two .unpack-two .last .1 .1 .1 .1 .0) in
-    works-kept join (args .at) (args .next) m m₁ _ (args .count) (at-lay-down .lay-down .result) (at-unpack-two .unpack-two .ensures .0 (args .s .now))
+    works-kept join (args .at) (args .next) m m₁ _ (args .count) _ (at-lay-down .lay-down .result) (at-unpack-two .unpack-two .ensures .0 (args .s .now))
     (works-two m₁ (args .count) (at-join-top .join-top .result) _ (λ t u. accepted (joinTypes t u)) join-within (entry .pre .enough) (at-join-top .join-top .ensures (m₁ .scratch)) join join-step
     (args .at) (args .next) (at-lay-down .lay-down .result) _ (at-lay-down .lay-down .ensures (args .s .now)))
 

@@ -69,7 +69,7 @@ returns c =
     let args = entry .args in
     let m = memory (args .ends .now) (args .lengths .now) (args .s .now) (args .trays .now) (args .scratch .now) in
     let m₁ = memory (at-unpack-two .unpack-two .last .1 .0) (args .lengths .now) (args .s .now) (at-unpack-two .unpack-two .last .1 .1 .1 .0) (at-unpack-two .unpack-two .last .1 .1 .1 .1 .0) in
-    works-kept (pervading (args .top-fill) (args .below-fill)) (args .at) (args .next) m m₁ _ (args .count) (at-lay-down .lay-down .result) (at-unpack-two .unpack-two .ensures .0 (args .s .now))
+    works-kept (pervading (args .top-fill) (args .below-fill)) (args .at) (args .next) m m₁ _ (args .count) _ (at-lay-down .lay-down .result) (at-unpack-two .unpack-two .ensures .0 (args .s .now))
     (works-two m₁ (args .count) (at-pervade-top .pervade-top .result) _ (λ t u. atStart (pervadeTypes (args .top-fill) (args .below-fill) t u))
     (pervade-within (args .top-fill) (args .below-fill)) (entry .pre .enough) (at-pervade-top .pervade-top .ensures (m₁ .scratch)) (pervading (args .top-fill) (args .below-fill))
     (pervade-step (args .top-fill) (args .below-fill)) (args .at) (args .next) (at-lay-down .lay-down .result) _ (at-lay-down .lay-down .ensures (args .s .now)))

@@ -66,7 +66,7 @@ returns c =
     let args = entry .args in
     let m = memory (args .ends .now) (args .lengths .now) (args .s .now) (args .trays .now) (args .scratch .now) in
     let m₁ = memory (at-unpack-top .unpack-top .last .1 .0) (args .lengths .now) (args .s .now) (at-unpack-top .unpack-top .last .1 .1 .1 .0) (at-unpack-top .unpack-top .last .1 .1 .1 .1 .0) in
-    works-kept row (args .at) (args .next) m m₁ _ (args .count) (at-lay-down .lay-down .result) (at-unpack-top .unpack-top .ensures .0 (args .s .now))
+    works-kept row (args .at) (args .next) m m₁ _ (args .count) _ (at-lay-down .lay-down .result) (at-unpack-top .unpack-top .ensures .0 (args .s .now))
     (works-one m₁ (args .count) (at-row-top .row-top .result) _ (λ t. accepted (intoRow t)) row-within (entry .pre .enough) (at-row-top .row-top .ensures (m₁ .scratch)) row row-step (args .at)
     (args .next) (at-lay-down .lay-down .result) _ (at-lay-down .lay-down .ensures (args .s .now)))
 

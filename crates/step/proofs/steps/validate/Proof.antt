@@ -79,7 +79,7 @@ returns c =
     λ spec read.
     let within = lone-write (args .spec .now) (λ i. omega (arith, at-shared-slice-known .shared-slice-known .given i)) spec read .1 in
     let m₁ = memory (at-unpack-top .unpack-top .last .1 .0) (args .lengths .now) (args .s .now) (at-unpack-top .unpack-top .last .1 .1 .1 .0) (at-unpack-top .unpack-top .last .1 .1 .1 .1 .0) in
-    works-kept (validating spec) (args .at) (args .next) m m₁ _ (args .count) (at-lay-down .lay-down .result) (at-unpack-top .unpack-top .ensures .0 (args .s .now))
+    works-kept (validating spec) (args .at) (args .next) m m₁ _ (args .count) _ (at-lay-down .lay-down .result) (at-unpack-top .unpack-top .ensures .0 (args .s .now))
     (works-one m₁ (args .count) (at-validate-top .validate-top .result) _ (λ t. validate unsided spec t) (validated-within spec within) (entry .pre .0 .enough) (at-validate-top .validate-top .ensures spec (m₁ .scratch) read)
     (validating spec) (validate-step spec) (args .at) (args .next) (at-lay-down .lay-down .result) _ (at-lay-down .lay-down .ensures (args .s .now)))
 

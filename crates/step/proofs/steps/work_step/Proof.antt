@@ -1,4 +1,5 @@
 use native.Mathlib.Omega.{arith}
+use mathlib.Core.Logic.{inl}
 use mathlib.Core.Path.{refl}
 use Rattle.format.specs.Reader.{Bytes}
 use Rattle.machine.specs.Steps.{put, row, pervading, join, validating}
@@ -6,7 +7,7 @@ use Rattle.machine.specs.Written.{working, usingName}
 use Rattle.machine.specs.StepsTook.{took-step}
 use Rattle.step.proofs.StepLaws.{put-read, row-read, pervading-read, join-read, validating-read, declaring-read, using-read, step-unread}
 use Rattle.names.specs.TableLaws.{spans-forth, spans-there, spans-lone}
-use Rattle.step.proofs.StepLaws.{worked, declared, used, unworked}
+use Rattle.step.proofs.StepLaws.{worked, worked-or-waits, declared, used, unworked}
 use borrow.Author.Needs.{needs}
 use Rattle.step.proofs.steps.work_step.Statement.{statement}
 use Rattle.step.proofs.steps.work_step.Tie as tie
@@ -56,7 +57,7 @@ row-requires c κs =
     let args = entry .args in
     let small : Bytes (args .s .now) = λ i. omega (arith, at-shared-slice-known .shared-slice-known .given i) in
     let took = took-step (args .s .now) small (args .count) (args .at) (args .at) (working row) _ (row-read (args .s .now) (at-step-at .step-at .ensures) (at-read .read2 .given .1)) in
-    record { enough = took .enough; room = entry .pre .0 .room; has = entry .pre .0 .has; fit = entry .pre .0 .fit }
+    record { enough = took .enough; has = entry .pre .0 .has; fit = entry .pre .0 .fit }
 
 keep-names-requires-2 : tie.Need-keep-names-requires-2
 keep-names-requires-2 c κs = search needs
@@ -73,7 +74,7 @@ pervade-requires c κs =
     let args = entry .args in
     let small : Bytes (args .s .now) = λ i. omega (arith, at-shared-slice-known .shared-slice-known .given i) in
     let took = took-step (args .s .now) small (args .count) (args .at) (args .at) (working (pervading _ _)) _ (pervading-read (args .s .now) (at-step-at .step-at .ensures) (at-read .read3 .given .1)) in
-    record { enough = took .enough; room = entry .pre .0 .room; has = entry .pre .0 .has; fit = entry .pre .0 .fit }
+    record { enough = took .enough; has = entry .pre .0 .has; fit = entry .pre .0 .fit }
 
 keep-names-requires-3 : tie.Need-keep-names-requires-3
 keep-names-requires-3 c κs = search needs
@@ -90,7 +91,7 @@ join-requires c κs =
     let args = entry .args in
     let small : Bytes (args .s .now) = λ i. omega (arith, at-shared-slice-known .shared-slice-known .given i) in
     let took = took-step (args .s .now) small (args .count) (args .at) (args .at) (working join) _ (join-read (args .s .now) (at-step-at .step-at .ensures) (at-read .read4 .given .1)) in
-    record { enough = took .enough; room = entry .pre .0 .room; has = entry .pre .0 .has; fit = entry .pre .0 .fit }
+    record { enough = took .enough; has = entry .pre .0 .has; fit = entry .pre .0 .fit }
 
 keep-names-requires-4 : tie.Need-keep-names-requires-4
 keep-names-requires-4 c κs = search needs
@@ -132,7 +133,7 @@ validate-requires c κs =
     let small : Bytes (args .s .now) = λ i. omega (arith, at-shared-slice-known .shared-slice-known .given i) in
     validating-read (args .s .now) (at-step-at .step-at .ensures) (at-read .read5 .given .1) λ t e x.
     let took = took-step (args .s .now) small (args .count) (args .at) (args .at) (working (validating t)) _ e in
-    (record { enough = took .enough; room = entry .pre .0 .room; has = entry .pre .0 .has; fit = entry .pre .0 .fit }, (t, spans-lone (args .s .now) _ _ t x))
+    (record { enough = took .enough; has = entry .pre .0 .has; fit = entry .pre .0 .fit }, (t, spans-lone (args .s .now) _ _ t x))
 
 keep-names-requires-5 : tie.Need-keep-names-requires-5
 keep-names-requires-5 c κs = search needs
@@ -193,7 +194,7 @@ returns c =
     λ st h force.
     put-read (args .s .now) (at-step-at .step-at .ensures) (at-read .read .given .1) λ t e x.
     let laid = at-put .put .ensures (args .s .now) (args .trays .now) (args .scratch .now) t (args .at) (x .within) (x .reaches) (x .stands) in
-    rw (answer, count, named) (worked (args .s .now) (args .at) st h force (at-put .put .result) _ refl (put t) e laid)
+    rw (answer, count, named) (inl (worked (args .s .now) (args .at) st h force (at-put .put .result) _ refl (put t) e (laid (st .stack) h)))
 
 same-length-3 : tie.Need-same-length-3
 same-length-3 c = search needs
@@ -220,7 +221,7 @@ returns-2 c =
     let (answer, count, named) = c .keep-names2 .ensures in
     λ st h force.
     let read = row-read (args .s .now) (at-step-at .step-at .ensures) (at-read .read2 .given .1) in
-    rw (answer, count, named) (worked (args .s .now) (args .at) st h force (at-row .row .result) _ refl row read (at-row .row .ensures))
+    rw (answer, count, named) (worked-or-waits (args .s .now) (args .at) st h force (at-row .row .result) _ refl row read _ (at-row .row .ensures))
 
 same-length-8 : tie.Need-same-length-8
 same-length-8 c = search needs
@@ -247,7 +248,7 @@ returns-3 c =
     let (answer, count, named) = c .keep-names3 .ensures in
     λ st h force.
     let read = pervading-read (args .s .now) (at-step-at .step-at .ensures) (at-read .read3 .given .1) in
-    rw (answer, count, named) (worked (args .s .now) (args .at) st h force (at-pervade .pervade .result) _ refl (pervading _ _) read (at-pervade .pervade .ensures))
+    rw (answer, count, named) (worked-or-waits (args .s .now) (args .at) st h force (at-pervade .pervade .result) _ refl (pervading _ _) read _ (at-pervade .pervade .ensures))
 
 same-length-13 : tie.Need-same-length-13
 same-length-13 c = search needs
@@ -274,7 +275,7 @@ returns-4 c =
     let (answer, count, named) = c .keep-names4 .ensures in
     λ st h force.
     let read = join-read (args .s .now) (at-step-at .step-at .ensures) (at-read .read4 .given .1) in
-    rw (answer, count, named) (worked (args .s .now) (args .at) st h force (at-join .join .result) _ refl join read (at-join .join .ensures))
+    rw (answer, count, named) (worked-or-waits (args .s .now) (args .at) st h force (at-join .join .result) _ refl join read _ (at-join .join .ensures))
 
 same-length-18 : tie.Need-same-length-18
 same-length-18 c = search needs
@@ -301,7 +302,7 @@ returns-5 c =
     let (answer, count, named) = c .keep-names5 .ensures in
     λ st h force.
     validating-read (args .s .now) (at-step-at .step-at .ensures) (at-read .read5 .given .1) λ t e x.
-    rw (answer, count, named) (worked (args .s .now) (args .at) st h force (at-validate .validate .result) _ refl (validating t) e (at-validate .validate .ensures t (spans-lone (args .s .now) _ _ t x)))
+    rw (answer, count, named) (worked-or-waits (args .s .now) (args .at) st h force (at-validate .validate .result) _ refl (validating t) e _ (at-validate .validate .ensures t (spans-lone (args .s .now) _ _ t x)))
 
 same-length-23 : tie.Need-same-length-23
 same-length-23 c = search needs
@@ -319,7 +320,7 @@ returns-6 c =
     λ st h force.
     declaring-read (args .s .now) (at-step-at .step-at .ensures) (at-read .read6 .given .1) λ n t e declares.
     rw (at-declare-name .declare-name .ensures .0)
-    (declared (args .s .now) (args .at) st h force n t e _ _ (at-declare-name .declare-name .result .answer) (at-declare-name .declare-name .ensures .1 (st .names) n t force declares) refl)
+    (inl (declared (args .s .now) (args .at) st h force n t e _ _ (at-declare-name .declare-name .result .answer) (at-declare-name .declare-name .ensures .1 (st .names) n t force declares) refl))
 
 same-length-25 : tie.Need-same-length-25
 same-length-25 c = search needs
@@ -344,7 +345,7 @@ returns-7 c =
     λ st h force.
     using-read (args .s .now) (at-step-at .step-at .ensures) (at-read .read7 .given .1) λ n e stands.
     rw (answer, count, named)
-    (used (args .s .now) (args .at) st h force n e (at-use-name .use-name .result) _ refl (at-use-name .use-name .ensures (args .trays .now) (args .scratch .now) (st .names) n force stands))
+    (inl (used (args .s .now) (args .at) st h force n e (at-use-name .use-name .result) _ refl (at-use-name .use-name .ensures (args .trays .now) (args .scratch .now) (st .names) n force stands)))
 
 returns-8 : tie.Need-returns-8
 returns-8 c =
@@ -355,7 +356,7 @@ returns-8 c =
     let args = entry .args in
     let (answer, count, named) = c .keep-names7 .ensures in
     λ st h force.
-    rw (answer, at-refuse .refuse .ensures) (unworked (args .s .now) (args .at) st h force (step-unread (args .s .now) (at-step-at .step-at .ensures) (at-read .read8 .given .1)))
+    rw (answer, at-refuse .refuse .ensures) (inl (unworked (args .s .now) (args .at) st h force (step-unread (args .s .now) (at-step-at .step-at .ensures) (at-read .read8 .given .1))))
 
 pub work-step-spec : {M : Type 1} → statement M
 work-step-spec =

@@ -76,7 +76,7 @@ def snake(part):
     """A word that begins in lower case, with an underscore for each capital."""
     if not part or not part[0].islower():
         return part
-    return re.sub(r"(?<=[a-z0-9'?])([A-Z])", lambda m: "_" + m.group(1).lower(), part)
+    return re.sub(r"(?<=[A-Za-z0-9'?])([A-Z])", lambda m: "_" + m.group(1).lower(), part)
 
 
 def is_word(name):

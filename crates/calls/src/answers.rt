@@ -11,7 +11,7 @@ use velgrodis::{
 // What a line comes to. Bytes, and those of a stretch, a type, a text or a whole line, are the first of the result; a size is all ones for
 // unknown; a step has its number and its mark; incompatible shapes have the index that is named; `reading` says which input a validation was
 // reading; a fault is one of `fault`.
-#[derive(Drop)]
+#[derive(Clone, Copy)]
 pub enum Reply {
     Bytes(usize),
     Stretch {

@@ -12,7 +12,7 @@ pub(crate) fn hex(word: &[u8], input: &mut [u8], at: usize) -> Decoded {
 }
 
 // Where the bytes end that two words stand for, one after the other.
-#[derive(Drop)]
+#[derive(Clone, Copy)]
 pub enum Both {
     To { middle: usize, end: usize },
     Other,

@@ -9,14 +9,14 @@ use crate::words::part;
 pub const PIECE: usize = 65536;
 
 // How much of the line under way is held, and whether all answers so far could be written.
-#[derive(Drop)]
+#[derive(Clone, Copy)]
 pub struct Progress {
     pub held: usize,
     pub heard: bool,
 }
 
 // What a piece gave to the line under way, and where the piece goes on after it.
-#[derive(Drop)]
+#[derive(Clone, Copy)]
 pub struct Taken {
     pub held: usize,
     pub next: usize,

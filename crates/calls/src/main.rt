@@ -1,5 +1,7 @@
 // Every public call from a shell: one request to a line of standard input, one answer to a line of standard output.
 // The program decides nothing: a line is taken apart, the call made, its outcome rendered.
+#![tactic(auto)]
+
 mod answers;
 mod arguments;
 mod fault;

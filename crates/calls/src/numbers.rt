@@ -14,7 +14,7 @@ const INFINITY_BITS: u64 = 9218868437227405312;
 const NAN_BITS: u64 = 9221120237041090560;
 
 // How many numbers were read.
-#[derive(Drop)]
+#[derive(Clone, Copy)]
 pub enum NumbersRead {
     Count(usize),
     Other,

@@ -22,7 +22,7 @@ pub(crate) fn number(name: &[u8]) -> WordPlace {
 
 // A value: its kind, by the place of its first word among the three, and the number; and how many numbers and bytes are lent
 // beside it.
-#[derive(Drop)]
+#[derive(Clone, Copy)]
 enum ValueRead {
     In {
         kind: u64,

@@ -4,7 +4,7 @@ ghost use Rattle.std.specs.Prelude.{◌≤◌, length};
 use check::same;
 
 // The place of a word among those of a list.
-#[derive(Drop)]
+#[derive(Clone, Copy)]
 pub enum WordPlace {
     At(usize),
     Nowhere,

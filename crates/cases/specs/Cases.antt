@@ -3,7 +3,7 @@
 use Rattle.std.specs.Prelude.{Bool, true, false, List, [], ◌∷◌, ◌≡◌, refl, Float, length}
 use Rattle.std.proofs.Math.Option.{Option, none, some}
 use Rattle.std.specs.Float.Ieee.{lt}
-use Rattle.model.specs.Refusals.{unpervaded, wrong_scalar, wrong_count, not_aSize}
+use Rattle.model.specs.Refusals.{unpervaded, wrong_scalar, wrong_count, not_a_size}
 use Rattle.model.specs.Types.{Dim, static, unknown, Shape, shape, Kind, bool, int, num, any, Scalar, plain, box_any, box_all, Ty, inside, below}
 use Rattle.model.specs.Within.{All}
 use Rattle.format.specs.Records.{code}
@@ -99,9 +99,9 @@ cases =
     -- (g) Minus infinity is ? for `as_dim`, refused by `as_dims` and `spec`.
     ∷ (
     the_size (number minus_infinity) (accepted (some unknown))
-    ∷ the_sizes (numbers (minus_infinity ∷ [])) (refused not_aSize 0)
-    ∷ the_spec (number minus_infinity) (refused not_aSize 0)
-    ∷ the_spec (numbers (minus_infinity ∷ [])) (refused not_aSize 0)
+    ∷ the_sizes (numbers (minus_infinity ∷ [])) (refused not_a_size 0)
+    ∷ the_spec (number minus_infinity) (refused not_a_size 0)
+    ∷ the_spec (numbers (minus_infinity ∷ [])) (refused not_a_size 0)
     ∷ [])
     -- (h) [1] with [] gives [?].
     ∷ (every_pervading (statics (1 ∷ [])) (closed []) (accepted (closed (unknown ∷ []))) ∷ [])

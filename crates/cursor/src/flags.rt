@@ -8,7 +8,7 @@ use limits::MAX_FLAG;
 use limits::refusal::{ENDED, OUT_OF_RANGE};
 
 // Which of both types is filled and the place after the flag, or the number of its refusal, which names the step's mark.
-#[derive(Drop)]
+#[derive(Clone, Copy)]
 pub enum FlagRead {
     Got {
         top_fill: bool,

@@ -2,6 +2,8 @@
 // that holds a slice, so those here are few and thin, and proved by hand: a step's cursor is made at the place reached, and taken
 // apart for a covered function on slice and place, whose answer is handed on with the place after the step. What a step is made
 // of is thus no matter of the proofs by hand.
+#![tactic(auto)]
+
 mod flags;
 mod marks;
 mod steps;
@@ -17,7 +19,7 @@ use steps::read_step;
 
 // A step's fields and the place after it, or the refusal. The bytes of its type stand from start to next; a name's length stands at the
 // place of the name, and the type that it is declared with behind it, up to next.
-#[derive(Drop)]
+#[derive(Clone, Copy)]
 pub enum StepRead {
     Put {
         start: usize,
@@ -53,7 +55,7 @@ pub enum StepRead {
 }
 
 // The sheet's bytes and the place reached.
-#[derive(Drop)]
+#[derive(Clone, Copy)]
 struct Cursor<'a> {
     src: &'a [u8],
     at: usize,

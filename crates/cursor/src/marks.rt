@@ -10,7 +10,7 @@ use limits::marks::{DECLARE, JOIN, Mark, PERVADE, PUT, ROW, USE, VALIDATE};
 use limits::refusal::{ENDED, UNMARKED};
 
 // Which step a mark begins.
-#[derive(Drop)]
+#[derive(Clone, Copy)]
 pub enum Operation {
     Put,
     Row,
@@ -22,7 +22,7 @@ pub enum Operation {
 }
 
 // A mark and the place after it, or the number of its refusal, which names the mark.
-#[derive(Drop)]
+#[derive(Clone, Copy)]
 pub enum MarkRead {
     Got { opcode: Operation, next: usize },
     Refused { number: u8 },

@@ -7,7 +7,7 @@ use limits::{MAX_DEPTH, MAX_TYPES};
 use record::{Reading, read_type};
 
 // The place after a type, whose bytes stand before it, or its refusal.
-#[derive(Drop)]
+#[derive(Clone, Copy)]
 pub enum TypeRead {
     Got { next: usize },
     Refused { number: u8, place: usize },

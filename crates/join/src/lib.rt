@@ -1,4 +1,6 @@
 // The join of two types: the join of their shapes with the union of their scalars.
+#![tactic(auto)]
+
 ghost use Rattle.std.specs.Prelude.{◌≡◌};
 ghost use Rattle.model.specs.Types.{ty};
 ghost use Rattle.format.specs.Records.{write_ty};

@@ -14,7 +14,7 @@ use Rattle.lent.specs.Over.{over, over-over}
 use Rattle.rules.specs.Order.{code_of, kind_place}
 use Rattle.rules.specs.Scalars.{superset_codes, compatible_codes, superset_of, compatible_scalars, union}
 use Rattle.rules.specs.ScalarsLaws.{superset_codes-refl}
-use Rattle.rules.specs.KindTable.{kind_count, pair_count, contents_decide, union_number, squares, in_aRow, kind_table}
+use Rattle.rules.specs.KindTable.{kind_count, pair_count, contents_decide, union_number, squares, in_a_row, kind_table}
 use Rattle.kind_table.specs.Rows.{RowsLaid}
 use Rattle.rules.specs.KindTableLaws.{number_at, WholeTable, whole_table, union_codes, union-by_codes, table_length, superset_entry, compatible_entry, yes-says}
 
@@ -50,29 +50,29 @@ module _ (c d : ℕ) (same : c ≡ d) where
 -- ---- the table handed out
 
 -- in one row, square by square
-in-turn : (s : List (List (List ℕ))) → s ≡ squares → in_aRow (in_aRow s) ≡ kind_table
+in-turn : (s : List (List (List ℕ))) → s ≡ squares → in_a_row (in_a_row s) ≡ kind_table
 unfolding kind_table
-in-turn s same = ap (λ t. in_aRow (in_aRow t)) same
+in-turn s same = ap (λ t. in_a_row (in_a_row t)) same
 
-in_a_row : {A : Type 0} (s t : List (List A)) → in_aRow (s ++ t) ≡ in_aRow s ++ in_aRow t
+in_a_row : {A : Type 0} (s t : List (List A)) → in_a_row (s ++ t) ≡ in_a_row s ++ in_a_row t
 in_a_row [] t = refl
-in_a_row (x ∷ s) t = rw (in_a_row s t) (sym (append_assoc x (in_aRow s) (in_aRow t)))
+in_a_row (x ∷ s) t = rw (in_a_row s t) (sym (append_assoc x (in_a_row s) (in_a_row t)))
 
 -- One square behind the other.
 module _ (a b c : List (List ℕ)) (same : a ∷ b ∷ c ∷ [] ≡ squares) where
-  numbers : (i : ℕ) → length (in_aRow (get_or squares i [])) ≡ pair_count → length (in_aRow (get_or (a ∷ b ∷ c ∷ []) i [])) ≡ pair_count
-  numbers i e = ap (λ s. length (in_aRow (get_or s i []))) same ∙ e
+  numbers : (i : ℕ) → length (in_a_row (get_or squares i [])) ≡ pair_count → length (in_a_row (get_or (a ∷ b ∷ c ∷ []) i [])) ≡ pair_count
+  numbers i e = ap (λ s. length (in_a_row (get_or s i []))) same ∙ e
 
-  all_three : in_aRow a ++ in_aRow b ++ in_aRow c ≡ kind_table
-  all_three = sym (rw (in_a_row a (b ++ (c ++ [])), in_a_row b (c ++ []), append-nil c) (sym (append_assoc (in_aRow a) (in_aRow b) (in_aRow c)))) ∙ in-turn (a ∷ b ∷ c ∷ []) same
+  all_three : in_a_row a ++ in_a_row b ++ in_a_row c ≡ kind_table
+  all_three = sym (rw (in_a_row a (b ++ (c ++ [])), in_a_row b (c ++ []), append-nil c) (sym (append_assoc (in_a_row a) (in_a_row b) (in_a_row c)))) ∙ in-turn (a ∷ b ∷ c ∷ []) same
 
   module _ (result : List ℕ) (room : length kind_table ≤ length result) where
     pub table_laid : {one two three : List ℕ} → RowsLaid result 0 a one → RowsLaid one pair_count b two → RowsLaid two (2 * pair_count) c three → three ≡ over result 0 kind_table
     unfolding squares code code_of kind_place superset_codes compatible_codes superset_of compatible_scalars union
     table_laid e f g =
-        let x = in_aRow a in
-        let y = in_aRow b in
-        let z = in_aRow c in
+        let x = in_a_row a in
+        let y = in_a_row b in
+        let z = in_a_row c in
         let first : pair_count ≡ 0 + length x = omega (arith, numbers 0 refl) in
         let both : 2 * pair_count ≡ 0 + length (x ++ y) = omega (arith, numbers 0 refl, numbers 1 refl, length-append x y) in
         let inside : 0 + length (x ++ y) ≤ length result = omega (arith, both, table_length) in

@@ -1,4 +1,6 @@
 // Prints the table of kinds (document 02, 2026-02) from the rules, one decimal number to a line.
+#![tactic(auto)]
+
 mod printing;
 mod two_kinds;
 

@@ -1,6 +1,8 @@
 // Bytes that are known to be a type: what stands where in them, and one kind put for another. Nothing is judged here. Beside `record`,
 // which judges, `writer`, which writes, `packing`, which packs and unpacks, and the constant records of `limits`, this crate alone knows
 // where marks stand in a record and how many bytes a size has.
+#![tactic(auto)]
+
 mod names;
 mod scalars;
 mod shapes;
@@ -13,7 +15,7 @@ pub use spans::{field_at, span_at};
 
 // What a scalar is: a kind's code, and the place after it; where an All box's content begins; where the length
 // of a Def's name stands, before the name, whether it has one, where its fields begin, and how many they are.
-#[derive(Drop)]
+#[derive(Clone, Copy)]
 pub enum View {
     Plain {
         code: u64,
@@ -34,7 +36,7 @@ pub enum View {
 }
 
 // How many types a type is, itself counted, how deep it is, and the place after it.
-#[derive(Drop)]
+#[derive(Clone, Copy)]
 pub struct Span {
     pub types: u64,
     pub depth: u64,
@@ -42,7 +44,7 @@ pub struct Span {
 }
 
 // Whether there is a name, and where its bytes begin and end.
-#[derive(Drop)]
+#[derive(Clone, Copy)]
 pub struct Name {
     pub named: bool,
     pub start: usize,

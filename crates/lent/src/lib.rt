@@ -1,5 +1,7 @@
 // Lent buffers: bytes laid over a part of one, and a result delivered to the front of one or refused. And what calls answer that
 // have no result to write.
+#![tactic(auto)]
+
 ghost use Rattle.std.specs.Prelude.{◌≡◌, ◌+◌, ◌≤◌, length};
 ghost use Rattle.format.specs.Outcome.{accepted, deliver};
 ghost use Rattle.lent.specs.Answers.{tested_of};
@@ -9,14 +11,14 @@ ghost use Rattle.lent.specs.Written.{delivered};
 use limits::refusal::TOO_SHORT;
 
 // How many bytes a call wrote to its result, or its refusal.
-#[derive(Drop)]
+#[derive(Clone, Copy)]
 pub enum Written {
     Wrote(usize),
     Refused { number: u8, place: usize },
 }
 
 // A test, or the refusal of what was to be tested.
-#[derive(Drop)]
+#[derive(Clone, Copy)]
 pub enum Tested {
     Yes,
     No,
@@ -24,7 +26,7 @@ pub enum Tested {
 }
 
 // A number, or a size, all ones for unknown; or a refusal.
-#[derive(Drop)]
+#[derive(Clone, Copy)]
 pub enum Counted {
     Count(u64),
     Refused { number: u8, place: usize },

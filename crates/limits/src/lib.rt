@@ -1,4 +1,6 @@
 // Every limit, every code, every mark, every constant record and every refusal number, named once for all code.
+#![tactic(auto)]
+
 pub mod marks;
 pub mod records;
 pub mod refusal;

@@ -1,5 +1,5 @@
 // The two bytes that begin each record and each step, named once for all code; a host's numbers for them are `velgrodis`'s.
-#[derive(Drop)]
+#[derive(Clone, Copy)]
 pub struct Mark {
     pub first: u8,
     pub second: u8,

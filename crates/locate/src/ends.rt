@@ -12,7 +12,7 @@ use names::{NameRead, read_table_name};
 use record::{Reading, read_type};
 
 // The place after what was read, or that it could not be read to its end.
-#[derive(Drop)]
+#[derive(Clone, Copy)]
 pub enum StepEnd {
     At(usize),
     Unread,

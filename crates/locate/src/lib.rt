@@ -1,4 +1,6 @@
 // Which step of a sheet a place belongs to, so that a refusal can be said in words. Steps are told by their bytes alone.
+#![tactic(auto)]
+
 mod ends;
 
 ghost use Rattle.std.specs.Prelude.{◌≡◌};
@@ -10,7 +12,7 @@ use cursor::{MarkRead, Operation, read_mark};
 use ends::{StepEnd, step_end};
 
 // A step by its number, counted from 1, and what its mark says; or a place that belongs to none.
-#[derive(Drop)]
+#[derive(Clone, Copy)]
 pub enum Located {
     Step { number: u64, opcode: Operation },
     Unmarked { number: u64 },

@@ -2,13 +2,13 @@
 -- the limits of a type (the bytes of a name: `format`, Examples). Everything else cites the names.
 use Rattle.std.specs.Prelude.{ℕ, ◌-◌, ◌^◌, List, [], ◌∷◌, ◌≡◌, refl}
 use Rattle.model.specs.Limits.{max_size, ones, max_sizes, max_name, max_fields, max_types, max_depth, max_bytes}
-use Rattle.model.specs.Refusals.{ended, unmarked, out_of_range, oversized, too_many, trailing, too_short, unpervaded, wrong_scalar, wrong_shape, underflow, overflow, not_aSize, wrong_count, undeclared, too_many_names, refusals}
+use Rattle.model.specs.Refusals.{ended, unmarked, out_of_range, oversized, too_many, trailing, too_short, unpervaded, wrong_scalar, wrong_shape, underflow, overflow, not_a_size, wrong_count, undeclared, too_many_names, refusals}
 
 -- bytes end; no mark; out of range; size above 2^53; over the limits; bytes after a lone type; buffer too short; pervading, scalar and
 -- shape mismatch; step lacks types; seventh type or 65th step; no size; a count that cannot fit; name never declared; seventeenth name
 pub refusals-numbered :
     ◌≡◌ {A = List ℕ}
-    (ended ∷ unmarked ∷ out_of_range ∷ oversized ∷ too_many ∷ trailing ∷ too_short ∷ unpervaded ∷ wrong_scalar ∷ wrong_shape ∷ underflow ∷ overflow ∷ not_aSize ∷ wrong_count ∷ undeclared ∷ too_many_names ∷ [])
+    (ended ∷ unmarked ∷ out_of_range ∷ oversized ∷ too_many ∷ trailing ∷ too_short ∷ unpervaded ∷ wrong_scalar ∷ wrong_shape ∷ underflow ∷ overflow ∷ not_a_size ∷ wrong_count ∷ undeclared ∷ too_many_names ∷ [])
     (1 ∷ 2 ∷ 3 ∷ 4 ∷ 5 ∷ 6 ∷ 7 ∷ 8 ∷ 9 ∷ 10 ∷ 11 ∷ 12 ∷ 13 ∷ 14 ∷ 15 ∷ 16 ∷ [])
 refusals-numbered = refl
 

@@ -48,8 +48,8 @@ abbrev pub overflow : ℕ
 overflow = 12
 
 -- NaN, a negative number or a fraction as a size
-abbrev pub not_aSize : ℕ
-not_aSize = 13
+abbrev pub not_a_size : ℕ
+not_a_size = 13
 
 -- a shape mismatch whose count cannot fit (document 02, 2026-03)
 abbrev pub wrong_count : ℕ
@@ -66,7 +66,7 @@ too_many_names = 16
 
 -- all of them, sixteen
 abbrev pub refusals : List ℕ
-refusals = ended ∷ unmarked ∷ out_of_range ∷ oversized ∷ too_many ∷ trailing ∷ too_short ∷ unpervaded ∷ wrong_scalar ∷ wrong_shape ∷ underflow ∷ overflow ∷ not_aSize ∷ wrong_count ∷ undeclared ∷ too_many_names ∷ []
+refusals = ended ∷ unmarked ∷ out_of_range ∷ oversized ∷ too_many ∷ trailing ∷ too_short ∷ unpervaded ∷ wrong_scalar ∷ wrong_shape ∷ underflow ∷ overflow ∷ not_a_size ∷ wrong_count ∷ undeclared ∷ too_many_names ∷ []
 
 -- a number is one of a list
 abbrev pub is_among : List ℕ → ℕ → Bool

@@ -8,7 +8,7 @@ use limits::refusal::{ENDED, OUT_OF_RANGE};
 use record::{Reading, read_name, wide};
 
 // The place after a name, or the number of its refusal, which names the step's mark.
-#[derive(Drop)]
+#[derive(Clone, Copy)]
 pub enum NameRead {
     Got { next: usize },
     Refused { number: u8 },

@@ -12,7 +12,7 @@ use limits::MAX_NAMES;
 use record::wide;
 
 // Where the type stands that a name was last declared with.
-#[derive(Drop)]
+#[derive(Clone, Copy)]
 pub enum LookedUp {
     Declared { start: usize, end: usize },
     Undeclared,

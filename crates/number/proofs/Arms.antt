@@ -9,7 +9,7 @@ use types.Run.{OneOf, miss}
 use lib.Ieee.{Float}
 use Rattle.number.specs.declared.Class as declared
 use Rattle.number.specs.declared.Class.TheVariants.{NotANumber, Infinite, Fraction, Whole, Larger}
-use Rattle.model.specs.Refusals.{not_aSize}
+use Rattle.model.specs.Refusals.{not_a_size}
 use Rattle.number.specs.Class.{Class, infinite, class_of, magnitude}
 use Rattle.number.specs.Size.{SizeOutcome, unknown, refused, size_of, as_dim, listed_dim}
 use Rattle.number.specs.Kind.{unwhole, not_whole}
@@ -21,19 +21,19 @@ place r = tag_of the_type r
 
 -- ---- NaN or a fraction: no size
 
-no_size : (r : declared.Class) (m : SizeOutcome) (n : ℕ) → OneOf (0 ∷ 2 ∷ []) (place r) → size_of m (class_outcome r) n ≡ refused not_aSize
+no_size : (r : declared.Class) (m : SizeOutcome) (n : ℕ) → OneOf (0 ∷ 2 ∷ []) (place r) → size_of m (class_outcome r) n ≡ refused not_a_size
 no_size NotANumber m n h = refl
 no_size (Infinite s) m n h = absurd (miss (0 ∷ 2 ∷ []) 1 tt h)
 no_size Fraction m n h = refl
 no_size (Whole s) m n h = absurd (miss (0 ∷ 2 ∷ []) 3 tt h)
 no_size (Larger s) m n h = absurd (miss (0 ∷ 2 ∷ []) 4 tt h)
 
-pub arm_refused : (r : declared.Class) (x : Float) → class_outcome r ≡ class_of x → OneOf (0 ∷ 2 ∷ []) (place r) → listed_dim x ≡ refused not_aSize
-arm_refused r x e h = rw (← e) (no_size r (refused not_aSize) (magnitude x) h)
+pub arm_refused : (r : declared.Class) (x : Float) → class_outcome r ≡ class_of x → OneOf (0 ∷ 2 ∷ []) (place r) → listed_dim x ≡ refused not_a_size
+arm_refused r x e h = rw (← e) (no_size r (refused not_a_size) (magnitude x) h)
 
 -- ---- not infinite: the two readings of a size are one
 
-one_reading : (r : declared.Class) (n : ℕ) → OneOf (0 ∷ 2 ∷ 3 ∷ 4 ∷ []) (place r) → size_of (refused not_aSize) (class_outcome r) n ≡ size_of unknown (class_outcome r) n
+one_reading : (r : declared.Class) (n : ℕ) → OneOf (0 ∷ 2 ∷ 3 ∷ 4 ∷ []) (place r) → size_of (refused not_a_size) (class_outcome r) n ≡ size_of unknown (class_outcome r) n
 one_reading NotANumber n h = refl
 one_reading (Infinite s) n h = absurd (miss (0 ∷ 2 ∷ 3 ∷ 4 ∷ []) 1 tt h)
 one_reading Fraction n h = refl

@@ -10,7 +10,7 @@ use lib.Pow.{pow_pos, pow_mono}
 use lib.Ieee.{Float, nan, inf, fin, up, down, odd, binary64, of_fields, of_bits}
 use lib.Ieee.Fits.{down_pos}
 use lib.Ieee.Exact.{HasValue, odd_sign}
-use Rattle.number.specs.Class.{not_aNumber, infinite, fraction, whole, class_of_ratio, class_of}
+use Rattle.number.specs.Class.{not_a_number, infinite, fraction, whole, class_of_ratio, class_of}
 use Rattle.number.proofs.Ratio.{ratio_same, ratio_shift, ratio_whole, ratio_fraction}
 
 class_value : (x : Float) (s : Bool) (a c : ℕ) → 0 < c → HasValue x s a c → class_of x ≡ class_of_ratio s a c
@@ -24,7 +24,7 @@ fields-infinite : (s : Bool) (t : ℕ) → t ≡ 0 → class_of (of_fields binar
 unfolding of_fields
 fields-infinite s t e = rw (eq-eqb t 0 e)
 
-fields_nan : (s : Bool) (t : ℕ) → (t ≡ 0 → ⊥) → class_of (of_fields binary64 s 2047 t) ≡ not_aNumber
+fields_nan : (s : Bool) (t : ℕ) → (t ≡ 0 → ⊥) → class_of (of_fields binary64 s 2047 t) ≡ not_a_number
 unfolding of_fields
 fields_nan s t e = rw (ne_eqb t 0 e)
 
@@ -71,7 +71,7 @@ module _ (b : ℕ) where
   pub bits-infinite : exponent ≡ 2047 → digits ≡ 0 → infinite sign ≡ class_of (of_bits binary64 b)
   bits-infinite e d = sym (fields-infinite sign digits d) ∙ by-fields 2047 e
 
-  pub bits-nan : exponent ≡ 2047 → (digits ≡ 0 → ⊥) → not_aNumber ≡ class_of (of_bits binary64 b)
+  pub bits-nan : exponent ≡ 2047 → (digits ≡ 0 → ⊥) → not_a_number ≡ class_of (of_bits binary64 b)
   bits-nan e d = sym (fields_nan sign digits d) ∙ by-fields 2047 e
 
   pub bits-zero : exponent ≡ 0 → digits ≡ 0 → whole sign ≡ class_of (of_bits binary64 b)

@@ -8,12 +8,12 @@ use Rattle.number.specs.declared.Listing.{Listing}
 use Rattle.number.specs.declared.Listing.TheVariants.{Count, Refused as RefusedAt}
 use Rattle.number.specs.declared.ListDims.{ListDims}
 use Rattle.model.specs.Limits.{ones}
-use Rattle.number.specs.Class.{Class, not_aNumber, infinite, fraction, whole, larger}
+use Rattle.number.specs.Class.{Class, not_a_number, infinite, fraction, whole, larger}
 use Rattle.number.specs.Size.{SizeOutcome, size, unknown, refused}
 use Rattle.number.specs.Sizes.{SizesOutcome, sizes, refused_at}
 
 abbrev pub class_outcome : declared.Class → Class
-class_outcome NotANumber = not_aNumber
+class_outcome NotANumber = not_a_number
 class_outcome (Infinite s) = infinite s
 class_outcome Fraction = fraction
 class_outcome (Whole s) = whole s

@@ -8,7 +8,7 @@ use Rattle.model.specs.Limits.{max_size}
 
 -- A Bool says whether the sign is minus, also that of -0. `whole` reaches up to 2^53 in magnitude, `larger` is whole beyond it.
 pub data Class : Type 0 where
-  not_aNumber : Class
+  not_a_number : Class
   infinite : Bool → Class
   fraction : Class
   whole : Bool → Class
@@ -23,7 +23,7 @@ abbrev pub class_of_ratio : Bool → ℕ → ℕ → Class
 class_of_ratio s a c = cond (eqb (a % c) 0) (class_of_whole s (a / c)) fraction
 
 abbrev pub class_of : Float → Class
-class_of nan = not_aNumber
+class_of nan = not_a_number
 class_of (inf s) = infinite s
 class_of (fin s m e) = class_of_ratio s (m * up e) (down e)
 

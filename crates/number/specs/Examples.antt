@@ -4,7 +4,7 @@ use Rattle.std.specs.Prelude.{◌≡◌, refl, true, false, List, [], ◌∷◌,
 use Rattle.std.specs.Float.{nan, inf, fin}
 use Rattle.std.specs.Float.Ieee.{lt}
 use Rattle.model.specs.Limits.{max_size, ones}
-use Rattle.model.specs.Refusals.{out_of_range, oversized, not_aSize}
+use Rattle.model.specs.Refusals.{out_of_range, oversized, not_a_size}
 use Rattle.model.specs.Types.{bool, nat, int, num}
 use Rattle.number.specs.Size.{size, unknown, refused, as_dim, listed_dim}
 use Rattle.number.specs.Sizes.{sizes, refused_at, sizes_from, listed_dims}
@@ -79,7 +79,7 @@ infinity-unknown = (refl, refl)
 pub refusal_4 : (as_dim huge ≡ refused oversized) × (as_dim past_limit ≡ refused oversized)
 refusal_4 = (refl, refl)
 
-pub refusal_13 : (as_dim half ≡ refused not_aSize) × (as_dim nan ≡ refused not_aSize) × (as_dim minus_one ≡ refused not_aSize) × (as_dim minus_huge ≡ refused not_aSize)
+pub refusal_13 : (as_dim half ≡ refused not_a_size) × (as_dim nan ≡ refused not_a_size) × (as_dim minus_one ≡ refused not_a_size) × (as_dim minus_huge ≡ refused not_a_size)
 refusal_13 = (refl, refl, refl, refl)
 
 pub size-ends : (as_dim zero ≡ size 0) × (as_dim minus_zero ≡ size 0) × (as_dim limit ≡ size max_size)

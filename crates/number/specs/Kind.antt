@@ -4,7 +4,7 @@ use Rattle.std.specs.Prelude.{Bool, true, false, cond, ◌||◌, List, [], ◌�
 use Rattle.std.specs.Float.{fin}
 use Rattle.std.specs.Float.Ieee.{lt}
 use Rattle.model.specs.Types.{Kind, bool, nat, int, num}
-use Rattle.number.specs.Class.{Class, not_aNumber, infinite, fraction, whole, larger, class_of}
+use Rattle.number.specs.Class.{Class, not_a_number, infinite, fraction, whole, larger, class_of}
 
 -- whether one of the numbers is so
 abbrev pub any : (Float → Bool) → List Float → Bool
@@ -13,7 +13,7 @@ any p (x ∷ xs) = p x || any p xs
 
 -- a fraction, NaN or infinity
 abbrev pub unwhole : Class → Bool
-unwhole not_aNumber = true
+unwhole not_a_number = true
 unwhole (infinite s) = true
 unwhole fraction = true
 unwhole (whole s) = false

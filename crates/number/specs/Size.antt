@@ -2,8 +2,8 @@
 -- size 0, and infinity is ?. NaN, a negative number or a fraction is 13, a whole number above 2^53 is 4.
 -- The two readings part at minus infinity: ? for `as_dim`, 13 for `as_dims` and `spec`, which is case (g).
 use Rattle.std.specs.Prelude.{Bool, cond, ℕ, eqb, Float}
-use Rattle.model.specs.Refusals.{oversized, not_aSize}
-use Rattle.number.specs.Class.{Class, not_aNumber, infinite, fraction, whole, larger, class_of, magnitude}
+use Rattle.model.specs.Refusals.{oversized, not_a_size}
+use Rattle.number.specs.Class.{Class, not_a_number, infinite, fraction, whole, larger, class_of, magnitude}
 
 -- A refusal has its number in the table of document 01.
 pub data SizeOutcome : Type 0 where
@@ -13,15 +13,15 @@ pub data SizeOutcome : Type 0 where
 
 -- the whole number n, at most 2^53, with a minus where s is true
 abbrev pub size_of_whole : Bool → ℕ → SizeOutcome
-size_of_whole s n = cond (eqb n 0) (size 0) (cond s (refused not_aSize) (size n))
+size_of_whole s n = cond (eqb n 0) (size 0) (cond s (refused not_a_size) (size n))
 
 -- a number of a class and a magnitude, where minus infinity is m
 abbrev pub size_of : SizeOutcome → Class → ℕ → SizeOutcome
-size_of m not_aNumber n = refused not_aSize
+size_of m not_a_number n = refused not_a_size
 size_of m (infinite s) n = cond s m unknown
-size_of m fraction n = refused not_aSize
+size_of m fraction n = refused not_a_size
 size_of m (whole s) n = size_of_whole s n
-size_of m (larger s) n = cond s (refused not_aSize) (refused oversized)
+size_of m (larger s) n = cond s (refused not_a_size) (refused oversized)
 
 -- the number itself, for `as_dim`
 abbrev pub as_dim : Float → SizeOutcome
@@ -29,4 +29,4 @@ as_dim x = size_of unknown (class_of x) (magnitude x)
 
 -- a number of a list, for `as_dims` and `spec`
 abbrev pub listed_dim : Float → SizeOutcome
-listed_dim x = size_of (refused not_aSize) (class_of x) (magnitude x)
+listed_dim x = size_of (refused not_a_size) (class_of x) (magnitude x)

@@ -1,10 +1,12 @@
 // Numbers handed in: what class a number is of, told by its bits; the size and the kind that it stands for; and the
 // same for a list of numbers.
+#![tactic(auto)]
+
 ghost use Rattle.std.specs.Prelude.{◌≡◌, cond, [], ◌∷◌, ◌≤◌, ◌<◌, ◌*◌, ◌^◌};
 ghost use Rattle.std.specs.Float.Ieee.{of_bits};
 ghost use Rattle.std.specs.Float.{binary64};
 ghost use Rattle.model.specs.Limits.{max_sizes};
-ghost use Rattle.model.specs.Refusals.{not_aSize};
+ghost use Rattle.model.specs.Refusals.{not_a_size};
 ghost use Rattle.format.specs.Records.{code};
 ghost use Rattle.number.specs.Class.{whole, class_of_ratio, class_of, magnitude};
 ghost use Rattle.number.specs.Size.{refused, size_of_whole, as_dim, listed_dim};
@@ -34,7 +36,7 @@ const IN_ONES: u64 = 1075;
 const IN_TWOS: u64 = 1076;
 
 // Whole is up to 2^53 in magnitude, and Larger is whole beyond that.
-#[derive(Drop)]
+#[derive(Clone, Copy)]
 enum Class {
     NotANumber,
     Infinite { negative: bool },
@@ -101,7 +103,7 @@ fn classify_normal(negative: bool, exponent: u64, significand: u64) -> Class
 }
 
 // A size, UNKNOWN among them, or a refusal's number.
-#[derive(Drop)]
+#[derive(Clone, Copy)]
 pub enum Sized {
     Size(u64),
     Refused(u8),
@@ -130,7 +132,7 @@ pub fn listed_dim(x: f64) -> Sized
 }
 
 fn refuse_negative(negative: bool, otherwise: Sized) -> Sized
-    ensures { size_outcome result ≡ cond negative (refused not_aSize) (size_outcome otherwise) }
+    ensures { size_outcome result ≡ cond negative (refused not_a_size) (size_outcome otherwise) }
 {
     if negative {
         return Sized::Refused(NOT_A_SIZE);
@@ -153,14 +155,14 @@ fn cast_whole(x: f64, negative: bool) -> Sized
 }
 
 // How many sizes there are, or a refusal.
-#[derive(Drop)]
+#[derive(Clone, Copy)]
 pub enum Listing {
     Count(usize),
     Refused { number: u8, place: usize },
 }
 
 // An enum cannot hold an array, so the sizes stand beside it: the first Count of the list.
-#[derive(Drop)]
+#[derive(Clone, Copy)]
 pub struct ListDims {
     pub answer: Listing,
     pub list: [u64; MAX_SIZES],

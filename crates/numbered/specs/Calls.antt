@@ -2,7 +2,7 @@
 -- each answers, as in its contract (`velgrodis/src`), and a table of the numbers that it can be refused with. (`vg_version` answers the
 -- library's own number and nothing else.)
 use Rattle.std.specs.Prelude.{ℕ, List, [], ◌∷◌, ◌≡◌, Float}
-use Rattle.model.specs.Refusals.{ended, unmarked, out_of_range, oversized, too_many, trailing, too_short, unpervaded, wrong_scalar, wrong_shape, not_aSize, wrong_count, Among}
+use Rattle.model.specs.Refusals.{ended, unmarked, out_of_range, oversized, too_many, trailing, too_short, unpervaded, wrong_scalar, wrong_shape, not_a_size, wrong_count, Among}
 use Rattle.format.specs.Records.{write_scalar, write_ty}
 use Rattle.format.specs.Outcome.{accepted, mapped, bound, lone, type_length, deliver, shape_record, scalar_record}
 use Rattle.rules.specs.Order.{compare}
@@ -153,10 +153,10 @@ of_validated = ended ∷ unmarked ∷ out_of_range ∷ oversized ∷ too_many �
 
 -- A number as a size, and numbers as sizes, for which there is a result.
 abbrev pub of_size : List ℕ
-of_size = ended ∷ unmarked ∷ out_of_range ∷ oversized ∷ too_many ∷ trailing ∷ not_aSize ∷ []
+of_size = ended ∷ unmarked ∷ out_of_range ∷ oversized ∷ too_many ∷ trailing ∷ not_a_size ∷ []
 
 abbrev pub of_sizes_written : List ℕ
-of_sizes_written = ended ∷ unmarked ∷ out_of_range ∷ oversized ∷ too_many ∷ trailing ∷ too_short ∷ not_aSize ∷ []
+of_sizes_written = ended ∷ unmarked ∷ out_of_range ∷ oversized ∷ too_many ∷ trailing ∷ too_short ∷ not_a_size ∷ []
 
 -- A list of numbers alone, whatever they are, and the table of kinds: only its result.
 abbrev pub of_result : List ℕ

@@ -2,7 +2,7 @@
 -- is here; those of a sheet but 7 are worked in `machine` (Examples, NameExamples).
 use Rattle.std.specs.Prelude.{ℕ, zero, suc, ◌^◌, List, [], ◌∷◌, ◌++◌, ◌≡◌, refl}
 use Rattle.std.specs.Float.{nan}
-use Rattle.model.specs.Refusals.{ended, unmarked, out_of_range, oversized, too_many, trailing, too_short, unpervaded, wrong_scalar, wrong_shape, not_aSize, wrong_count}
+use Rattle.model.specs.Refusals.{ended, unmarked, out_of_range, oversized, too_many, trailing, too_short, unpervaded, wrong_scalar, wrong_shape, not_a_size, wrong_count}
 use Rattle.model.specs.Types.{inside, below}
 use Rattle.model.specs.Within.{All}
 use Rattle.format.specs.Reader.{byte, judged, number, bytes_of}
@@ -82,11 +82,11 @@ examples =
     ∷ the_refusal (vg_validate 0 (vector 2 3) (vector 3 3) []) wrong_shape 0
     -- a kind of value that is none; a fraction as a size; more than eight numbers; a NaN among them; no room for their sizes
     ∷ the_refusal (vg_as_dim 3 half [] []) out_of_range 0
-    ∷ the_refusal (vg_as_dim 0 half [] []) not_aSize 0
+    ∷ the_refusal (vg_as_dim 0 half [] []) not_a_size 0
     ∷ the_refusal (vg_as-dims 1 half (one ∷ eight_ones) [] []) out_of_range 0
-    ∷ the_refusal (vg_as-dims 1 half (one ∷ nan ∷ []) [] []) not_aSize 1
+    ∷ the_refusal (vg_as-dims 1 half (one ∷ nan ∷ []) [] []) not_a_size 1
     ∷ the_refusal (vg_as-dims 1 half (one ∷ []) [] []) too_short 0
-    ∷ the_refusal (vg_val_spec 0 half [] [] []) not_aSize 0
+    ∷ the_refusal (vg_val_spec 0 half [] [] []) not_a_size 0
     ∷ the_refusal (vg_nums_scalar [] []) too_short 0
     -- the table of kinds in a result of nine bytes
     ∷ the_refusal (vg_kinds (0 ∷ 0 ∷ 0 ∷ 0 ∷ 0 ∷ 0 ∷ 0 ∷ 0 ∷ 0 ∷ [])) too_short 0

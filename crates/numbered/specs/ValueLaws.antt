@@ -2,10 +2,10 @@
 use Rattle.std.specs.Prelude.{ℕ, zero, suc, Bool, true, false, cond, List, [], ◌∷◌, refl, eqb, leb, ltb, Float, length}
 use Rattle.std.proofs.Math.Option.{some}
 use Rattle.model.specs.Limits.{max_size, max_sizes}
-use Rattle.model.specs.Refusals.{out_of_range, oversized, not_aSize, Among}
+use Rattle.model.specs.Refusals.{out_of_range, oversized, not_a_size, Among}
 use Rattle.model.specs.Within.{All}
 use Rattle.format.specs.Outcome.{lone}
-use Rattle.number.specs.Class.{Class, not_aNumber, infinite, fraction, whole, larger, class_of, magnitude}
+use Rattle.number.specs.Class.{Class, not_a_number, infinite, fraction, whole, larger, class_of, magnitude}
 use Rattle.number.specs.Size.{SizeOutcome, size, unknown, refused as no_size_given, size_of, as_dim, listed_dim}
 use Rattle.number.specs.Sizes.{SizesOutcome, sizes, refused_at, before, at_index, sizes_from, listed_dims}
 use Rattle.val.specs.Values.{Value, number, numbers, typed, length_dim, numbers_ty, value_ty, dim_alone, dims_listed, any_sized, any_of_size, value_spec, value_row_count, value_as_dim, value_as_dims}
@@ -18,10 +18,10 @@ use Rattle.numbered.specs.CallLaws.{more-numbered, either-numbered}
 
 -- a number as a size: 4 and 13; a list of numbers: also 3, for more than eight
 abbrev of_number : List ℕ
-of_number = oversized ∷ not_aSize ∷ []
+of_number = oversized ∷ not_a_size ∷ []
 
 abbrev of_numbers : List ℕ
-of_numbers = out_of_range ∷ oversized ∷ not_aSize ∷ []
+of_numbers = out_of_range ∷ oversized ∷ not_a_size ∷ []
 
 abbrev SizeWith : List ℕ → SizeOutcome → Type 0
 SizeWith ns (size n) = Unit {0}
@@ -38,17 +38,17 @@ size-either false o q h k = k
 
 -- whatever minus infinity is
 size-of : (m : SizeOutcome) → SizeWith of_number m → (c : Class) (n : ℕ) → SizeWith of_number (size_of m c n)
-size-of m h not_aNumber n = refl
+size-of m h not_a_number n = refl
 size-of m h (infinite s) n = size-either s m unknown h tt
 size-of m h fraction n = refl
-size-of m h (whole s) n = size-either (eqb n 0) (size 0) (cond s (no_size_given not_aSize) (size n)) tt (size-either s (no_size_given not_aSize) (size n) refl tt)
-size-of m h (larger s) n = size-either s (no_size_given not_aSize) (no_size_given oversized) refl refl
+size-of m h (whole s) n = size-either (eqb n 0) (size 0) (cond s (no_size_given not_a_size) (size n)) tt (size-either s (no_size_given not_a_size) (size n) refl tt)
+size-of m h (larger s) n = size-either s (no_size_given not_a_size) (no_size_given oversized) refl refl
 
 pub as_dim-with : (x : Float) → SizeWith of_number (as_dim x)
 as_dim-with x = size-of unknown tt (class_of x) (magnitude x)
 
 pub listed_dim_with : (x : Float) → SizeWith of_number (listed_dim x)
-listed_dim_with x = size-of (no_size_given not_aSize) refl (class_of x) (magnitude x)
+listed_dim_with x = size-of (no_size_given not_a_size) refl (class_of x) (magnitude x)
 
 before_with : (n : ℕ) (o : SizesOutcome) → SizesWith of_numbers o → SizesWith of_numbers (before n o)
 before_with n (sizes l) h = tt

@@ -1,4 +1,6 @@
 // The order of two types: scalar first, then shape.
+#![tactic(auto)]
+
 mod kinds;
 mod names;
 mod shapes;
@@ -8,7 +10,7 @@ pub use kinds::kind_place;
 pub use types::{compare, compare_types};
 
 // How two records compare; where they are the same, the place after the first.
-#[derive(Drop)]
+#[derive(Clone, Copy)]
 pub enum Ranking {
     Less,
     Same(usize),
@@ -16,7 +18,7 @@ pub enum Ranking {
 }
 
 // How two whole types compare.
-#[derive(Drop)]
+#[derive(Clone, Copy)]
 pub enum Comparison {
     Less,
     Same,

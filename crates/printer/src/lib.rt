@@ -1,4 +1,6 @@
 // What the program `sheet` prints of the input that it read, put into a buffer, so that the program only reads and writes.
+#![tactic(auto)]
+
 ghost use Rattle.std.specs.Prelude.{◌≡◌, ◌≤◌, ◌<◌, length};
 ghost use Rattle.machine.specs.Call.{sheet_call};
 ghost use Rattle.machine.specs.SheetLimits.{max_stack, scratch_bytes, result_bytes, program_bytes};
@@ -23,7 +25,7 @@ pub const TEXT: usize = HEAD_ROOM + MAX_STACK * (1 + LINE_ROOM) + 2 * RESULT_BYT
 pub const CALL_TEXT: usize = HEAD_ROOM + MAX_STACK * (3 + LINE_ROOM) + 2 * RESULT_BYTES;
 
 // What the program prints: a text of so many bytes, or nothing, since a read failed.
-#[derive(Drop)]
+#[derive(Clone, Copy)]
 pub enum Printed {
     Text(usize),
     Unread,

@@ -1,5 +1,7 @@
 // Reading records from any bytes. Each function reads what one definition of `format` reads, in its order, and answers
 // what was read with the place after it, or the refusal.
+#![tactic(auto)]
+
 mod bytes;
 mod shapes;
 mod types;
@@ -13,14 +15,14 @@ pub use types::read_type;
 pub use whole::{read_front, read_lone, read_two, whichever};
 
 // A value with the place after it, or a refusal's number and place.
-#[derive(Drop)]
+#[derive(Clone, Copy)]
 pub enum Reading {
     Got { value: u64, next: usize },
     Refused { number: u8, place: usize },
 }
 
 // A list of at most eight sizes: the first `count` of the array.
-#[derive(Drop)]
+#[derive(Clone, Copy)]
 pub struct Dims {
     pub sizes: [u64; MAX_SIZES],
     pub count: usize,
@@ -36,7 +38,7 @@ pub fn no_dims() -> Dims
 }
 
 // A shape: its opening sizes, and its closing sizes unless it is closed.
-#[derive(Drop)]
+#[derive(Clone, Copy)]
 pub struct DynShape {
     pub dims: Dims,
     pub suffix: Dims,
@@ -44,14 +46,14 @@ pub struct DynShape {
 }
 
 // A lone type, or its refusal.
-#[derive(Drop)]
+#[derive(Clone, Copy)]
 pub enum Lone {
     Accepted,
     Refused { number: u8, place: usize },
 }
 
 // Two lone types, or the refusal of one of them.
-#[derive(Drop)]
+#[derive(Clone, Copy)]
 pub enum Two {
     Accepted,
     First { number: u8, place: usize },

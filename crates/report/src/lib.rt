@@ -1,4 +1,6 @@
 // What a sheet check answered, as text.
+#![tactic(auto)]
+
 mod lines;
 mod parts;
 

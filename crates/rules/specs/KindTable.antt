@@ -52,10 +52,10 @@ square number = map (λ k. map (number k) all_kinds) all_kinds
 unfoldable pub squares : List (List (List ℕ))
 squares = square superset_number ∷ square compatible_number ∷ square union_number ∷ []
 
-abbrev pub in_aRow : {A : Type 0} → List (List A) → List A
-in_aRow [] = []
-in_aRow (x ∷ xs) = x ++ in_aRow xs
+abbrev pub in_a_row : {A : Type 0} → List (List A) → List A
+in_a_row [] = []
+in_a_row (x ∷ xs) = x ++ in_a_row xs
 
 -- Its numbers, one after the other.
 unfoldable pub kind_table : List ℕ
-kind_table = in_aRow (in_aRow squares)
+kind_table = in_a_row (in_a_row squares)

@@ -1,5 +1,7 @@
 // Scalars (scalar.rs): rules on records in lent bytes, by the table of kinds where it decides and else by box contents, which are walked
 // with a falling depth; and the public calls on whole types.
+#![tactic(auto)]
+
 mod boxes;
 mod refinement;
 mod tests;
@@ -10,14 +12,14 @@ pub use tests::{compatible_scalars, compatible_with_boxes, superset};
 pub use unions::{union, unite_boxes};
 
 // Where an All box's content begins, or the code of any other scalar.
-#[derive(Drop)]
+#[derive(Clone, Copy)]
 pub enum Inner {
     Content(usize),
     Code(u64),
 }
 
 // Which box the union of two boxes is.
-#[derive(Drop)]
+#[derive(Clone, Copy)]
 pub enum United {
     First,
     Second,

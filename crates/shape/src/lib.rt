@@ -1,4 +1,6 @@
 // Sizes, lists of sizes and shapes by value (the Rust's shape.rs), and their pervading.
+#![tactic(auto)]
+
 mod dims;
 mod pervade;
 mod shapes;
@@ -13,7 +15,7 @@ pub use shapes::{
 pub use sizes::{cmp, cmp_defined, compatible, join_sizes, larger, row_compatible};
 
 // What a comparison answers of the first against the second.
-#[derive(Drop)]
+#[derive(Clone, Copy)]
 pub enum Order {
     Less,
     Same,
@@ -21,7 +23,7 @@ pub enum Order {
 }
 
 // What `compatible_with` says: yes; no, with the greatest index that fails; or no with none, since the counts differ.
-#[derive(Drop)]
+#[derive(Clone, Copy)]
 pub enum Compatibility {
     Yes,
     FailsAt(usize),
@@ -29,7 +31,7 @@ pub enum Compatibility {
 }
 
 // What stands at an index of a list.
-#[derive(Drop)]
+#[derive(Clone, Copy)]
 enum Spot {
     Absent,
     Size(u64),
@@ -37,14 +39,14 @@ enum Spot {
 
 // Which pervading is asked for: that of the separate call, which is the Rust's, or that of sheets, where a filled size may grow
 // (document 02, 2026-01).
-#[derive(Drop)]
+#[derive(Clone, Copy)]
 pub enum Pervading {
     Separate,
     InSheets,
 }
 
 // What the walk over two lists goes by: which sides are filled, which shapes are open, and whether any size may grow.
-#[derive(Drop)]
+#[derive(Clone, Copy)]
 struct Filling {
     a_fill: bool,
     b_fill: bool,
@@ -54,7 +56,7 @@ struct Filling {
 }
 
 // What one index of a pervading gives.
-#[derive(Drop)]
+#[derive(Clone, Copy)]
 enum Meeting {
     Gives(u64),
     Refuses,
@@ -62,19 +64,19 @@ enum Meeting {
 
 // What a pervading answers: Stopped names the first index that refuses. Sizes stand beside it, since an enum cannot hold an array; where
 // it stopped they say nothing.
-#[derive(Drop)]
+#[derive(Clone, Copy)]
 pub enum Pervasion {
     Pervaded,
     Stopped(usize),
 }
 
-#[derive(Drop)]
+#[derive(Clone, Copy)]
 pub struct DimsPervaded {
     pub dims: Dims,
     pub answer: Pervasion,
 }
 
-#[derive(Drop)]
+#[derive(Clone, Copy)]
 pub struct ShapePervaded {
     pub shape: DynShape,
     pub answer: Pervasion,

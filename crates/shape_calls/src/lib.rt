@@ -1,5 +1,7 @@
 // The public calls on sizes and shapes. Sizes are numbers handed in, all ones for unknown; a shape is that of a whole type, of
 // which nothing else is looked at. Of two inputs the first is read whole before the other.
+#![tactic(auto)]
+
 mod bytes;
 mod numbers;
 mod pervading;
@@ -15,21 +17,21 @@ pub use pervading::pervade;
 use shape::{Compatibility, Order};
 
 // How the first compares with the second, or a refusal.
-#[derive(Drop)]
+#[derive(Clone, Copy)]
 pub enum Compared {
     Ordered(Order),
     Refused { number: u8, place: usize },
 }
 
 // What the test of two shapes says, or the refusal of a type.
-#[derive(Drop)]
+#[derive(Clone, Copy)]
 pub enum ShapesTested {
     Says(Compatibility),
     Refused { number: u8, place: usize },
 }
 
 // Two numbers that are sizes, or a refusal.
-#[derive(Drop)]
+#[derive(Clone, Copy)]
 enum Judged {
     Sizes,
     Refused { number: u8, place: usize },

@@ -1,4 +1,6 @@
 // The sheet program, run with document 01's example.
+#![tactic(auto)]
+
 fn main() {
     sheet_program::run();
 }

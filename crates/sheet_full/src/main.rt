@@ -1,4 +1,6 @@
 // The sheet program, run with a sheet of just 49,152 bytes.
+#![tactic(auto)]
+
 fn main() {
     sheet_program::run();
 }

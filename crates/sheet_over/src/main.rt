@@ -1,4 +1,6 @@
 // The sheet program, run with the same sheet and one byte more.
+#![tactic(auto)]
+
 fn main() {
     sheet_program::run();
 }

@@ -1,5 +1,7 @@
 // The sheet program whole: a sheet from standard input, what the check says of it to standard output, all else to standard error.
 // It is a library so that several programs can be it, each run with an input of its own.
+#![tactic(auto)]
+
 use limits::{MAX_SHEET, RESULT_BYTES, SCRATCH_BYTES};
 use printer::{Printed, TEXT, print_input};
 use streams::{Asked, complain, read_argument, read_to_end, say_version, write_out};

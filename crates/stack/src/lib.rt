@@ -4,6 +4,8 @@
 //
 // Where each type ends and how long its record is stand in slices that are lent too, since a copy of them at each step costs more than
 // the step.
+#![tactic(auto)]
+
 mod out;
 mod tops;
 mod trays;

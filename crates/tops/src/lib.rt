@@ -1,5 +1,7 @@
 // The rules of the steps on the types on top of the stack, none of which lies packed. What a rule makes of them goes to a buffer, which is
 // refused where it is too short; one that holds any type is not.
+#![tactic(auto)]
+
 ghost use Rattle.std.specs.Prelude.{◌≡◌, List, ◌⊎◌, ℕ};
 ghost use Rattle.std.proofs.Math.Option.{none};
 ghost use Rattle.model.specs.Types.{shape, Ty};

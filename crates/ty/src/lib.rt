@@ -1,5 +1,7 @@
 // Types as bytes: field n of a Def, `unboxed`, the rows and `as_boxes`. Each call reads its type whole, and what it answers
 // is made of stretches of those bytes.
+#![tactic(auto)]
+
 mod content;
 mod copies;
 mod fields;
@@ -15,7 +17,7 @@ pub use rows::{
 };
 
 // Where field n of a type stands, that there is none, or the refusal of the type.
-#[derive(Drop)]
+#[derive(Clone, Copy)]
 pub enum Found {
     At { start: usize, length: usize },
     Nothing,
@@ -23,7 +25,7 @@ pub enum Found {
 }
 
 // How many bytes of a list of boxes were written, that there is none, or the refusal.
-#[derive(Drop)]
+#[derive(Clone, Copy)]
 pub enum Boxes {
     Wrote(usize),
     Nothing,

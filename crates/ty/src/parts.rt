@@ -7,7 +7,7 @@ ghost use Rattle.ty.specs.Parts.{LoneDef, part_of};
 use known::{field_at, span_at};
 
 // A stretch of a type's bytes, or none.
-#[derive(Drop)]
+#[derive(Clone, Copy)]
 pub enum Part {
     At { start: usize, length: usize },
     Nothing,

@@ -45,7 +45,7 @@ pub fn into_nth_row(ty: &[u8], n: u64, res: &mut [u8]) -> Written
 }
 
 // Which field of a Def its row is made of.
-#[derive(Drop)]
+#[derive(Clone, Copy)]
 pub enum Which {
     First,
     Last,

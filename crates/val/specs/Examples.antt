@@ -3,7 +3,7 @@
 use Rattle.std.specs.Prelude.{List, [], ◌∷◌, ◌≡◌, refl, Float}
 use Rattle.std.proofs.Math.Option.{none, some}
 use Rattle.std.specs.Float.{nan}
-use Rattle.model.specs.Refusals.{out_of_range, oversized, not_aSize}
+use Rattle.model.specs.Refusals.{out_of_range, oversized, not_a_size}
 use Rattle.model.specs.Types.{Dim, static, unknown}
 use Rattle.format.specs.Outcome.{accepted, refused}
 use Rattle.number.specs.Sizes.{sizes_from}
@@ -20,7 +20,7 @@ unfolding value_ty value_spec
 a-number = (refl, refl, refl)
 
 -- minus infinity is refused by `spec`, and ? for `as_dim` (case (g))
-pub minus-infinity : (value_spec (number minus_infinity) ≡ refused not_aSize 0) × (value_as_dim (number minus_infinity) ≡ accepted (some unknown))
+pub minus-infinity : (value_spec (number minus_infinity) ≡ refused not_a_size 0) × (value_as_dim (number minus_infinity) ≡ accepted (some unknown))
 unfolding value_spec value_as_dim
 minus-infinity = (refl, refl)
 

@@ -6,7 +6,7 @@ use Rattle.std.proofs.Math.Option.{none}
 use Rattle.std.specs.Float.{nan, inf, fin}
 use Rattle.std.specs.Float.Ieee.{up, down}
 use Rattle.model.specs.Limits.{max_size, ones, max_sizes}
-use Rattle.model.specs.Refusals.{out_of_range, oversized, not_aSize}
+use Rattle.model.specs.Refusals.{out_of_range, oversized, not_a_size}
 use Rattle.model.specs.Types.{Dim, static, unknown, shape, Kind, num, any, plain, Ty, ty, inside, below}
 use Rattle.model.specs.Within.{All, DimWithin, DimsWithin, Within}
 use Rattle.format.specs.Reader.{Bytes}
@@ -14,7 +14,7 @@ use Rattle.format.specs.Records.{dim_of, write_ty}
 use Rattle.format.specs.Outcome.{Outcome, accepted, refused, mapped, bound, lone}
 use Rattle.format.specs.ReadWrite.{lone_write}
 use Rattle.format.specs.WriteRead.{write_lone}
-use Rattle.number.specs.Class.{Class, not_aNumber, infinite, fraction, whole, larger, class_of, magnitude}
+use Rattle.number.specs.Class.{Class, not_a_number, infinite, fraction, whole, larger, class_of, magnitude}
 use Rattle.number.specs.Size.{SizeOutcome, size, unknown as unknown_size, refused as no_size_given, size_of, listed_dim}
 use Rattle.number.specs.Sizes.{SizesOutcome, sizes, refused_at, before, at_index, sizes_from, listed_dims}
 use Rattle.val.specs.declared.Value as declared
@@ -48,7 +48,7 @@ whole-small (fin t m e) s h = go (eqb (m * up e % down e) 0) (leb (m * up e / do
 size_small : (x : Float) (n : ℕ) → listed_dim x ≡ size n → n ≤ max_size
 size_small x n e = go (class_of x) refl e
   where
-    at-whole : (s a b : Bool) → magnitude x ≤ max_size → cond a (size 0) (cond b (no_size_given not_aSize) (size (magnitude x))) ≡ size n → n ≤ max_size
+    at-whole : (s a b : Bool) → magnitude x ≤ max_size → cond a (size 0) (cond b (no_size_given not_a_size) (size (magnitude x))) ≡ size n → n ≤ max_size
     at-whole s true b h e = let w : 0 ≡ n = cc in omega arith
     at-whole s false true h e = let z : ◌≡◌ {A = ℕ} 0 1 = cc in absurd (omega arith)
     at-whole s false false h e = let w : magnitude x ≡ n = cc in omega arith
@@ -57,12 +57,12 @@ size_small x n e = go (class_of x) refl e
     at_other true a b e h k = h e
     at_other false a b e h k = k e
 
-    go : (c : Class) → class_of x ≡ c → size_of (no_size_given not_aSize) c (magnitude x) ≡ size n → n ≤ max_size
-    go not_aNumber f e = let z : ◌≡◌ {A = ℕ} 0 1 = cc in absurd (omega arith)
-    go (infinite s) f e = at_other s (no_size_given not_aSize) unknown_size e (λ w. let z : ◌≡◌ {A = ℕ} 0 1 = cc in absurd (omega arith)) (λ w. let z : ◌≡◌ {A = ℕ} 0 1 = cc in absurd (omega arith))
+    go : (c : Class) → class_of x ≡ c → size_of (no_size_given not_a_size) c (magnitude x) ≡ size n → n ≤ max_size
+    go not_a_number f e = let z : ◌≡◌ {A = ℕ} 0 1 = cc in absurd (omega arith)
+    go (infinite s) f e = at_other s (no_size_given not_a_size) unknown_size e (λ w. let z : ◌≡◌ {A = ℕ} 0 1 = cc in absurd (omega arith)) (λ w. let z : ◌≡◌ {A = ℕ} 0 1 = cc in absurd (omega arith))
     go fraction f e = let z : ◌≡◌ {A = ℕ} 0 1 = cc in absurd (omega arith)
     go (whole s) f e = at-whole s (eqb (magnitude x) 0) s (whole-small x s f) e
-    go (larger s) f e = at_other s (no_size_given not_aSize) (no_size_given oversized) e (λ w. let z : ◌≡◌ {A = ℕ} 0 1 = cc in absurd (omega arith)) (λ w. let z : ◌≡◌ {A = ℕ} 0 1 = cc in absurd (omega arith))
+    go (larger s) f e = at_other s (no_size_given not_a_size) (no_size_given oversized) e (λ w. let z : ◌≡◌ {A = ℕ} 0 1 = cc in absurd (omega arith)) (λ w. let z : ◌≡◌ {A = ℕ} 0 1 = cc in absurd (omega arith))
 
 alone-within : (x : Float) (o : SizeOutcome) → listed_dim x ≡ o → (d : Dim) → dim_alone o ≡ accepted d → DimWithin d
 alone-within x (size n) f d e = let w : static n ≡ d = cc in rw (← w) (size_small x n f)

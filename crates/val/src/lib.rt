@@ -1,5 +1,7 @@
 // Values handed in (val.rs): a number, a list of numbers or a type. The list and the type's bytes are lent beside the value,
 // and what is lent for another case is not looked at.
+#![tactic(auto)]
+
 mod counts;
 mod parts;
 mod rows;
@@ -13,7 +15,7 @@ pub use rows::{into_first_row, into_last_row, into_row};
 pub use sizes::{as_dim, as_dims};
 
 // A number; the list lent beside it; the type whose bytes are lent beside it.
-#[derive(Drop)]
+#[derive(Clone, Copy)]
 pub enum Value {
     Num(f64),
     List,
@@ -21,7 +23,7 @@ pub enum Value {
 }
 
 // A size, all ones for an unknown one; nothing for what is no number; or a refusal.
-#[derive(Drop)]
+#[derive(Clone, Copy)]
 pub enum MaybeDim {
     Size(u64),
     Nothing,
@@ -29,7 +31,7 @@ pub enum MaybeDim {
 }
 
 // Sizes, which stand beside it; nothing for what is no list; or a refusal.
-#[derive(Drop)]
+#[derive(Clone, Copy)]
 pub enum MaybeDims {
     Sizes,
     Nothing,
@@ -37,14 +39,14 @@ pub enum MaybeDims {
 }
 
 // The sizes of an answer Sizes; beside another answer they mean nothing.
-#[derive(Drop)]
+#[derive(Clone, Copy)]
 pub struct DimsAnswer {
     pub answer: MaybeDims,
     pub dims: Dims,
 }
 
 // A row: a number, or a type, of which so many bytes were written to the result; or a refusal.
-#[derive(Drop)]
+#[derive(Clone, Copy)]
 pub enum Row {
     Number(f64),
     Wrote(usize),
@@ -52,7 +54,7 @@ pub enum Row {
 }
 
 // Which row: the one that stands for every row, the first or the last.
-#[derive(Drop)]
+#[derive(Clone, Copy)]
 enum RowKind {
     Every,
     First,

@@ -1,5 +1,7 @@
 // Validation (mod.rs): `validate`, `check_scalar` and `check_shape`. Old bytes in, new bytes out, or a refusal and nothing
 // changed; a refusal tells which input was being read, or neither.
+#![tactic(auto)]
+
 mod calls;
 mod copies;
 mod descent;
@@ -15,7 +17,7 @@ pub use plain::validate_plain;
 use record::DynShape;
 
 // The side that a validation is for, or none.
-#[derive(Drop)]
+#[derive(Clone, Copy)]
 pub enum Side {
     Unsided,
     Left,
@@ -23,7 +25,7 @@ pub enum Side {
 }
 
 // The input that was being read, or neither.
-#[derive(Drop)]
+#[derive(Clone, Copy)]
 pub enum Input {
     Spec,
     CheckedType,
@@ -31,7 +33,7 @@ pub enum Input {
 }
 
 // How many bytes a separate validation wrote to its result; or its refusal, with the input that was being read.
-#[derive(Drop)]
+#[derive(Clone, Copy)]
 pub enum Separate {
     Wrote(usize),
     Refused {
@@ -42,21 +44,21 @@ pub enum Separate {
 }
 
 // Whether a spec's shape clashes with a type's, and the number of the refusal if it does.
-#[derive(Drop)]
+#[derive(Clone, Copy)]
 enum Clash {
     Clear,
     Numbered { number: u8 },
 }
 
 // The same, and the shape that the type has if it does not, in front, so that its sizes stand aligned.
-#[derive(Drop)]
+#[derive(Clone, Copy)]
 struct ShapeChecked {
     pub shape: DynShape,
     pub clash: Clash,
 }
 
 // A list of types: where it stands, how many they are, and whether they stand one after the other or all at that place.
-#[derive(Drop)]
+#[derive(Clone, Copy)]
 struct Items {
     pub at: usize,
     pub count: u64,
@@ -65,7 +67,7 @@ struct Items {
 
 // What a spec's scalar asks of a type's: a refusal; the type's scalar as it is; the spec's; the contents of two All boxes, at
 // their places; or a Def whose fields are those of two lists, pair by pair as far as both go.
-#[derive(Drop)]
+#[derive(Clone, Copy)]
 enum Plan {
     Refuse {
         number: u8,
@@ -88,14 +90,14 @@ enum Plan {
 }
 
 // Where the bytes written end, and how many types they are.
-#[derive(Drop)]
+#[derive(Clone, Copy)]
 struct Extent {
     pub end: usize,
     pub types: u64,
 }
 
 // The same, or the number of a refusal.
-#[derive(Drop)]
+#[derive(Clone, Copy)]
 enum Validated {
     Done { end: usize, types: u64 },
     Refused { number: u8 },

@@ -1,5 +1,7 @@
 // The library for desks written in other languages: every public call of the checker by C's calling convention. A slice crosses
 // as a pointer and a length, an answer as a struct of numbers. Nothing is decided here.
+#![tactic(auto)]
+
 mod answers;
 mod lists;
 mod scalars;
@@ -72,7 +74,7 @@ pub const CHECKED_TYPE: u64 = 2;
 // What a call answers: refused, with number and place; a value, in `first` and `second`; or none. A number that its kind
 // does not have is 0.
 #[repr(C)]
-#[derive(Drop)]
+#[derive(Clone, Copy)]
 pub struct Answer {
     pub kind: u64,
     pub number: u64,
@@ -83,7 +85,7 @@ pub struct Answer {
 
 // What a validation answers: the same, and which input was being read when it was refused; neither, if it was not.
 #[repr(C)]
-#[derive(Drop)]
+#[derive(Clone, Copy)]
 pub struct Validation {
     pub answer: Answer,
     pub reading: u64,

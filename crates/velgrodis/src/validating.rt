@@ -12,7 +12,7 @@ use limits::refusal::OUT_OF_RANGE;
 use validate::Side;
 
 // The side that a number stands for, if it stands for one.
-#[derive(Drop)]
+#[derive(Clone, Copy)]
 pub enum Sided {
     For(Side),
     Unsaid,

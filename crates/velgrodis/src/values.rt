@@ -14,7 +14,7 @@ use limits::refusal::OUT_OF_RANGE;
 use val::Value;
 
 // The value that a number stands for, if it stands for one.
-#[derive(Drop)]
+#[derive(Clone, Copy)]
 pub enum Chosen {
     Is(Value),
     Unsaid,

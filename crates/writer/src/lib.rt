@@ -1,5 +1,7 @@
 // Writing records: a shape by value, a plain scalar, the start of a box, and the shape and the scalar of a whole type. And a reading as the answer
 // of a call.
+#![tactic(auto)]
+
 mod readings;
 
 ghost use Rattle.std.specs.Prelude.{◌≡◌, [], ◌∷◌, ◌++◌, ◌+◌, ◌*◌, ◌≤◌, ◌<◌, length};

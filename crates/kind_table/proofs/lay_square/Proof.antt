@@ -4,7 +4,7 @@ use native.Mathlib.Omega.{arith}
 use lib.ListN.{take}
 use borrow.Author.Rules.{rules}
 use Rattle.lent.specs.Over.{over}
-use Rattle.rules.specs.KindTable.{kind_count, in_aRow}
+use Rattle.rules.specs.KindTable.{kind_count, in_a_row}
 use Rattle.kind_table.proofs.RowLaws.{none-laid, row_is, row_room, row_laid, all_laid, all-length}
 use Rattle.kind_table.proofs.lay_square.Statement.{statement}
 use Rattle.kind_table.proofs.lay_square.Tie as tie
@@ -13,7 +13,7 @@ use Rattle.kind_table.proofs.lay_square.Lts as lts
 use Rattle.lent.proofs.lay.Reads as lay-reads
 
 abbrev invariant-loop : tie.invariant-loop
-invariant-loop out₀ at square i₀ out i = (out ≡ over out₀ at (in_aRow (take i square))) × (i ≤ kind_count)
+invariant-loop out₀ at square i₀ out i = (out ≡ over out₀ at (in_a_row (take i square))) × (i ≤ kind_count)
 
 abbrev decreases-loop : tie.decreases-loop
 decreases-loop out₀ at square i₀ out i = kind_count - i

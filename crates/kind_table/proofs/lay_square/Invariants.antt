@@ -1,0 +1,15 @@
+use Prim.Native.Nat.{◌-◌, ◌≤◌}
+use mathlib.Core.Path.{◌≡◌}
+use native.Mathlib.Omega.{arith}
+use lib.ListN.{take}
+use borrow.Author.Rules.{rules}
+use Rattle.lent.specs.Over.{over}
+use Rattle.rules.specs.KindTable.{kind_count, in_a_row}
+use Rattle.kind_table.proofs.RowLaws.{none-laid, row_is, row_room, row_laid, all_laid, all-length}
+use Rattle.kind_table.proofs.lay_square.Given as goal
+
+abbrev pub invariant-loop-i : goal.invariant-loop-i
+invariant-loop-i l = (l.out ≡ over l.initial.out l.at (in_a_row (take l.i l.square))) × (l.i ≤ kind_count)
+
+abbrev pub decreases-loop-i : goal.decreases-loop-i
+decreases-loop-i l = kind_count - l.i

@@ -1,0 +1,22 @@
+use native.Mathlib.Omega.{arith}
+use borrow.Author.Rules.{rules}
+use Prim.Native.Nat.{◌<◌}
+use Rattle.model.specs.Limits.{max_depth}
+use Rattle.model.specs.Types.{Fields, field_count}
+use Rattle.known.specs.Known.{FieldsAt}
+use Rattle.known.proofs.SpanLaws.{Reaching, reach_start, reach_has, reach_next, reach_end}
+use Rattle.known.proofs.spans.field_at.Goals as goal
+
+pub loop-left-init : goal.loop-left-init
+loop-left-init c = λ f h l. reach_start _ _ _ _ f h l
+
+pub skip_type-field-requires : goal.skip_type-field-requires
+skip_type-field-requires c =
+    reach_has (c.loop-left.invariant c.requires.2.fields c.requires.2.there (omega (arith, c.requires.1, c.requires.2.counted)))
+
+pub loop-left-preserved : goal.loop-left-preserved
+loop-left-preserved c =
+    λ f h l. reach_next (c.loop-left.invariant f h l) c.loop-left-test.true (λ t g. (c.skip_type-field.ensures t g).ends)
+
+pub returns : goal.returns
+returns c = λ f h l. reach_end (c.loop-left.invariant f h l) (omega (arith, c.loop-left-test.false))

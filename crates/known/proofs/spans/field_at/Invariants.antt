@@ -1,0 +1,14 @@
+use native.Mathlib.Omega.{arith}
+use borrow.Author.Rules.{rules}
+use Prim.Native.Nat.{◌<◌}
+use Rattle.model.specs.Limits.{max_depth}
+use Rattle.model.specs.Types.{Fields, field_count}
+use Rattle.known.specs.Known.{FieldsAt}
+use Rattle.known.proofs.SpanLaws.{Reaching, reach_start, reach_has, reach_next, reach_end}
+use Rattle.known.proofs.spans.field_at.Given as goal
+
+abbrev pub invariant-loop-left : goal.invariant-loop-left
+invariant-loop-left l = (f : Fields) → FieldsAt l.s l.fields max_depth f → l.n < field_count f → Reaching l.s l.fields max_depth l.n f l.at l.left
+
+abbrev pub decreases-loop-left : goal.decreases-loop-left
+decreases-loop-left l = l.left

@@ -1,0 +1,17 @@
+use Prim.Native.Nat.{ℕ, ◌+◌, ◌-◌, ◌≤◌}
+use native.Mathlib.Omega.{arith}
+use mathlib.Core.List.{List}
+use mathlib.Core.Path.{◌≡◌, sym, ◌∙◌}
+use lib.ListN.{drop}
+use Rattle.machine.specs.Written.{TableName}
+use Rattle.machine.specs.Names.{Names}
+use Rattle.names.specs.Table.{NameStands, InForce, place_of}
+use Rattle.names.specs.TableLaws.{nth_in_force, place_here, place-later, place_none}
+use borrow.Author.Rules.{rules}
+use Rattle.names.proofs.table.find.Given as goal
+
+abbrev pub invariant-loop-k : goal.invariant-loop-k
+invariant-loop-k l = (l.k ≤ l.count) × ((bounds : List ℕ) (ns : Names) (n : TableName) → InForce l.s l.places bounds l.count ns → NameStands l.s l.name n → place_of ns n ≡ l.k + place_of (drop l.k ns) n)
+
+abbrev pub decreases-loop-k : goal.decreases-loop-k
+decreases-loop-k l = l.count - l.k

@@ -1,0 +1,31 @@
+use mathlib.Core.Path.{◌≡◌, refl, ◌∙◌}
+use native.Mathlib.Omega.{arith}
+use borrow.Author.Rules.{rules}
+use lib.ListN.{length}
+use Rattle.model.specs.Types.{Fields, field_count}
+use Rattle.format.specs.Records.{write_fields}
+use Rattle.lent.specs.Over.{over}
+use Rattle.rules.specs.Scalars.{unrefine_fields}
+use Rattle.known.specs.Known.{FieldsAt}
+use Rattle.known.specs.KnownLaws.{deep, has-scalar}
+use Rattle.scalar.proofs.UnrefineLaws.{kind-there, unrefine-plain, unrefine-any, all_there, unrefine-all, fields-there, unrefine-def, unrefine-behind}
+use Rattle.scalar.proofs.UnrefineLaws.{FieldsLeft, left-start, left-type, left-next, left_end}
+use Prim.Native.Nat.{ℕ, ◌<◌, ◌+◌, ◌*◌}
+use Rattle.scalar.proofs.refinement.+unrefine_at_unrefine_fields_unrefine_type.Given as goal
+
+abbrev pub decreases-unrefine_at : goal.decreases-unrefine_at
+decreases-unrefine_at l = 3 * l.depth + 2
+
+abbrev pub decreases-unrefine_fields : goal.decreases-unrefine_fields
+decreases-unrefine_fields l = 3 * l.depth + 1
+
+abbrev pub decreases-unrefine_type : goal.decreases-unrefine_type
+decreases-unrefine_type l = 3 * l.depth
+
+abbrev pub invariant-unrefine_fields-loop-left : goal.invariant-unrefine_fields-loop-left
+invariant-unrefine_fields-loop-left l =
+    (length l.out ≡ length l.initial.out)
+    × ((f : Fields) → FieldsAt l.initial.out l.start l.depth f → field_count f ≡ l.count → FieldsLeft l.out l.at l.depth l.left (l.start + length (write_fields f)) (over l.initial.out l.start (write_fields (unrefine_fields f))))
+
+abbrev pub decreases-unrefine_fields-loop-left : goal.decreases-unrefine_fields-loop-left
+decreases-unrefine_fields-loop-left l = l.left

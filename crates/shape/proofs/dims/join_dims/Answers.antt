@@ -1,0 +1,32 @@
+use borrow.Author.Rules.{rules}
+use mathlib.Core.Path.{sym, ◌∙◌}
+use native.Mathlib.Omega.{arith}
+use Prim.Native.Nat.{◌-◌}
+use mathlib.Core.Logic.{⊎_elim}
+use Rattle.record.specs.Answers.{dims_of}
+use Rattle.rules.specs.Shapes.{join_dims}
+use Rattle.rules.specs.ShapesLaws.{join-length}
+use Rattle.shape.proofs.DimsLaws.{Listed, listed-none, listed_more, listed-past, listed-all, join_more}
+use Rattle.shape.proofs.dims.join_dims.Goals.{else-i-count, then-i-count}
+use Rattle.shape.proofs.dims.join_dims.Goals as goal
+
+pub loop-i-init : goal.loop-i-init
+loop-i-init c =
+    let args = c.args in
+    listed-none (join_dims (dims_of args.a) (dims_of args.b)) c.shorter-count.result _ (search rules)
+
+pub loop-i-preserved : goal.loop-i-preserved
+loop-i-preserved c =
+    let args = c.args in
+    let at-loop = c.loop-i in
+    let list = join_dims (dims_of args.a) (dims_of args.b) in
+    let count = c.shorter-count.result in
+    elim c.if-i-count.branch [ then-i-count w ↦ listed_more list count at-loop.sizes at-loop.i c.loop-i-test.true at-loop.invariant w.3.result w.0.taken w.4
+    (join_more (dims_of args.a) (dims_of args.b) at-loop.sizes at-loop.i w.3.result (omega arith) (omega (arith, c.shorter-count.ensures.0))
+    w.1.ensures w.2.ensures w.3.ensures) | else-i-count w ↦ listed-past list count at-loop.sizes at-loop.i c.loop-i-test.true at-loop.invariant w.0.left w.1 ]
+
+pub returns : goal.returns
+returns c =
+    let args = c.args in
+    listed-all (join_dims (dims_of args.a) (dims_of args.b)) c.shorter-count.result c.loop-i.sizes c.loop-i.i c.loop-i-test.false c.shorter-count.ensures.1
+    (c.shorter-count.ensures.0 ∙ sym (join-length (dims_of args.a) (dims_of args.b))) c.loop-i.invariant

@@ -1,0 +1,17 @@
+use borrow.Author.Rules.{rules}
+use mathlib.Core.Path.{◌≡◌, sym, ◌∙◌}
+use native.Mathlib.Omega.{arith}
+use Prim.Native.Nat.{◌-◌, ◌≤◌}
+use lib.ListN.{length, length-set}
+use Rattle.record.specs.Answers.{dims_of}
+use Rattle.rules.specs.Shapes.{join_ends}
+use Rattle.rules.specs.ShapesLaws.{join_ends-length}
+use Rattle.shape.proofs.DimsLaws.{Built, build_start, build_end, ends_more}
+use mathlib.Core.List.{[]}
+use Rattle.shape.proofs.dims.join_ends.Given as goal
+
+abbrev pub invariant-loop-i : goal.invariant-loop-i
+invariant-loop-i l = (l.i ≤ l.count) × (length l.sizes ≡ 8) × Built (join_ends (dims_of l.a) (dims_of l.b)) l.sizes l.i
+
+abbrev pub decreases-loop-i : goal.decreases-loop-i
+decreases-loop-i l = l.count - l.i

@@ -1,0 +1,18 @@
+use borrow.Author.Rules.{rules}
+use mathlib.Core.Path.{◌≡◌, sym, ap, ◌∙◌}
+use native.Mathlib.Omega.{arith}
+use Prim.Native.Nat.{◌-◌, ◌≤◌}
+use lib.ListN.{length, length-set}
+use mathlib.Core.List.{[]}
+use mathlib.Core.Logic.{⊎_elim}
+use Rattle.record.specs.Answers.{dims_of}
+use Rattle.shape.specs.Answers.{meeting_of, rule_for}
+use Rattle.shape.proofs.PervadeLaws.{looked_at, Walked, walk_start, walk_more, walk-stop, walk-whole}
+use Rattle.rules.specs.Pervade.{clash}
+use Rattle.shape.proofs.pervade.pervade_dims.Given as goal
+
+abbrev pub invariant-loop-i : goal.invariant-loop-i
+invariant-loop-i l = (l.i ≤ l.count) × (length l.sizes ≡ 8) × Walked (rule_for l.filling) (dims_of l.a) (dims_of l.b) l.sizes l.i
+
+abbrev pub decreases-loop-i : goal.decreases-loop-i
+decreases-loop-i l = l.count - l.i

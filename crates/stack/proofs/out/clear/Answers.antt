@@ -1,0 +1,8 @@
+use Rattle.machine.specs.Call.{zeroed}
+use borrow.Author.Rules.{rules}
+use Rattle.stack.proofs.out.clear.Goals as goal
+
+pub returns : goal.returns
+unfolding zeroed
+returns c =
+    c.zero_first.ensures

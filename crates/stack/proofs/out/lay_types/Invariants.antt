@@ -1,0 +1,19 @@
+use Prim.Native.Nat.{◌+◌, ◌-◌, ◌≤◌, ◌<◌}
+use native.Mathlib.Omega.{arith}
+use mathlib.Core.List.{List}
+use mathlib.Core.Path.{◌≡◌, refl, sym, ◌∙◌, ap}
+use lib.ListN.{length, get_or}
+use Rattle.model.specs.Types.{Ty}
+use Rattle.lent.specs.Over.{over}
+use Rattle.stack.specs.Stack.{memory, Stacked}
+use Rattle.stack.proofs.OutLaws.{lowest_bytes, bytes-none, bytes-all, size-next, bytes-within, next_fits, laid_next, laid_none}
+use borrow.Author.Rules.{rules}
+use Rattle.stack.proofs.out.lay_types.Given as goal
+
+abbrev pub invariant-loop-k : goal.invariant-loop-k
+invariant-loop-k l =
+    (l.k ≤ l.count) × (length l.result ≡ length l.result₀)
+    × ((ts : List Ty) → Stacked (memory l.ends l.lengths l.s l.trays l.scratch) l.count ts → (l.at ≡ length (lowest_bytes l.count l.k ts)) × (l.result ≡ over l.result₀ 0 (lowest_bytes l.count l.k ts)))
+
+abbrev pub decreases-loop-k : goal.decreases-loop-k
+decreases-loop-k l = l.count - l.k

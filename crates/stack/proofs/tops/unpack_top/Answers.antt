@@ -1,0 +1,18 @@
+use Prim.Native.Nat.{◌-◌}
+use native.Mathlib.Omega.{arith}
+use mathlib.Core.Path.{◌≡◌}
+use lib.ListN.{get_or}
+use Rattle.stack.specs.Stack.{NotPacked}
+use Rattle.stack.specs.StackLaws.{top_one}
+use borrow.Author.Rules.{rules}
+use Rattle.stack.proofs.tops.unpack_top.Goals as goal
+
+pub unpack_at-requires : goal.unpack_at-requires
+unpack_at-requires c =
+    let args = c.args in
+    ((c.requires.1.0, args.count, omega (arith, c.requires.0), c.requires.1.1), c.requires.2 (args.count - 1) (omega (arith, c.requires.0)) (omega arith))
+
+pub returns : goal.returns
+returns c =
+    let args = c.args in
+    (λ s. c.unpack_at.ensures.0 s args.count (omega (arith, c.requires.0)) (omega arith), top_one (NotPacked c.unpack_at.new.1.0) args.count c.unpack_at.ensures.1.0)

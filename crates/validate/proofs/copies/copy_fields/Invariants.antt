@@ -1,0 +1,16 @@
+use native.Mathlib.Omega.{arith}
+use mathlib.Core.Path.{◌≡◌, refl, ◌∙◌}
+use lib.ListN.{length, take}
+use borrow.Author.Rules.{rules}
+use Rattle.model.specs.Types.{Fields, field_count}
+use Rattle.validate.specs.Walk.{Going}
+use Rattle.validate.specs.Lists.{ListAt}
+use Rattle.validate.proofs.CopyLaws.{going_start, going-has, going-room, going_next, going-few, going_end}
+use Rattle.validate.proofs.copies.copy_fields.Given as goal
+
+abbrev pub invariant-loop-left : goal.invariant-loop-left
+invariant-loop-left l =
+    (length l.out ≡ length l.initial.out) × ((f : Fields) → ListAt l.moves l.s l.start f → field_count f ≡ l.count → Going l.s f (take l.to l.initial.out) l.to l.moves l.at l.left (take l.end l.out) l.end l.types)
+
+abbrev pub decreases-loop-left : goal.decreases-loop-left
+decreases-loop-left l = l.left

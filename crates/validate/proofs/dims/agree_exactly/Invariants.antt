@@ -1,0 +1,16 @@
+use Prim.Native.Nat.{◌-◌, ◌≤◌}
+use native.Mathlib.Omega.{arith}
+use mathlib.Core.Path.{◌≡◌, refl, sym, ◌∙◌}
+use lib.ListN.{drop}
+use borrow.Author.Rules.{rules}
+use Rattle.record.specs.Answers.{dims_of}
+use Rattle.validation.specs.CheckShape.{agree, equal_dim}
+use Rattle.validation.specs.CheckShapeSteps.{agree-end, agree_end'}
+use Rattle.validate.proofs.DimsLaws.{equal-more, equal-stop}
+use Rattle.validate.proofs.dims.agree_exactly.Given as goal
+
+abbrev pub invariant-loop-i : goal.invariant-loop-i
+invariant-loop-i l = (l.i ≤ l.m) × (agree equal_dim (dims_of l.a) (dims_of l.b) ≡ agree equal_dim (drop l.i (dims_of l.a)) (drop l.i (dims_of l.b)))
+
+abbrev pub decreases-loop-i : goal.decreases-loop-i
+decreases-loop-i l = l.m - l.i

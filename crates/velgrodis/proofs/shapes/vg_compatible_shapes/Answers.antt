@@ -1,0 +1,7 @@
+use mathlib.Core.Path.{ap, ◌∙◌}
+use Rattle.velgrodis.specs.Answers.{shapes_tested}
+use borrow.Author.Rules.{rules}
+use Rattle.velgrodis.proofs.shapes.vg_compatible_shapes.Goals as goal
+
+pub returns : goal.returns
+returns c = c.of_shapes_tested.ensures ∙ ap shapes_tested c.compatible_shapes.ensures

@@ -1,0 +1,7 @@
+use mathlib.Core.Path.{ap, ◌∙◌}
+use Rattle.velgrodis.specs.Answers.{counted}
+use borrow.Author.Rules.{rules}
+use Rattle.velgrodis.proofs.shapes.vg_rank.Goals as goal
+
+pub returns : goal.returns
+returns c = c.of_count.ensures ∙ ap counted c.shape_rank.ensures

@@ -1,0 +1,7 @@
+use mathlib.Core.Path.{ap, ◌∙◌}
+use Rattle.velgrodis.specs.Answers.{counted}
+use borrow.Author.Rules.{rules}
+use Rattle.velgrodis.proofs.types.vg_read.Goals as goal
+
+pub returns : goal.returns
+returns c = c.of_lone.ensures ∙ ap counted c.read_lone.ensures

@@ -17,20 +17,20 @@ loop-i-init c =
 pub overflow_mul-out : goal.overflow_mul-out
 overflow_mul-out c =
     let args = c.args in
-    let h : digit (get_or args.text.now (2 * c.loop-i.i) 0) < 16 = digit-below 16 args.text.now (2 * c.loop-i.i) c.requires.0 (omega arith) in
-    let l : digit (get_or args.text.now (2 * c.loop-i.i + 1) 0) < 16 = digit-below 16 args.text.now (2 * c.loop-i.i + 1) c.requires.0 (omega arith) in
+    let h : digit (get_or args.text.now (2 * c.loop-i.i) 0) < 16 = digit-below 16 args.text.now (2 * c.loop-i.i) c.requires.text_value (omega arith) in
+    let l : digit (get_or args.text.now (2 * c.loop-i.i + 1) 0) < 16 = digit-below 16 args.text.now (2 * c.loop-i.i + 1) c.requires.text_value (omega arith) in
     omega arith
 
 pub overflow_add-out : goal.overflow_add-out
 overflow_add-out c =
     let args = c.args in
-    let h : digit (get_or args.text.now (2 * c.loop-i.i) 0) < 16 = digit-below 16 args.text.now (2 * c.loop-i.i) c.requires.0 (omega arith) in
-    let l : digit (get_or args.text.now (2 * c.loop-i.i + 1) 0) < 16 = digit-below 16 args.text.now (2 * c.loop-i.i + 1) c.requires.0 (omega arith) in
+    let h : digit (get_or args.text.now (2 * c.loop-i.i) 0) < 16 = digit-below 16 args.text.now (2 * c.loop-i.i) c.requires.text_value (omega arith) in
+    let l : digit (get_or args.text.now (2 * c.loop-i.i + 1) 0) < 16 = digit-below 16 args.text.now (2 * c.loop-i.i + 1) c.requires.text_value (omega arith) in
     omega arith
 
 pub loop-i-preserved : goal.loop-i-preserved
 loop-i-preserved c =
-    (omega arith, search rules, decoded_more _ _ _ _ _ _ _ c.requires.1 c.loop-i-test.true c.hex_digit_value-high.ensures.0 c.hex_digit_value-low.ensures.0 c.loop-i.invariant.2)
+    (omega arith, search rules, decoded_more _ _ _ _ _ _ _ c.requires.text_in_bounds c.loop-i-test.true c.hex_digit_value-high.ensures.0 c.hex_digit_value-low.ensures.0 c.loop-i.invariant.2)
 
 pub returns : goal.returns
 returns c =

@@ -7,4 +7,4 @@ use Rattle.text.proofs.render.put_decimal.Goals as goal
 pub returns : goal.returns
 returns c =
     let args = c.args in
-    c.put_bytes.ensures ∙ ap (place args.out.now args.at) (c.decimal-k.ensures.1.1 ∙ fewest_digits args.n c.decimal-k.result c.ranges.n.fits c.decimal-k.ensures.1.0)
+    c.put_bytes.ensures ∙ ap (place args.out.now args.at) (c.decimal-k.ensures.digits ∙ fewest_digits args.n c.decimal-k.result c.ranges.n.fits c.decimal-k.ensures.len)

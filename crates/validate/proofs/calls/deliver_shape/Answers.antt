@@ -54,7 +54,7 @@ returns-in-Clear c =
     c.check_shapes-checked.ensures c.shape_at.ensures c.shape_at-2.ensures in
     let is = shape-merged both (side_of args.side) c.check_shapes-checked.result checked
     (λ i. omega (arith, c.shared_slice_known-2-1.given i)) c.scalar_at-start.ensures c.in-Clear.is in
-    c.write_parts.ensures ∙ ap (λ o. deliver o args.result.now) (sym is)
+    c.write_parts.ensures ∙ ap (λ o. deliver o args.res.now) (sym is)
 
 pub returns-in-Numbered : goal.returns-in-Numbered
 returns-in-Numbered c =

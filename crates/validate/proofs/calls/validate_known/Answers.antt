@@ -19,14 +19,14 @@ pub returns-in-Done : goal.returns-in-Done
 returns-in-Done c =
     let args = c.args in
     let both = lones args.spec.now args.ty.now (λ i. omega (arith, c.shared_slice_known-1.given i)) (λ i. omega (arith, c.shared_slice_known-2-1.given i)) c.requires in
-    let room = validate-ends both (side_of args.side) c.check_type-w.result args.out.now c.check_type-w.new.1.1.1.1.1.1.1.0 (c.check_type-w.ensures both.pair) c.in-Done.is in
+    let room = validate-ends both (side_of args.side) c.check_type-w.result args.out.now c.check_type-w.new.out (c.check_type-w.ensures both.pair) c.in-Done.is in
     inl (
-      validate-done both (side_of args.side) c.check_type-w.result args.out.now c.check_type-w.new.1.1.1.1.1.1.1.0 (c.check_type-w.ensures both.pair) c.in-Done.is,
-      omega (arith, room, c.if-out-lt-MAX_BYTES.false, c.check_type-w.auto.1.1.1.1.1.1.1.0),
+      validate-done both (side_of args.side) c.check_type-w.result args.out.now c.check_type-w.new.out (c.check_type-w.ensures both.pair) c.in-Done.is,
+      omega (arith, room, c.if-out-lt-MAX_BYTES.false, c.check_type-w.auto.out),
     )
 
 pub returns-in-Refused : goal.returns-in-Refused
 returns-in-Refused c =
     let args = c.args in
     let both = lones args.spec.now args.ty.now (λ i. omega (arith, c.shared_slice_known-1.given i)) (λ i. omega (arith, c.shared_slice_known-2-1.given i)) c.requires in
-    inl (validate-not both (side_of args.side) c.check_type-w.result args.out.now c.check_type-w.new.1.1.1.1.1.1.1.0 (c.check_type-w.ensures both.pair) c.in-Refused.is)
+    inl (validate-not both (side_of args.side) c.check_type-w.result args.out.now c.check_type-w.new.out (c.check_type-w.ensures both.pair) c.in-Refused.is)

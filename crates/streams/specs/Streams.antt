@@ -1,14 +1,14 @@
 -- What reads and writes answer, and when there is no more to move. POSIX's `read` and `write` answer how many bytes they moved, at
--- most as many as they were lent, or a negative number where they failed; a read that answers 0 has found the input's end.
-use Rattle.std.specs.Prelude.{ℕ, zero, suc, ◌≤◌, ◌<◌, ℤ, pos, negsuc}
+-- most as many as they were lent, or that they failed, here an `Err`; a read that answers 0 has found the input's end.
+use Rattle.std.specs.Prelude.{ℕ, zero, suc, ◌≤◌, ◌<◌, Result, Ok, Err}
 use Rattle.streams.specs.declared.Answered.{Answered}
 use Rattle.streams.specs.declared.Answered.TheVariants.{Bytes, Nothing, Failed}
 
--- the number that a call answered, by name
-abbrev pub answered_by : ℤ → Answered
-answered_by (pos zero) = Nothing
-answered_by (pos (suc n)) = Bytes (suc n)
-answered_by (negsuc n) = Failed
+-- what a call answered, by name
+abbrev pub answered_by : {E : Type 0} → Result ℕ E → Answered
+answered_by (Ok zero) = Nothing
+answered_by (Ok (suc n)) = Bytes (suc n)
+answered_by (Err e) = Failed
 
 -- Some bytes and no more than there is room for, or none.
 abbrev pub AtMost : Answered → ℕ → Type 0

@@ -5,25 +5,27 @@ use crate::Asked;
 use crate::writing::complain;
 use check::same;
 use limits::VERSION;
+use std::env::{Env, FillError};
+use std::io::Write;
 
 // No word that is known is longer. Of a longer argument no byte is had, and that is no word that is known.
 const MAX_ARGUMENT: usize = 16;
 
-pub fn say_version() {
+pub fn say_version<W: Write>(err: &mut W) {
     let mut digits = [0u8; 20];
     let n = io::decimal(VERSION, &mut digits);
-    complain(b"velgrodis ");
-    complain(&digits[..n]);
-    complain(b"\n");
+    complain(&mut *err, b"velgrodis ");
+    complain(&mut *err, &digits[..n]);
+    complain(err, b"\n");
 }
 
-pub fn read_argument() -> Asked {
-    if os::arg_count() < 2 {
-        return Asked::Work;
-    }
+pub fn read_argument(env: &impl Env) -> Asked {
     let mut argument = [0u8; MAX_ARGUMENT];
-    let n = os::arg(1, &mut argument);
-    meant(&argument[..n])
+    match env.arg(1, &mut argument) {
+        Ok(n) => meant(&argument[..n]),
+        Err(FillError::NotPresent) => Asked::Work,
+        Err(FillError::TooLong) => Asked::Unknown,
+    }
 }
 
 fn meant(argument: &[u8]) -> Asked

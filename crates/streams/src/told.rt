@@ -1,17 +1,18 @@
-// The answer of the C library as a name.
+// The answer of a reader or a writer as a name.
 ghost use Rattle.std.specs.Prelude.{◌≡◌};
 ghost use Rattle.streams.specs.Streams.{answered_by};
 
 use crate::Answered;
+use std::io::Result;
 
-pub(crate) fn told(got: isize) -> Answered
+pub(crate) fn told(got: Result<usize>) -> Answered
     ensures { result ≡ answered_by got }
 {
-    if got < 0 {
+    let Ok(n) = got else {
         return Answered::Failed;
-    }
-    if got > 0 {
-        return Answered::Bytes(got as usize);
+    };
+    if n > 0 {
+        return Answered::Bytes(n);
     }
     Answered::Nothing
 }

@@ -23,7 +23,7 @@ pub returns : goal.returns
 returns c =
     let args = c.args in
     c.write_shape.ensures
-    ∙ ap (λ o. deliver o args.result.now)
+    ∙ ap (λ o. deliver o args.res.now)
     (sym (shape_record-is (lone args.ty.now)
     (whole-shape _ (λ i. omega (arith, c.shared_slice_known-1.given i)) (sym c.read_lone-read.ensures ∙ ap lone_of c.in-Accepted.is)
     c.shape_at.result c.shape_at.ensures)))

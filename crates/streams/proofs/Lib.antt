@@ -1,3 +1,0 @@
-mod ToldLaws
-mod MovedLaws
-mod WordLaws

@@ -22,7 +22,7 @@ pub returns-then-trays-ty : goal.returns-then-trays-ty
 returns-then-trays-ty c =
     let args = c.args in
     λ s count t there within e.
-    packed_takes args.ends.now args.lengths.now s args.trays.now args.scratch.now count args.k c.requires.0 there t within packed_end (length args.ty.now) (ap length e) args.trays.now _ c.pack.auto.scratch
+    packed_takes args.ends.now args.lengths.now s args.trays.now args.scratch.now count args.k c.requires.0 there t within packed_end (length args.ty.now) (ap length e) args.trays.now _ c.pack.auto.out
     refl (c.pack.ensures t within e) refl c.requires.2.3.stacked.room
 
 pub lay-requires : goal.lay-requires

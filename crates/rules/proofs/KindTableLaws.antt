@@ -6,7 +6,6 @@ use Rattle.std.proofs.Math.Bool.{and-eq-true_iff}
 use Rattle.std.proofs.Math.Path.{ap}
 use Rattle.std.proofs.lemmas.Bool.{eqb-false, not-true}
 use Rattle.model.specs.Types.{Kind, bool, nat, int, num, complex, ascii, char, stream, any, Scalar, plain, box_any, box_all, box_def, Ty, ty, box_of}
-use Rattle.model.specs.Within.{All}
 use Rattle.format.specs.Records.{code, box_code}
 use Rattle.rules.specs.Shapes.{scalar_shape, compatible_shapes}
 use Rattle.rules.specs.Order.{code_of, kind_place}

@@ -2,12 +2,11 @@
 -- seen as the result's element (`..-at`), and what is left of a result after some indices (`..-drop`).
 use Rattle.std.specs.Prelude.{ℕ, zero, suc, ◌-◌, ◌<◌, max, Bool, true, false, cond, List, [], ◌∷◌, reverse, ◌≡◌, refl, length, drop, get_or, leb}
 use Rattle.std.proofs.Common.{arith, sym, get_or-take, leb-true, leb-false, le-leb}
-use Rattle.std.proofs.Math.Option.{Option, none, some}
 use Rattle.std.proofs.Math.ListN.{get_elem?, get_or-eq_default}
 use Rattle.std.proofs.lemmas.List.{length-reverse}
 use Rattle.std.proofs.Math.Seq.{drop-nil}
 use Rattle.model.specs.Types.{Dim, unknown}
-use Rattle.rules.specs.Sizes.{larger, join_dim}
+use Rattle.rules.specs.Sizes.{join_dim}
 use Rattle.rules.specs.Shapes.{merge_dims, join_dims, join_longer, join_ends}
 use Rattle.rules.proofs.SizesLaws.{join_dim-unknown}
 use Rattle.rules.proofs.Lists.{get_d_reverse}

@@ -1,9 +1,9 @@
 -- What stands at the places within a scalar's record, and which scalar it is by its code and its form.
-use Rattle.std.specs.Prelude.{ℕ, ◌+◌, ◌≤◌, ◌<◌, List, [], ◌∷◌, ◌++◌, ◌≡◌, refl, length, get_or}
+use Rattle.std.specs.Prelude.{ℕ, ◌+◌, ◌≤◌, ◌<◌, List, ◌++◌, ◌≡◌, refl, length, get_or}
 use Rattle.std.proofs.Common.{arith, ◌∙◌, length-append}
 use Rattle.std.proofs.Math.Option.{Option}
-use Rattle.model.specs.Types.{Shape, Kind, Scalar, plain, box_any, box_all, box_def, Fields, Ty, ty, field_count}
-use Rattle.format.specs.Records.{box_code, count_of, list_of, box_start, write_shape, write_scalar, write_fields, write_ty}
+use Rattle.model.specs.Types.{Shape, Kind, Scalar, plain, box_any, box_all, box_def, Fields, Ty, ty}
+use Rattle.format.specs.Records.{box_code, box_start, write_shape, write_scalar, write_ty}
 use Rattle.format.specs.Views.{Stands, stands-nth, stands-within}
 use Rattle.rules.specs.Order.{code_of}
 use Rattle.rules.proofs.OrderLaws.{code-box}

@@ -25,8 +25,7 @@ returns-then-a-i c =
 
 pub loop-i-preserved : goal.loop-i-preserved
 loop-i-preserved c =
-    let args = c.args in
-    (
+    let args = c.args in (
       omega arith,
       c.loop-i.invariant.1 ∙ equal-more args.a args.b c.loop-i.i c.size_count-m.ensures.0 c.size_count-n.ensures.0
           (omega arith) (omega arith) c.if-a-i.false,

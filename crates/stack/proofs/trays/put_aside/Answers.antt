@@ -41,11 +41,12 @@ pack-requires c =
 pub returns : goal.returns
 returns c =
     let args = c.args in
-    let inside : args.i < length args.ends.now = omega (arith, c.requires.3.stacked.ended, c.requires.3.stacked.few) in (
-      λ s count less. packed_keeps args.ends.now args.lengths.now s args.trays.now args.scratch.now count args.i less packed_end args.trays.now _
-          c.pack.auto.1.0 c.if-ends-i-ne-TRAY_END.false refl refl c.tray_at-at.ensures c.pack.ensures,
-      (
+    let inside : args.i < length args.ends.now = omega (arith, c.requires.3.stacked.ended, c.requires.3.stacked.few) in
+    record {
+      by_index = λ s count less. packed_keeps args.ends.now args.lengths.now s args.trays.now args.scratch.now count args.i less packed_end args.trays.now _
+          c.pack.auto.out c.if-ends-i-ne-TRAY_END.false refl refl c.tray_at-at.ensures c.pack.ensures;
+      fact = (
         λ e. not_in_tray args.ends.now args.i inside,
         λ j ne. get_or-set_other args.ends.now args.i j packed_end 0 ne,
-      ),
-    )
+      );
+    }

@@ -21,7 +21,7 @@ use Rattle.rules.specs.KindTable.{contents_decide, union_number}
 use Rattle.rules.specs.Types.{join_types}
 use Rattle.known.specs.Known.{TypeAt, ScalarAt, opening_of, is_closed}
 use Rattle.known.specs.Whole.{of_scalars}
-use Rattle.known.specs.WholeLaws.{Begins, type-there, first_good, second_good, whole-shape, scalars-there}
+use Rattle.known.proofs.WholeLaws.{Begins, type-there, first_good, second_good, whole-shape, scalars-there}
 use Rattle.writer.specs.Kinds.{closed_record}
 use Rattle.join.specs.Calls.{join_call}
 use Rattle.join.specs.ShapesLaws.{by-scalars}

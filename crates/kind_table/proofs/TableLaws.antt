@@ -13,10 +13,11 @@ use Rattle.format.specs.Records.{code, box_code}
 use Rattle.lent.specs.Over.{over, over-over}
 use Rattle.rules.specs.Order.{code_of, kind_place}
 use Rattle.rules.specs.Scalars.{superset_codes, compatible_codes, superset_of, compatible_scalars, union}
-use Rattle.rules.specs.ScalarsLaws.{superset_codes-refl}
+use Rattle.rules.proofs.ScalarsLaws.{superset_codes-refl}
 use Rattle.rules.specs.KindTable.{kind_count, pair_count, contents_decide, union_number, squares, in_a_row, kind_table}
 use Rattle.kind_table.specs.Rows.{RowsLaid}
-use Rattle.rules.specs.KindTableLaws.{number_at, WholeTable, whole_table, union_codes, union-by_codes, table_length, superset_entry, compatible_entry, yes-says}
+use Rattle.rules.specs.KindTableLaws.{number_at, WholeTable}
+use Rattle.rules.proofs.KindTableLaws.{whole_table, union_codes, union-by_codes, table_length, superset_entry, compatible_entry, yes-says}
 
 module _ (t : List (List (List ℕ))) (c d : ℕ) (same : t ≡ squares) where
   abbrev whole : WholeTable t

@@ -15,11 +15,12 @@ use Rattle.known.specs.declared.Name.{Name}
 use Rattle.known.specs.Known.{NameAt, HasName, NameIs}
 use Rattle.lent.specs.Over.{over}
 use Rattle.rules.specs.Order.{code_of}
-use Rattle.rules.specs.OrderLaws.{code-box}
-use Rattle.rules.specs.Views.{form_of, is_box-any, is_box-all, is_box-def, is_box-def_else}
+use Rattle.rules.proofs.OrderLaws.{code-box}
+use Rattle.rules.specs.Views.{form_of}
+use Rattle.rules.proofs.ViewsLaws.{is_box-any, is_box-all, is_box-def, is_box-def_else}
 use Rattle.writer.specs.Kinds.{kind_record}
 use Rattle.packing.specs.Heads.{held_count}
-use Rattle.packing.specs.HeadLaws.{head-stands}
+use Rattle.packing.proofs.HeadLaws.{head-stands}
 use Rattle.packing.specs.Layouts.{as_record, as_packed, form_in, def_head, head_in}
 use Rattle.packing.specs.Parts.{ScalarThere, DefThere, HasHead, HasDef, After}
 use Rattle.packing.proofs.Halfway.{Before, before-second, after_then}

@@ -16,9 +16,9 @@ use Rattle.record.specs.Answers.{dims_of}
 use Rattle.record.specs.declared.Dims.{Dims}
 use Rattle.record.proofs.ByValue.{size-at}
 use Rattle.rules.specs.Sizes.{compatible}
-use Rattle.rules.specs.Lists.{get_d_reverse}
+use Rattle.rules.proofs.Lists.{get_d_reverse}
 use Rattle.validation.specs.CheckShape.{agree, equal_dim}
-use Rattle.validation.specs.CheckShapeSteps.{agree-step, agree-end, agree_end'}
+use Rattle.validation.proofs.CheckShapeSteps.{agree-step, agree-end, agree_end'}
 
 -- ---- what stands at an index from the end
 

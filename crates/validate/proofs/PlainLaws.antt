@@ -16,7 +16,7 @@ use Rattle.rules.specs.Scalars.{superset_codes, superset_of}
 use Rattle.rules.specs.Shapes.{is_any, merge_dims, merge_closing, merge_from}
 use Rattle.rules.specs.Types.{wholly_any}
 use Rattle.validation.specs.CheckShape.{unsided, mismatch, shape_mismatch, sided_shape, check_shape}
-use Rattle.validation.specs.CheckShapeLaws.{check_shape_match, check_shape-mismatch}
+use Rattle.validation.proofs.CheckShapeLaws.{check_shape_match, check_shape-mismatch}
 use Rattle.validation.specs.CheckScalar.{in_turn, check_scalar}
 use Rattle.validation.specs.Validate.{outermost, validate}
 use Rattle.writer.specs.Kinds.{closed_record}

@@ -16,7 +16,7 @@ use Rattle.format.specs.Outcome.{accepted}
 use Rattle.rules.specs.Sizes.{compatible}
 use Rattle.rules.specs.Shapes.{is_any, rank, merge_from}
 use Rattle.validation.specs.CheckShape.{Side, unsided, left, right, agree, equal_dim, sizes_agree, count_test, names_all, clash, mismatch, shape_mismatch, sided_shape, refused_by, check_shape}
-use Rattle.validation.specs.CheckShapeLaws.{check_shape_match, check_shape-mismatch}
+use Rattle.validation.proofs.CheckShapeLaws.{check_shape_match, check_shape-mismatch}
 use Rattle.validate.specs.Answers.{clash_of}
 use Rattle.validate.specs.declared.Clash.{Clash}
 use Rattle.validate.specs.declared.Clash.TheVariants.{Clear, Numbered}

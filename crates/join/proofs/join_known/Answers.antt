@@ -38,10 +38,10 @@ returns-then-kind c =
     let small : Bytes c.args.a.now = λ i. omega (arith, c.shared_slice_known-1.given i) in
     let small' : Bytes c.args.b.now = λ i. omega (arith, c.shared_slice_known-2-1.given i) in
     let closed : Closed c.args.a.now ⊎ Closed c.args.b.now =
-        elim c.then-closed_at.branch [
-          then-closed_at-via-then-closed_at w ↦ inl (is-closed c.args.a.now c.closed_at.ensures w.if-closed_at.true)
-        | then-closed_at-via-else-closed_at+then-closed_at-2 w ↦ inr (is-closed c.args.b.now w.closed_at-else-closed_at.ensures w.if-closed_at-2.true)
-        ] in
+    elim c.then-closed_at.branch [
+      | then-closed_at-via-then-closed_at w ↦ inl (is-closed c.args.a.now c.closed_at.ensures w.if-closed_at.true)
+      | then-closed_at-via-else-closed_at+then-closed_at-2 w ↦ inr (is-closed c.args.b.now w.closed_at-else-closed_at.ensures w.if-closed_at-2.true)
+    ] in
     deliver-as c.args.res.now c.write_closed.ensures
     (joined-closed c.args.a.now c.args.b.now c.requires small small' c.union_kind-kind.ensures c.if-kind.true c.opening_at.result c.opening_at-then-kind.result closed
     c.opening_at.ensures c.opening_at-then-kind.ensures _ c.join_dims.ensures)

@@ -2,7 +2,7 @@ use native.Mathlib.Omega.{arith}
 use Rattle.format.specs.Reader.{Bytes}
 use Rattle.format.specs.Records.{code, write_shape, write_scalar, write_ty}
 use Rattle.record.specs.Answers.{shape_for}
-use Rattle.known.specs.WholeLaws.{has-scalars}
+use Rattle.known.proofs.WholeLaws.{has-scalars}
 use Rattle.lent.specs.Delivers.{deliver-as}
 use Rattle.scalar.proofs.CallLaws.{first-type, second_type, first-scalar, second-scalar, first-within, second-within, kinds_below, union-kind, union-first, union-second, union-box_any}
 use borrow.Author.Rules.{rules}

@@ -3,8 +3,8 @@ use native.Mathlib.Omega.{arith}
 use mathlib.Core.Path.{refl, ap}
 use lib.ListN.{length}
 use Rattle.stack.specs.Stack.{packed_end, tray_end}
-use Rattle.stack.specs.ApartLaws.{slot_inside, tray_inside}
-use Rattle.stack.specs.KeepsLaws.{packed_takes, in_tray_takes}
+use Rattle.stack.proofs.ApartLaws.{slot_inside, tray_inside}
+use Rattle.stack.proofs.KeepsLaws.{packed_takes, in_tray_takes}
 use borrow.Author.Rules.{rules}
 use Rattle.stack.proofs.store.Goals as goal
 

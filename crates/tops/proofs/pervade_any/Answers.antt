@@ -4,7 +4,7 @@ use Rattle.model.specs.Limits.{max_depth}
 use Rattle.format.specs.Outcome.{lone, deliver}
 use Rattle.lent.specs.Delivers.{deliver-refused}
 use Rattle.record.specs.Answers.{shape_for}
-use Rattle.known.specs.WholeLaws.{first_good, second_good, has-types, whole-shape}
+use Rattle.known.proofs.WholeLaws.{first_good, second_good, has-types, whole-shape}
 use Rattle.shape.specs.Answers.{shape_beside}
 use Rattle.tops.proofs.RuleLaws.{types-clash, types-pervade}
 use borrow.Author.Rules.{rules}

@@ -4,7 +4,7 @@ use mathlib.Core.List.{◌∷◌}
 use mathlib.Core.Path.{◌∙◌}
 use Rattle.machine.specs.Run.{pervade_types}
 use Rattle.stack.specs.Stack.{memory}
-use Rattle.stack.specs.StackLaws.{stacked_top, stacked-below}
+use Rattle.stack.proofs.StackLaws.{stacked_top, stacked-below}
 use Rattle.tops.specs.Answers.{at_start}
 use Rattle.tops.proofs.RuleLaws.{delivered-puts}
 use Rattle.tops.proofs.TopLaws.{record_there, top_lone, below-lone, good_two, pervade-within}

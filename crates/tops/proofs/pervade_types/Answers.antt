@@ -2,7 +2,7 @@ use native.Mathlib.Omega.{arith}
 use Rattle.model.specs.Limits.{max_depth}
 use Rattle.format.specs.Reader.{Bytes}
 use Rattle.lent.specs.Delivers.{deliver-as}
-use Rattle.known.specs.WholeLaws.{first_good, second_good, has-types}
+use Rattle.known.proofs.WholeLaws.{first_good, second_good, has-types}
 use Rattle.tops.proofs.PlainLaws.{whole-closed, types-plain}
 use borrow.Author.Rules.{rules}
 use Rattle.tops.proofs.pervade_types.Goals as goal

@@ -26,17 +26,18 @@ pub loop-i-preserved : goal.loop-i-preserved
 loop-i-preserved c =
     let sizes = c.args.d in
     let n : c.size_count-n.result ≡ length (dims_of sizes) = c.size_count-n.ensures.0 in
-    elim c.if-i-n.branch
-    [ then-i-n w ↦ rw w.out-is (
+    elim c.if-i-n.branch [
+      | then-i-n w ↦ rw w.out-is (
         omega arith,
         w.put_number.auto.out ∙ c.loop-i.invariant.1,
         w.put_number.ensures ∙ lay-more c.args.out.now c.args.start sizes.sizes sizes.count (omega (arith, w.if-i-n.true)) c.requires c.loop-i.invariant.2,
       )
-    | else-i-n w ↦ rw w.out-is (
+      | else-i-n w ↦ rw w.out-is (
         omega arith,
         c.loop-i.invariant.1,
         lay-past c.args.out.now c.args.start sizes.sizes sizes.count c.loop-i.i (omega (arith, w.if-i-n.false)) c.loop-i.invariant.2,
-      ) ]
+      )
+    ]
 
 pub overflow_mul-result : goal.overflow_mul-result
 overflow_mul-result c =

@@ -1,6 +1,6 @@
 use native.Mathlib.Omega.{arith}
 use Rattle.model.specs.Limits.{max_depth}
-use Rattle.known.specs.WholeLaws.{has-type, scalar-inside, whole-scalar}
+use Rattle.known.proofs.WholeLaws.{has-type, scalar-inside, whole-scalar}
 use mathlib.Core.Path.{sym, ap, ◌∙◌}
 use Rattle.format.specs.Outcome.{accepted, lone, deliver, scalar_record}
 use Rattle.lent.specs.Delivers.{deliver-handed}

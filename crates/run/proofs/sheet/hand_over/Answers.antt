@@ -3,7 +3,7 @@ use mathlib.Core.Path.{◌≡◌, sym, ◌∙◌, ap}
 use lib.ListN.{length, length-reverse}
 use Rattle.lent.specs.Written.{delivered}
 use Rattle.stack.specs.Stack.{memory}
-use Rattle.stack.specs.StackLaws.{stacked-count}
+use Rattle.stack.proofs.StackLaws.{stacked-count}
 use Rattle.run.proofs.SheetLaws.{handed-count, not-handed, handed-sizes}
 use borrow.Author.Rules.{rules}
 use Rattle.run.proofs.sheet.hand_over.Goals as goal

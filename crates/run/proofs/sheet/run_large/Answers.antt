@@ -4,7 +4,7 @@ use mathlib.Core.Path.{refl}
 use lib.ListN.{length, length-replicate}
 use Rattle.model.specs.Limits.{max_bytes}
 use Rattle.stack.specs.Stack.{full_trays}
-use Rattle.stack.specs.KeepsLaws.{trays_keep}
+use Rattle.stack.proofs.KeepsLaws.{trays_keep}
 use Rattle.run.proofs.SheetLaws.{state-kept, some-here, stopped-has, run_finished, run-refused}
 use Rattle.step.proofs.StepLaws.{has_kept}
 use borrow.Author.Rules.{rules}

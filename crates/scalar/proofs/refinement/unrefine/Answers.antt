@@ -9,7 +9,7 @@ use Rattle.rules.specs.Scalars.{unrefine}
 use Rattle.lent.specs.Delivers.{deliver-handed}
 use Rattle.record.specs.Answers.{lone_of}
 use Rattle.record.proofs.LoneLaws.{passed-refused, mapped-refused}
-use Rattle.known.specs.WholeLaws.{has-type, scalar-inside}
+use Rattle.known.proofs.WholeLaws.{has-type, scalar-inside}
 use Rattle.scalar.proofs.UnrefineLaws.{whole-short, laid-scalar, whole-wrote}
 use borrow.Author.Rules.{rules}
 use Rattle.scalar.proofs.refinement.unrefine.Goals as goal

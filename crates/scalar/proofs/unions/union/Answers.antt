@@ -9,7 +9,7 @@ use Rattle.rules.specs.Scalars.{union}
 use Rattle.lent.specs.Delivers.{deliver-as, deliver-handed}
 use Rattle.record.specs.Answers.{lone_of}
 use Rattle.record.proofs.LoneLaws.{both-refused, both_read}
-use Rattle.known.specs.WholeLaws.{has-scalars}
+use Rattle.known.proofs.WholeLaws.{has-scalars}
 use Rattle.scalar.proofs.CallLaws.{first-type, second_type, first-scalar, second-scalar, first-within, second-within, kinds_below, union-kind, union-first, union-second, union-box_any}
 use borrow.Author.Rules.{rules}
 use Rattle.scalar.proofs.unions.union.Goals as goal

@@ -1,6 +1,6 @@
 use mathlib.Core.Path.{sym}
 use native.Mathlib.Omega.{arith}
-use Rattle.rules.specs.Lists.{get_elem?-out}
+use Rattle.rules.proofs.Lists.{get_elem?-out}
 use Rattle.shape.proofs.DimsLaws.{slot_there}
 use Rattle.record.specs.Answers.{dims_of}
 use borrow.Author.Rules.{rules}

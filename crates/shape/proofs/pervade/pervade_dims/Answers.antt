@@ -31,18 +31,20 @@ loop-i-preserved c =
 pub returns-then-at-count : goal.returns-then-at-count
 returns-then-at-count c =
     let args = c.args in
-    elim c.if-i-count.branch
-    [ then-i-count w ↦ absurd (omega arith)
-    | else-i-count+in-Refuses w ↦ ap clash w.at-is
-    ∙ sym (walk-stop (rule_for args.filling) (dims_of args.a) (dims_of args.b) c.loop-i.sizes c.loop-i.i (omega (arith, c.longer-count.ensures.0))
-    (looked_at (rule_for args.filling) args.a args.b c.loop-i.i c.size_count-m.ensures.0 c.size_count-n.ensures.0
-    w.spot-x.ensures w.spot-y.ensures w.pervade_spots.ensures)
-    c.loop-i.invariant.2 (omega arith) (sym (ap meeting_of w.in-Refuses.is))) ]
+    elim c.if-i-count.branch [
+      | then-i-count w ↦ absurd (omega arith)
+      | else-i-count+in-Refuses w ↦ ap clash w.at-is
+          ∙ sym (walk-stop (rule_for args.filling) (dims_of args.a) (dims_of args.b) c.loop-i.sizes c.loop-i.i (omega (arith, c.longer-count.ensures.0))
+          (looked_at (rule_for args.filling) args.a args.b c.loop-i.i c.size_count-m.ensures.0 c.size_count-n.ensures.0
+          w.spot-x.ensures w.spot-y.ensures w.pervade_spots.ensures)
+          c.loop-i.invariant.2 (omega arith) (sym (ap meeting_of w.in-Refuses.is)))
+    ]
 
 pub returns : goal.returns
 returns c =
     let args = c.args in
-    elim c.if-i-count.branch
-    [ then-i-count w ↦ sym (walk-whole (rule_for args.filling) (dims_of args.a) (dims_of args.b) c.loop-i.sizes c.loop-i.i w.if-i-count.true c.longer-count.ensures.0
-    c.loop-i.invariant.2)
-    | else-i-count+in-Refuses w ↦ absurd (omega arith) ]
+    elim c.if-i-count.branch [
+      | then-i-count w ↦ sym (walk-whole (rule_for args.filling) (dims_of args.a) (dims_of args.b) c.loop-i.sizes c.loop-i.i w.if-i-count.true c.longer-count.ensures.0
+          c.loop-i.invariant.2)
+      | else-i-count+in-Refuses w ↦ absurd (omega arith)
+    ]

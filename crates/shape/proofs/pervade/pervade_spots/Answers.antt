@@ -10,6 +10,7 @@ returns-then-either_grows c =
 
 pub returns : goal.returns
 returns c =
-    elim c.else-filling.branch
-    [ else-filling-via-then-filling+else-either_grows w ↦ index_stays c.args.filling _ _ w.if-filling.true w.either_grows.ensures w.if-either_grows.false c.meet.ensures
-    | else-filling-via-else-filling w ↦ index-plain c.args.filling _ _ w.if-filling.false c.meet.ensures ]
+    elim c.else-filling.branch [
+      | else-filling-via-then-filling+else-either_grows w ↦ index_stays c.args.filling _ _ w.if-filling.true w.either_grows.ensures w.if-either_grows.false c.meet.ensures
+      | else-filling-via-else-filling w ↦ index-plain c.args.filling _ _ w.if-filling.false c.meet.ensures
+    ]

@@ -4,10 +4,10 @@ use mathlib.Core.Path.{refl, ◌∙◌}
 use lib.ListN.{length}
 use lib.Seq.{get_or-set_other}
 use Rattle.stack.specs.Stack.{memory, tray_end}
-use Rattle.stack.specs.StackLaws.{one_at}
-use Rattle.stack.specs.LyingLaws.{lies_packed, not_packed}
-use Rattle.stack.specs.ApartLaws.{tray_inside}
-use Rattle.stack.specs.KeepsLaws.{unpacked-keeps}
+use Rattle.stack.proofs.StackLaws.{one_at}
+use Rattle.stack.proofs.LyingLaws.{lies_packed, not_packed}
+use Rattle.stack.proofs.ApartLaws.{tray_inside}
+use Rattle.stack.proofs.KeepsLaws.{unpacked-keeps}
 use borrow.Author.Rules.{rules}
 use Rattle.stack.proofs.tops.unpack_at.Goals as goal
 

@@ -3,7 +3,7 @@ use native.Mathlib.Omega.{arith}
 use mathlib.Core.Path.{◌≡◌, sym, ◌∙◌}
 use lib.ListN.{get_or}
 use Rattle.stack.specs.Stack.{NotPacked}
-use Rattle.stack.specs.StackLaws.{top_two}
+use Rattle.stack.proofs.StackLaws.{top_two}
 use borrow.Author.Rules.{rules}
 use Rattle.stack.proofs.tops.unpack_two.Goals as goal
 

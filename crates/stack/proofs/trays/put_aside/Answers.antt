@@ -4,10 +4,10 @@ use mathlib.Core.Path.{◌≡◌, refl}
 use lib.ListN.{length, get_or}
 use lib.Seq.{get_or-set_other}
 use Rattle.stack.specs.Stack.{memory, packed_end}
-use Rattle.stack.specs.StackLaws.{one_at}
-use Rattle.stack.specs.LyingLaws.{tray_ends, tray_part, not_in_tray}
-use Rattle.stack.specs.ApartLaws.{slot_inside}
-use Rattle.stack.specs.KeepsLaws.{packed_keeps}
+use Rattle.stack.proofs.StackLaws.{one_at}
+use Rattle.stack.proofs.LyingLaws.{tray_ends, tray_part, not_in_tray}
+use Rattle.stack.proofs.ApartLaws.{slot_inside}
+use Rattle.stack.proofs.KeepsLaws.{packed_keeps}
 use borrow.Author.Rules.{rules}
 use Rattle.stack.proofs.trays.put_aside.Goals as goal
 

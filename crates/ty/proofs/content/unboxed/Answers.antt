@@ -7,7 +7,7 @@ use Rattle.record.specs.Answers.{lone_of}
 use Rattle.record.proofs.LoneLaws.{passed-refused, mapped-refused}
 use Rattle.lent.specs.Delivers.{deliver-as, deliver-handed}
 use Rattle.rules.specs.Types.{unboxed}
-use Rattle.known.specs.WholeLaws.{whole-shape}
+use Rattle.known.proofs.WholeLaws.{whole-shape}
 use Rattle.ty.proofs.PartLaws.{type-known}
 use Rattle.ty.proofs.ContentLaws.{unboxed_in, unboxed-out}
 use borrow.Author.Rules.{rules}

@@ -6,7 +6,7 @@ use Rattle.format.specs.Outcome.{lone, mapped}
 use Rattle.record.specs.Answers.{lone_of}
 use Rattle.record.proofs.LoneLaws.{passed-refused}
 use Rattle.ty.specs.Calls.{given}
-use Rattle.known.specs.WholeLaws.{whole-shape}
+use Rattle.known.proofs.WholeLaws.{whole-shape}
 use Rattle.ty.proofs.PartLaws.{type-known, scalar-known, inside, the_all}
 use Rattle.ty.proofs.ContentLaws.{rest-short, lone-short}
 use Rattle.ty.proofs.ListingLaws.{offer_is, boxes-refused, boxes-plain, boxes-any, boxes-all, name-within, boxes-def}

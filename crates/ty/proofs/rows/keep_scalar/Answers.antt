@@ -1,7 +1,7 @@
 use native.Mathlib.Omega.{arith}
 use Rattle.format.specs.Reader.{Bytes}
 use Rattle.record.specs.Answers.{shape_for}
-use Rattle.known.specs.WholeLaws.{scalar-inside}
+use Rattle.known.proofs.WholeLaws.{scalar-inside}
 use Rattle.lent.specs.Delivers.{deliver-as}
 use Rattle.ty.proofs.PartLaws.{type-known}
 use Rattle.ty.proofs.RowLaws.{keep_bytes}

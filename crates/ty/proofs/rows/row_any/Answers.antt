@@ -1,7 +1,7 @@
 use mathlib.Core.Path.{sym, ◌∙◌}
 use native.Mathlib.Omega.{arith}
 use Rattle.format.specs.Reader.{Bytes}
-use Rattle.known.specs.WholeLaws.{whole-shape}
+use Rattle.known.proofs.WholeLaws.{whole-shape}
 use Rattle.lent.specs.Delivers.{deliver-as}
 use Rattle.ty.proofs.PartLaws.{type-known, scalar-known, inside, the_def}
 use Rattle.ty.proofs.RowLaws.{row_ranked, row_kept, row-taken}

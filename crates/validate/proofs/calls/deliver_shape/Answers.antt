@@ -2,7 +2,7 @@ use native.Mathlib.Omega.{arith}
 use mathlib.Core.Path.{sym, ap, ◌∙◌}
 use Rattle.lent.specs.Delivers.{deliver-refused}
 use Rattle.validate.specs.Answers.{side_of}
-use Rattle.known.specs.WholeLaws.{scalar-inside, second_good}
+use Rattle.known.proofs.WholeLaws.{scalar-inside, second_good}
 use Rattle.format.specs.Outcome.{deliver}
 use Rattle.model.specs.Limits.{max_depth}
 use Rattle.validate.proofs.CallLaws.{shape-clash, shape-merged}

@@ -28,11 +28,10 @@ overflow_add-types c =
     omega (arith, few)
 
 pub loop-left-preserved : goal.loop-left-preserved
-loop-left-preserved c =
-    (
-      c.copy_type-w.auto.out ∙ c.loop-left.invariant.0,
-      λ f h n. going_next (c.loop-left.invariant.1 f h n) c.loop-left-test.true c.copy_type-w.new.out c.copy_type-w.result c.copy_type-w.ensures c.next_type-at.ensures,
-    )
+loop-left-preserved c = (
+  c.copy_type-w.auto.out ∙ c.loop-left.invariant.0,
+  λ f h n. going_next (c.loop-left.invariant.1 f h n) c.loop-left-test.true c.copy_type-w.new.out c.copy_type-w.result c.copy_type-w.ensures c.next_type-at.ensures,
+)
 
 pub shape_of-out : goal.shape_of-out
 shape_of-out c = c.loop-left.invariant.0

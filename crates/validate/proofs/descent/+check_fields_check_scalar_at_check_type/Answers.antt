@@ -88,15 +88,14 @@ check_fields-overflow_add-before-in-loop-todo t c =
     omega (arith, few)
 
 pub check_fields-loop-todo-preserved : goal.check_fields-loop-todo-preserved
-check_fields-loop-todo-preserved t c =
-    (
-      c.check_type-w.auto.out ∙ c.loop-todo.invariant.0,
-      λ w.
-          let now = c.loop-todo.invariant.1 w in
-          let hand = pacing_pair now c.loop-todo-test.true c.if-left-eq0.false c.span_at-span.ensures in
-          pacing_next now c.loop-todo-test.true c.if-left-eq0.false c.span_at-span.ensures
-          c.loop-todo.out c.check_type-w.new.out c.check_type-w.result refl (c.check_type-w.ensures hand) c.in-Done.is c.next_type-i.ensures c.next_place-j.ensures,
-    )
+check_fields-loop-todo-preserved t c = (
+  c.check_type-w.auto.out ∙ c.loop-todo.invariant.0,
+  λ w.
+      let now = c.loop-todo.invariant.1 w in
+      let hand = pacing_pair now c.loop-todo-test.true c.if-left-eq0.false c.span_at-span.ensures in
+      pacing_next now c.loop-todo-test.true c.if-left-eq0.false c.span_at-span.ensures
+      c.loop-todo.out c.check_type-w.new.out c.check_type-w.result refl (c.check_type-w.ensures hand) c.in-Done.is c.next_type-i.ensures c.next_place-j.ensures,
+)
 
 pub check_fields-copy_fields-tail-requires : goal.check_fields-copy_fields-tail-requires
 check_fields-copy_fields-tail-requires t c =

@@ -5,7 +5,7 @@ use lib.ListN.{drop}
 use borrow.Author.Rules.{rules}
 use Rattle.record.specs.Answers.{dims_of}
 use Rattle.validation.specs.CheckShape.{agree, equal_dim}
-use Rattle.validation.specs.CheckShapeSteps.{agree-end, agree_end'}
+use Rattle.validation.proofs.CheckShapeSteps.{agree-end, agree_end'}
 use Rattle.validate.proofs.DimsLaws.{equal-more, equal-stop}
 use Rattle.validate.proofs.dims.agree_exactly.Goals as goal
 
@@ -25,8 +25,7 @@ returns-then-a-i c =
 
 pub loop-i-preserved : goal.loop-i-preserved
 loop-i-preserved c =
-    let args = c.args in
-    (
+    let args = c.args in (
       omega arith,
       c.loop-i.invariant.1 ∙ equal-more args.a args.b c.loop-i.i c.size_count-m.ensures.0 c.size_count-n.ensures.0
           (omega arith) (omega arith) c.if-a-i.false,

@@ -30,8 +30,7 @@ returns-then-a-m c =
 
 pub loop-i-preserved : goal.loop-i-preserved
 loop-i-preserved c =
-    let args = c.args in
-    (
+    let args = c.args in (
       omega arith,
       c.loop-i.invariant.1 ∙ rest_more args.a args.b c.loop-i.i c.size_count-m.ensures.0 c.size_count-n.ensures.0
           (omega arith) args.skipped (omega arith) (omega arith) c.if-a-m.false,

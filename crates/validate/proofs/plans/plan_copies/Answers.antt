@@ -33,6 +33,6 @@ pub returns : goal.returns
 returns c =
     λ s t i j w x.
     subst (Planned w) (sym c.pair_up.ensures) (elim c.if-n-gt0.branch [
-      then-n-gt0+else-above-deep-gt-MAX_DEPTH q ↦ some-copies w x c.if-n-gt-MAX_FIELDS.false c.if-others-n-gt-MAX_TYPES.false q.if-n-gt0.true q.if-above-deep-gt-MAX_DEPTH.false
+      | then-n-gt0+else-above-deep-gt-MAX_DEPTH q ↦ some-copies w x c.if-n-gt-MAX_FIELDS.false c.if-others-n-gt-MAX_TYPES.false q.if-n-gt0.true q.if-above-deep-gt-MAX_DEPTH.false
       | else-n-gt0 q ↦ no_copies w x c.if-n-gt-MAX_FIELDS.false c.if-others-n-gt-MAX_TYPES.false (omega (arith, q.if-n-gt0.false))
     ])

@@ -38,7 +38,7 @@ closed-join (shape o (some c)) (shape p none) h = refl
 closed-join (shape o (some c)) (shape p (some d)) h = ⊎_elim (λ e. cc) (λ e. cc) h
 
 -- a type whose shape is closed
-abbrev Closed : List ℕ → Type 0
+abbrev pub Closed : List ℕ → Type 0
 Closed s = (d : ℕ) (t : Ty) → TypeAt s 0 d t → is_closed (shape_of t) ≡ true
 
 pub is-closed : (s : List ℕ) {x : Bool} → ((d : ℕ) (t : Ty) → TypeAt s 0 d t → x ≡ is_closed (shape_of t)) → x ≡ true → Closed s

@@ -208,7 +208,8 @@ module _ (s : List ℕ) (from : ℕ) where
               def-form k h = is_box-def_else k (is-box k h) (λ e. not-any (sym (form-is k h) ∙ e)) (λ e. not-all (sym (form-is k h) ∙ e))
 
               -- its form is written, and there is the rest
-              def-parts : {C : Type 0} (k : Scalar) → There k → ((n : Option (List ℕ)) (g : Fields) → k ≡ box_def n g → After from (form_in as_packed 2) out to (form_in as_record 2) one (from + 2) next → DefThere s (from + 2) n (field_count g) → C) → C
+              def-parts : {C : Type 0} (k : Scalar) → There k → ((n : Option (List ℕ)) (g : Fields) → k ≡ box_def n g → After from (form_in as_packed 2) out to (form_in as_record 2) one (from + 2) next
+                  → DefThere s (from + 2) n (field_count g) → C) → C
               unfolding head_in
               def-parts k h go = is_box-def k (def-form k h) λ n g is.
                   let here : Stands s from (form_in as_packed 2 ++ def_head n (field_count g)) = rw is at (stands k h) in

@@ -104,13 +104,13 @@ pub def_flag : {s : List ℕ} {p : ℕ} {k : Scalar} {n f c : ℕ} {a b : Bool} 
 def_flag h e = rw e at h
 
 module _ (p : Shape) (k : Scalar) {m : Bool} (e : m ≡ is_any p) where
-  pub not-any : not m ≡ true → false ≡ wholly_any (ty p k)
+  pub not-any : m ≡ false → false ≡ wholly_any (ty p k)
   unfolding wholly_any
-  not-any h = rw (← e, not-true m h)
+  not-any h = rw (← e, h)
 
-  pub any-by-code : {c : ℕ} → not m ≡ false → c ≡ code_of k → eqb c 9 ≡ wholly_any (ty p k)
+  pub any-by-code : {c : ℕ} → m ≡ true → c ≡ code_of k → eqb c 9 ≡ wholly_any (ty p k)
   unfolding wholly_any code
-  any-by-code h f = rw (← e, not-false m h, f)
+  any-by-code h f = rw (← e, h, f)
 
 -- ---- the number of fields
 

@@ -63,13 +63,13 @@ module _ (o : List Dim) (t : DynShape) where
 
 -- an open type without a side: its opening sizes, then its closing ones
 module _ (o p d : List Dim) {a : Bool} (f : a ≡ agree equal_dim p o) where
-  pub opening-differ : not a ≡ true → false ≡ sizes_agree unsided o (shape p (some d))
+  pub opening-differ : a ≡ false → false ≡ sizes_agree unsided o (shape p (some d))
   unfolding sizes_agree
-  opening-differ h = rw (← f, not-true a h)
+  opening-differ h = rw (← f, h)
 
-  pub closing_decide : {b : Bool} → not a ≡ false → b ≡ agree equal_dim (reverse d) (reverse (drop (length p) o)) → b ≡ sizes_agree unsided o (shape p (some d))
+  pub closing_decide : {b : Bool} → a ≡ true → b ≡ agree equal_dim (reverse d) (reverse (drop (length p) o)) → b ≡ sizes_agree unsided o (shape p (some d))
   unfolding sizes_agree
-  closing_decide h g = rw (← f, not-false a h, g)
+  closing_decide h g = rw (← f, h, g)
 
 -- ---- with what excuses it
 

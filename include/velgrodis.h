@@ -1,6 +1,6 @@
 /* velgrodis.h: the checker of partial array types, for hosts written in C or another language that calls C.
  *
- * Link with libvelgrodis.a (rt staticlib velgrodis; x86-64 Linux). The library keeps nothing between calls, allocates nothing, and
+ * Link with libvelgrodis.a (tools/build velgrodis; x86-64 Linux). The library keeps nothing between calls, allocates nothing, and
  * calls nothing of the host's but memcpy, memmove and memset. Every call ends, for every input that a host can hand in, and is proved
  * to answer what its contract says (crates/velgrodis/src), which is put in words here; the bytes of records and sheets are in
  * docs/FORMAT.md.

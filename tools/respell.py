@@ -20,9 +20,9 @@ KEYWORDS = {"data", "record", "ruleset", "open", "use", "mod", "where", "let", "
 
 # lemmas that stand in one file with a definition whose new spelling is theirs: they give way
 CHOSEN = {"all_right": "all_pairs_right", "is_open": "open_or_closed", "is_one": "one_of_mismatch", "no_fields": "fields_none",
-          "of_one": "of_lone_type", "of_types": "of_two_types", "written_out": "write_out_reads"}
+          "of_one": "of_lone_type", "of_types": "of_two_types", "written_out": "write_out_reads", "in_a_row": "in_a_row-append"}
 # definitions whose new spelling a field has
-RENAMED = {"oneLeft": "one_type_left", "toEnd": "to_the_end", "noSize": "no_size_given"}
+RENAMED = {"oneLeft": "one_type_left", "toEnd": "to_the_end", "noSize": "no_size_given", "inARow": "in_a_row"}
 
 
 def files(ending, below=CRATES):

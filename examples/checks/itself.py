@@ -58,7 +58,7 @@ def faults(folder):
     (folder / 'empty').mkdir()
     yield 'no example at all', [], {'SHEETS': folder / 'empty', 'SHEET': cat}, 'there is no example in'
     yield 'no folder', [], {'SHEETS': missing, 'SHEET': cat}, 'there is no example in'
-    yield 'no sheet', [], {'SHEET': missing}, f'there is no {missing}: rt check sheet builds it'
+    yield 'no sheet', [], {'SHEET': missing}, f'there is no {missing}: tools/build sheet builds it'
     yield 'no oracle', ['rust'], {'ORACLE': missing}, f'there is no {missing}: compare/run build makes it'
     yield 'no two_sheets', ['two'], {'TWO_SHEETS': missing}, f'there is no {missing}: examples/build makes it'
     yield 'no vg-check', ['vg-check'], {'VG_CHECK': missing}, f'there is no {missing}: examples/build makes it'

@@ -3,7 +3,7 @@ from checks import programs, texts
 
 
 def printed_by_sheet():
-    program = programs.found('SHEET', 'target/bin/sheet', 'rt check sheet builds it')
+    program = programs.found('SHEET', 'target/bin/sheet', 'tools/build sheet builds it')
     return lambda path, data: programs.output(program, data, path.stem)
 
 

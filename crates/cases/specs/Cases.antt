@@ -14,13 +14,13 @@ use Rattle.rules.specs.Order.{code_of}
 use Rattle.rules.specs.Scalars.{superset_codes, superset_of, union}
 use Rattle.rules.specs.Types.{wholly_any}
 use Rattle.rules.specs.Pervade.{against_absent, together, walk, pervade_closing, pervade}
-use Rattle.rules.specs.Examples.{closed, ending, statics, starting, of}
+use Rattle.rules.proofs.Examples.{closed, ending, statics, starting, of}
 use Rattle.validation.specs.CheckShape.{Side, unsided, right, agree, equal_dim, sizes_agree, count_test, names_all, mismatch, shape_mismatch, sided_shape, check_shape}
 use Rattle.validation.specs.AsFields.{keeps_limits}
 use Rattle.validation.specs.CheckScalar.{check_scalar}
 use Rattle.validation.specs.Validate.{validate}
 use Rattle.number.specs.Sizes.{sizes_from}
-use Rattle.number.specs.Examples.{zero, minus_zero, one, minus_one, two, infinity, minus_infinity}
+use Rattle.number.proofs.Examples.{zero, minus_zero, one, minus_one, two, infinity, minus_infinity}
 use Rattle.val.specs.Values.{Value, number, numbers, value_spec, nums_scalar, value_as_dim, value_as_dims}
 
 pub data Claim : Type 0 where

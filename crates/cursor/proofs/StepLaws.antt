@@ -10,7 +10,7 @@ use Rattle.machine.specs.SheetLimits.{max_stack}
 use Rattle.machine.specs.Steps.{row, join, a_put, a_row, a_pervading, a_join, a_validating, a_declaration, a_use, takes, lays}
 use Rattle.machine.specs.Written.{working}
 use Rattle.machine.specs.Sheet.{opcode_from, name_from, argument_from, step_from}
-use Rattle.machine.specs.SheetSteps.{step-unmarked, step-lacks, step-overfull, step_argument}
+use Rattle.machine.proofs.SheetSteps.{step-unmarked, step-lacks, step-overfull, step_argument}
 use Rattle.names.specs.Table.{NameReadIs}
 use Rattle.names.specs.declared.reading.NameRead.{NameRead}
 use Rattle.names.specs.declared.reading.NameRead.TheVariants.{Got as Named, Refused as Unnamed}

@@ -11,7 +11,7 @@ use Rattle.model.specs.Types.{Ty}
 use Rattle.format.specs.Outcome.{Outcome, accepted, refused}
 use Rattle.format.specs.DeliverLaws.{front-stays, front_length}
 use Rattle.machine.specs.SheetLimits.{scratch_bytes}
-use Rattle.machine.specs.CallLaws.{Ways, short_scratch, run_refused, short_result, types_written, call-refuses, call-lacks, call_writes, call_ways}
+use Rattle.machine.proofs.CallLaws.{Ways, short_scratch, run_refused, short_result, types_written, call-refuses, call-lacks, call_writes, call_ways}
 use Rattle.machine.specs.Call.{Tally, tally, called, write_types, first_zero, zeroed, at_front, sheet_call}
 
 -- ---- a scratch that was zeroed

@@ -14,9 +14,9 @@ use Rattle.machine.specs.Sheet.{sheet_run}
 use Rattle.machine.specs.Call.{tally, called, write_types, zeroed, at_front}
 use Rattle.machine.specs.WellFormed.{types_left}
 use Rattle.demand.specs.Claims.{Check, answer_to, IsAccepted, Leaves, Mismatched, MakesAccepted}
-use Rattle.machine.specs.CallLaws.{Ways, short_scratch, run_refused, short_result, types_written, call_writes, call-refuses, call_ways, left-fits}
-use Rattle.machine.specs.StepsWithin.{write_types-same}
-use Rattle.machine.specs.Sheets.{sheet-steps, left-within}
+use Rattle.machine.proofs.CallLaws.{Ways, short_scratch, run_refused, short_result, types_written, call_writes, call-refuses, call_ways, left-fits}
+use Rattle.machine.proofs.StepsWithin.{write_types-same}
+use Rattle.machine.proofs.Sheets.{sheet-steps, left-within}
 
 -- ---- an accepted call
 

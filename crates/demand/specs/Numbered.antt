@@ -21,8 +21,8 @@ use Rattle.rules.specs.PervadeInSheets.{pervade_in_sheets}
 use Rattle.rules.specs.Scalars.{union}
 use Rattle.validation.specs.CheckShape.{unsided}
 use Rattle.validation.specs.Validate.{validate}
-use Rattle.validation.specs.Claims.{of_validation, Listed}
-use Rattle.validation.specs.RefusalsLaws.{validate-listed}
+use Rattle.validation.proofs.Claims.{of_validation, Listed}
+use Rattle.validation.proofs.RefusalsLaws.{validate-listed}
 use Rattle.machine.specs.SheetLimits.{max_steps, max_stack, scratch_bytes, result_bytes}
 use Rattle.machine.specs.Steps.{Step, put, row, pervading, join, validating, Opcode, a_put, a_row, a_pervading, a_join, a_validating, a_declaration, a_use, opcode_of, opcodes, takes, height_past}
 use Rattle.machine.specs.Steps.{max_flag, Rule, of_none, of_one, of_two}
@@ -32,11 +32,11 @@ use Rattle.machine.specs.Names.{Names, is_known, has_room, unfolded_step, unfold
 use Rattle.machine.specs.Sheet.{State, fresh, after_step, work, opcode_in, placed, opcode_from, name_from, argument_from, step_from, written_from, work_from, to_the_end, sheet_more, skim_more, sheet_from, skim_from, outcome_of, sheet_run, skim}
 use Rattle.machine.specs.WellFormed.{WellFormed, types_left, Heights}
 use Rattle.machine.specs.Call.{called, tally, write_types, zeroed, at_front, hand_over, sheet_call}
-use Rattle.machine.specs.RuleOn.{arity, rule_takes, lays_one}
-use Rattle.machine.specs.StepsTook.{well_formed-took}
-use Rattle.machine.specs.SheetWorked.{step_height}
-use Rattle.machine.specs.Sheets.{sheet-steps}
-use Rattle.machine.specs.CallLaws.{Ways, short_scratch, run_refused, short_result, types_written, call_ways, left-fits}
+use Rattle.machine.proofs.RuleOn.{arity, rule_takes, lays_one}
+use Rattle.machine.proofs.StepsTook.{well_formed-took}
+use Rattle.machine.proofs.SheetWorked.{step_height}
+use Rattle.machine.proofs.Sheets.{sheet-steps}
+use Rattle.machine.proofs.CallLaws.{Ways, short_scratch, run_refused, short_result, types_written, call_ways, left-fits}
 use Rattle.demand.specs.Numbers.{of_records, of_lone, of_reading, of_rules, of_sheet, of_sheet_call, RefusedWith, answer_in}
 
 -- ---- lists of numbers

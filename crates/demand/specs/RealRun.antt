@@ -11,12 +11,12 @@ use Rattle.machine.specs.Steps.{Step, put, row, pervading, join, validating, opc
 use Rattle.machine.specs.Run.{gives, Stack, step, steps}
 use Rattle.machine.specs.WellFormed.{WellFormed, height_after, types_left, Heights}
 use Rattle.machine.specs.Real.{RealShape, fits, real_pervade, Feed, Feeds, real_row, keeps, onto_real, real_rule, real_rule_on, real_step, goes_on, real_run}
-use Rattle.machine.specs.StepsTook.{well_formed-took}
-use Rattle.machine.specs.RunLaws.{following-gives}
-use Rattle.machine.specs.StepsReads.{step_room}
-use Rattle.machine.specs.SheetWorked.{step_height, step-takes}
-use Rattle.machine.specs.RuleOn.{arity, real_takes, lays_one, real_rule_on_height}
-use Rattle.machine.specs.Sheets.{left-within, left-many}
+use Rattle.machine.proofs.StepsTook.{well_formed-took}
+use Rattle.machine.proofs.RunLaws.{following-gives}
+use Rattle.machine.proofs.StepsReads.{step_room}
+use Rattle.machine.proofs.SheetWorked.{step_height, step-takes}
+use Rattle.machine.proofs.RuleOn.{arity, real_takes, lays_one, real_rule_on_height}
+use Rattle.machine.proofs.Sheets.{left-within, left-many}
 use Rattle.demand.specs.Claims.{Check, MakesAccepted, TopsStop, TopUnfit, StopsBecause, RunStopsBecause}
 use Rattle.demand.specs.Calls.{leaves_run}
 

@@ -11,8 +11,8 @@ use Rattle.machine.specs.SheetLimits.{scratch_bytes}
 use Rattle.places.specs.Places.{step_of}
 use Rattle.machine.specs.Sheet.{sheet_run}
 use Rattle.machine.specs.Call.{Called, write_types, sheet_call}
-use Rattle.machine.specs.CallLaws.{Ways, short_scratch, run_refused, short_result, types_written, call_ways}
-use Rattle.places.specs.RefusedStep.{RefusedStep, refused-step, accepted-past}
+use Rattle.machine.proofs.CallLaws.{Ways, short_scratch, run_refused, short_result, types_written, call_ways}
+use Rattle.places.proofs.RefusedStep.{RefusedStep, refused-step, accepted-past}
 use Rattle.demand.specs.Numbers.{answer_in}
 use Rattle.demand.specs.Numbered.{run-numbered}
 

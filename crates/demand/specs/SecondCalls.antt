@@ -10,8 +10,8 @@ use Rattle.machine.specs.Names.{SheetOf}
 use Rattle.machine.specs.Run.{gives, refuses, steps}
 use Rattle.machine.specs.WellFormed.{Heights}
 use Rattle.machine.specs.Conditions.{puts, count_closing}
-use Rattle.machine.specs.Sheets.{left-within}
-use Rattle.machine.specs.StepsTook.{well_formed-took}
+use Rattle.machine.proofs.Sheets.{left-within}
+use Rattle.machine.proofs.StepsTook.{well_formed-took}
 use Rattle.orders.specs.Verdicts.{Pervadings, Decided, passes, fails, decided}
 use Rattle.orders.specs.Orders.{order-mismatch, order-shape}
 use Rattle.demand.specs.Claims.{Check, answer_to, Leaves, Mismatched, verdict_of, SecondConditions, SecondHalf, accepts, mismatches, Regrouped}

@@ -16,7 +16,7 @@ use Rattle.machine.specs.Written.{TableName, WrittenStep, declaring, write_steps
 use Rattle.machine.specs.Names.{SheetOf}
 use Rattle.machine.specs.Sheet.{sheet_run}
 use Rattle.machine.specs.Call.{Called, called, write_types, zeroed, left_with, hand_over, sheet_call}
-use Rattle.machine.specs.WrittenOut.{same-steps, write_out_reads, Unused, declaration_dropped}
+use Rattle.machine.proofs.WrittenOut.{same-steps, write_out_reads, Unused, declaration_dropped}
 
 -- An answer with both buffers, the place of a refusal aside.
 abbrev pub place_aside : Called → Called

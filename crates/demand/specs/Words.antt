@@ -10,9 +10,9 @@ use Rattle.machine.specs.Names.{unfolded, SheetOf}
 use Rattle.machine.specs.Run.{gives, aside, steps, bottom_first}
 use Rattle.machine.specs.Sheet.{sheet_run}
 use Rattle.machine.specs.WellFormed.{WellFormed, types_left, Heights}
-use Rattle.machine.specs.StepsTook.{well_formed-took}
-use Rattle.machine.specs.StepsReads.{write_steps-same}
-use Rattle.machine.specs.Sheets.{sheet-steps, accepted-steps, skim-steps, left-within}
+use Rattle.machine.proofs.StepsTook.{well_formed-took}
+use Rattle.machine.proofs.StepsReads.{write_steps-same}
+use Rattle.machine.proofs.Sheets.{sheet-steps, accepted-steps, skim-steps, left-within}
 use Rattle.demand.specs.Claims.{Check, IsAccepted, MakesAccepted}
 use Rattle.demand.specs.Calls.{call-accepted}
 

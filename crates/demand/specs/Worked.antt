@@ -26,7 +26,7 @@ use Rattle.machine.specs.Sheet.{opcode_from, argument_from, step_from, written_f
 use Rattle.machine.specs.Call.{write_types}
 use Rattle.machine.specs.Real.{fits, real_pervade, the_one_below, Feeds, real_step, real_run, Through}
 use Rattle.machine.specs.Conditions.{RowsNoOpenDef, JoinsAlike}
-use Rattle.machine.specs.WrittenOut.{sheet-of-out}
+use Rattle.machine.proofs.WrittenOut.{sheet-of-out}
 use Rattle.demand.specs.Claims.{Check, check_of, Leaves, MakesAccepted, FirstConditions, EachHolds}
 use Rattle.demand.specs.Calls.{run-leaves}
 use Rattle.demand.specs.WorkedWith.{nums, one_size, nums-within, within3, within4, zeroes, long-enough, as-worked}

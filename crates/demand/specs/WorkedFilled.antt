@@ -23,7 +23,7 @@ use Rattle.machine.specs.Sheet.{opcode_from, argument_from, step_from, written_f
 use Rattle.machine.specs.Call.{write_types}
 use Rattle.machine.specs.Real.{RealShape, fits, Holds, real_pervade, Feeds, real_step, real_run, Through}
 use Rattle.machine.specs.Conditions.{RowsNoOpenDef, JoinsAlike}
-use Rattle.machine.specs.WrittenOut.{sheet-of-out}
+use Rattle.machine.proofs.WrittenOut.{sheet-of-out}
 use Rattle.demand.specs.Claims.{Check, check_of, Leaves, MakesAccepted, FirstConditions, EachHolds}
 use Rattle.demand.specs.Calls.{run-leaves}
 use Rattle.demand.specs.Demand.{first-half}

@@ -22,7 +22,7 @@ use Rattle.machine.specs.Sheet.{opcode_from, name_from, argument_from, step_from
 use Rattle.machine.specs.Call.{write_types}
 use Rattle.machine.specs.Real.{fits, real_pervade, Feeds, real_step, real_run, Through}
 use Rattle.machine.specs.Conditions.{RowsNoOpenDef, JoinsAlike, puts, count_closing}
-use Rattle.machine.specs.WrittenOut.{sheet-of-out}
+use Rattle.machine.proofs.WrittenOut.{sheet-of-out}
 use Rattle.demand.specs.Claims.{answer_to, Leaves, Mismatched, verdict_of, MakesAccepted, FirstConditions, EachHolds, SecondConditions, Regrouped}
 use Rattle.demand.specs.Calls.{run-leaves}
 use Rattle.demand.specs.Demand.{first-half, mismatch_exactly, same_verdict, same_shape}

@@ -26,7 +26,7 @@ use Rattle.machine.specs.Call.{write_types}
 use Rattle.machine.specs.WellFormed.{types_left}
 use Rattle.machine.specs.Real.{fits, real_pervade, Feeds, real_step, real_run, Through}
 use Rattle.machine.specs.Conditions.{PutOrPervade, puts, SamePuts, count_closing}
-use Rattle.machine.specs.WrittenOut.{sheet-of-out}
+use Rattle.machine.proofs.WrittenOut.{sheet-of-out}
 use Rattle.demand.specs.Claims.{Check, check_of, answer_to, Leaves, Mismatched, verdict_of, SecondConditions, NoneThrough, SecondHalf, Regrouped}
 use Rattle.demand.specs.Calls.{run-leaves, run_mismatched}
 use Rattle.demand.specs.Words.{steps_well_formed}

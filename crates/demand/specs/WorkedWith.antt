@@ -7,7 +7,7 @@ use Rattle.std.proofs.lemmas.List.{length-replicate}
 use Rattle.model.specs.Types.{Dim, static, Shape, shape, num, plain, Ty, ty, inside, below}
 use Rattle.model.specs.Within.{DimsWithin, ShapeWithin, Within}
 use Rattle.format.specs.Reader.{Bytes}
-use Rattle.validation.specs.OutcomeLaws.{both_true}
+use Rattle.validation.proofs.OutcomeLaws.{both_true}
 use Rattle.machine.specs.SheetLimits.{max_stack}
 use Rattle.machine.specs.Steps.{Step, opcode_of, takes, height_past}
 use Rattle.machine.specs.Run.{Ruling, gives, refuses, Stack, step}

@@ -1,6 +1,6 @@
 -- Demand 2: written and read, the type. What `write_ty` writes for a type within the limits is read back as that type,
 -- wherever it stands.
-use Prim.Native.Nat.{ℕ, zero, suc, ◌+◌, ◌-◌, ◌^◌, ◌≤◌, ◌<◌}
+use Prim.Native.Nat.{ℕ, zero, suc, ◌-◌, ◌^◌, ◌≤◌, ◌<◌}
 use Rattle.std.proofs.Common.{add-zero, sym, ap, lit<, lit≤}
 use native.Mathlib.Omega.{arith}
 use Rattle.std.specs.Prelude.{Bool, true, ◌||◌, ◌≡◌, length, leb}

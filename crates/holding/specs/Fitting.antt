@@ -4,7 +4,7 @@ use Rattle.std.specs.Prelude.{ℕ, suc, ◌+◌, ◌-◌, ◌≤◌, true, ◌&&
 use Rattle.std.proofs.Common.{arith, sym, ◌∙◌, ap, length-append, take-append-drop, drop_at, eqb-true, eq-eqb, leb-true, le-leb}
 use Rattle.std.proofs.Math.Option.{Option, none, some}
 use Rattle.model.specs.Types.{Dim, static, unknown, shape}
-use Rattle.validation.specs.OutcomeLaws.{both_true}
+use Rattle.validation.proofs.OutcomeLaws.{both_true}
 use Rattle.machine.specs.Real.{RealShape, fits_dim, fits_dims, starts, ends, fits}
 
 -- ---- the predicate

@@ -8,10 +8,10 @@ use Rattle.model.specs.Types.{Dim, static, unknown, Shape, shape}
 use Rattle.rules.specs.Shapes.{is_open}
 use Rattle.rules.specs.Pervade.{against_absent, filled, together, Pervaded, sizes, clash, walk, pervade_closing, closed_by}
 use Rattle.rules.specs.PervadeInSheets.{may_grow, in_sheets_at, pervade_in_sheets}
-use Rattle.rules.specs.PervadeLaws.{together-unknown, together-statics, then_rest-sizes, walk-comm}
-use Rattle.rules.specs.PervadeInSheetsLaws.{in_sheets_at-comm}
+use Rattle.rules.proofs.PervadeLaws.{together-unknown, together-statics, then_rest-sizes, walk-comm}
+use Rattle.rules.proofs.PervadeInSheetsLaws.{in_sheets_at-comm}
 use Rattle.machine.specs.Real.{RealShape, fits, grown, real_dim, real_pervade}
-use Rattle.machine.specs.RealLaws.{cons_both-some}
+use Rattle.machine.proofs.RealLaws.{cons_both-some}
 use Rattle.holding.specs.Fitting.{Fit}
 use Rattle.holding.specs.Bare.{BareClosing, Bare, Rest, StartsWith, begins_of, of_begins}
 

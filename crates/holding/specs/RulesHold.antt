@@ -6,7 +6,7 @@ use Rattle.std.proofs.Math.Option.{none, some}
 use Rattle.model.specs.Types.{Dim, static, unknown, Shape, shape}
 use Rattle.rules.specs.Sizes.{join_dim}
 use Rattle.rules.specs.Shapes.{is_open, row_shape, merge_dims, merge_closing, merge_from, join_dims, join_ends, join_closing, join_shapes}
-use Rattle.rules.specs.SizesLaws.{larger-either}
+use Rattle.rules.proofs.SizesLaws.{larger-either}
 use Rattle.machine.specs.Real.{RealShape, fits, real_row, JoinSide, the_top, the_one_below, keeps}
 use Rattle.machine.specs.Conditions.{Alike}
 use Rattle.holding.specs.Fitting.{Fit}

@@ -11,7 +11,7 @@ use Rattle.rules.specs.Scalars.{union}
 use Rattle.rules.specs.Types.{into_row, row_by, join_types}
 use Rattle.validation.specs.CheckShape.{unsided}
 use Rattle.validation.specs.Validate.{validate}
-use Rattle.validation.specs.ValidateLaws.{validate-shape}
+use Rattle.validation.proofs.ValidateLaws.{validate-shape}
 use Rattle.machine.specs.SheetLimits.{max_stack}
 use Rattle.machine.specs.Steps.{Step, put, row, pervading, join, validating, Rule, of_none, of_one, of_two}
 use Rattle.machine.specs.Run.{Ruling, gives, or_refuses, aside, Stack, onto, pervade_types, rule_of, rule_on, step, steps}
@@ -20,9 +20,9 @@ use Rattle.machine.specs.Conditions.{names_closing, NamesNoClosing, Alike, Joins
 use Rattle.holding.specs.Bare.{Bare}
 use Rattle.holding.specs.PervadeHolds.{pervade_holds}
 use Rattle.holding.specs.RulesHold.{row_holds, join_holds, merge_holds}
-use Rattle.machine.specs.RunLaws.{following-gives, or_refuses-gives, aside-gives}
-use Rattle.machine.specs.RealLaws.{cond-some, onto_real-some, goes_on-some}
-use Rattle.machine.specs.RuleOn.{room-gives}
+use Rattle.machine.proofs.RunLaws.{following-gives, or_refuses-gives, aside-gives}
+use Rattle.machine.proofs.RealLaws.{cond-some, onto_real-some, goes_on-some}
+use Rattle.machine.proofs.RuleOn.{room-gives}
 
 -- ---- types beside real shapes
 

@@ -21,7 +21,7 @@ use Rattle.rules.specs.KindTable.{contents_decide, union_number}
 use Rattle.rules.specs.Types.{join_types}
 use Rattle.known.specs.Known.{TypeAt, ScalarAt, opening_of, is_closed}
 use Rattle.known.specs.Whole.{of_scalars}
-use Rattle.known.specs.WholeLaws.{Begins, type-there, first_good, second_good, whole-shape, scalars-there}
+use Rattle.known.proofs.WholeLaws.{Begins, type-there, first_good, second_good, whole-shape, scalars-there}
 use Rattle.writer.specs.Kinds.{closed_record}
 use Rattle.join.specs.Calls.{join_call}
 use Rattle.join.specs.ShapesLaws.{by-scalars}
@@ -38,7 +38,7 @@ closed-join (shape o (some c)) (shape p none) h = refl
 closed-join (shape o (some c)) (shape p (some d)) h = ⊎_elim (λ e. cc) (λ e. cc) h
 
 -- a type whose shape is closed
-abbrev Closed : List ℕ → Type 0
+abbrev pub Closed : List ℕ → Type 0
 Closed s = (d : ℕ) (t : Ty) → TypeAt s 0 d t → is_closed (shape_of t) ≡ true
 
 pub is-closed : (s : List ℕ) {x : Bool} → ((d : ℕ) (t : Ty) → TypeAt s 0 d t → x ≡ is_closed (shape_of t)) → x ≡ true → Closed s

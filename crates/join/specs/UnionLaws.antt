@@ -7,7 +7,7 @@ use Rattle.format.specs.Records.{write_shape, write_scalar, write_ty}
 use Rattle.format.specs.Outcome.{Outcome, accepted, refused, both, lone}
 use Rattle.rules.specs.Scalars.{union}
 use Rattle.rules.specs.KindTable.{contents_decide, union_number}
-use Rattle.rules.specs.KindTableLaws.{kind_united}
+use Rattle.rules.proofs.KindTableLaws.{kind_united}
 use Rattle.known.specs.Whole.{of_scalars}
 use Rattle.writer.specs.Kinds.{kind_record}
 

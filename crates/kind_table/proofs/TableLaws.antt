@@ -13,10 +13,11 @@ use Rattle.format.specs.Records.{code, box_code}
 use Rattle.lent.specs.Over.{over, over-over}
 use Rattle.rules.specs.Order.{code_of, kind_place}
 use Rattle.rules.specs.Scalars.{superset_codes, compatible_codes, superset_of, compatible_scalars, union}
-use Rattle.rules.specs.ScalarsLaws.{superset_codes-refl}
+use Rattle.rules.proofs.ScalarsLaws.{superset_codes-refl}
 use Rattle.rules.specs.KindTable.{kind_count, pair_count, contents_decide, union_number, squares, in_a_row, kind_table}
 use Rattle.kind_table.specs.Rows.{RowsLaid}
-use Rattle.rules.specs.KindTableLaws.{number_at, WholeTable, whole_table, union_codes, union-by_codes, table_length, superset_entry, compatible_entry, yes-says}
+use Rattle.rules.specs.KindTableLaws.{number_at, WholeTable}
+use Rattle.rules.proofs.KindTableLaws.{whole_table, union_codes, union-by_codes, table_length, superset_entry, compatible_entry, yes-says}
 
 module _ (t : List (List (List ℕ))) (c d : ℕ) (same : t ≡ squares) where
   abbrev whole : WholeTable t
@@ -54,9 +55,9 @@ in-turn : (s : List (List (List ℕ))) → s ≡ squares → in_a_row (in_a_row 
 unfolding kind_table
 in-turn s same = ap (λ t. in_a_row (in_a_row t)) same
 
-in_a_row : {A : Type 0} (s t : List (List A)) → in_a_row (s ++ t) ≡ in_a_row s ++ in_a_row t
-in_a_row [] t = refl
-in_a_row (x ∷ s) t = rw (in_a_row s t) (sym (append_assoc x (in_a_row s) (in_a_row t)))
+in_a_row-append : {A : Type 0} (s t : List (List A)) → in_a_row (s ++ t) ≡ in_a_row s ++ in_a_row t
+in_a_row-append [] t = refl
+in_a_row-append (x ∷ s) t = rw (in_a_row-append s t) (sym (append_assoc x (in_a_row s) (in_a_row t)))
 
 -- One square behind the other.
 module _ (a b c : List (List ℕ)) (same : a ∷ b ∷ c ∷ [] ≡ squares) where
@@ -64,7 +65,7 @@ module _ (a b c : List (List ℕ)) (same : a ∷ b ∷ c ∷ [] ≡ squares) whe
   numbers i e = ap (λ s. length (in_a_row (get_or s i []))) same ∙ e
 
   all_three : in_a_row a ++ in_a_row b ++ in_a_row c ≡ kind_table
-  all_three = sym (rw (in_a_row a (b ++ (c ++ [])), in_a_row b (c ++ []), append-nil c) (sym (append_assoc (in_a_row a) (in_a_row b) (in_a_row c)))) ∙ in-turn (a ∷ b ∷ c ∷ []) same
+  all_three = sym (rw (in_a_row-append a (b ++ (c ++ [])), in_a_row-append b (c ++ []), append-nil c) (sym (append_assoc (in_a_row a) (in_a_row b) (in_a_row c)))) ∙ in-turn (a ∷ b ∷ c ∷ []) same
 
   module _ (result : List ℕ) (room : length kind_table ≤ length result) where
     pub table_laid : {one two three : List ℕ} → RowsLaid result 0 a one → RowsLaid one pair_count b two → RowsLaid two (2 * pair_count) c three → three ≡ over result 0 kind_table

@@ -10,7 +10,7 @@ use Rattle.format.specs.Records.{code, box_code}
 use Rattle.rules.specs.Order.{code_of, kind_place}
 use Rattle.rules.specs.Scalars.{superset_codes, stream_or_box, compatible_codes}
 use Rattle.rules.specs.KindTable.{contents_decide, union_number}
-use Rattle.rules.specs.KindTableLaws.{union_codes, union-by_codes}
+use Rattle.rules.proofs.KindTableLaws.{union_codes, union-by_codes}
 
 -- no kind up to Complex in the order is Char
 numeric_char : (k : ℕ) → kind_place k ≤ kind_place (code complex) → k ≡ code char → ⊥

@@ -12,7 +12,8 @@ use Rattle.lent.specs.Over.{length_over}
 use Rattle.rules.specs.Order.{code_of}
 use Rattle.rules.specs.Scalars.{superset_codes, compatible_codes}
 use Rattle.rules.specs.KindTable.{kind_count, pair_count, number_count, yes_no, union_number, squares, kind_table}
-use Rattle.rules.specs.KindTableLaws.{number_at, WholeTable, whole_table, superset_entry, compatible_entry, union_entry, table_entry, table_length}
+use Rattle.rules.specs.KindTableLaws.{number_at, WholeTable}
+use Rattle.rules.proofs.KindTableLaws.{whole_table, superset_entry, compatible_entry, union_entry, table_entry, table_length}
 use Rattle.text.specs.Digits.{decimal_of}
 use Rattle.report.specs.Laid.{Laid}
 use Rattle.report.specs.Report.{line_feed}

@@ -10,7 +10,7 @@ use Rattle.format.specs.Records.{scalar_mark, mark_bytes, code, write_scalar}
 use Rattle.format.specs.Views.{stands-first, stands-part}
 use Rattle.lent.specs.Over.{over}
 use Rattle.known.specs.Known.{ScalarAt}
-use Rattle.known.specs.KnownLaws.{scalar-kind}
+use Rattle.known.proofs.KnownLaws.{scalar-kind}
 
 pub kind_changed : (s : List ℕ) (at d : ℕ) (k l : Kind) {x : ℕ} → ScalarAt s at d (plain k) → x ≡ code l → set s (at + 2) x ≡ over s at (write_scalar (plain l))
 unfolding write_scalar

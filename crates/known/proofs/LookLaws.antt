@@ -9,7 +9,7 @@ use Rattle.format.specs.Records.{box_code}
 use Rattle.rules.specs.Order.{code_of}
 use Rattle.rules.specs.Views.{form_of}
 use Rattle.known.specs.Known.{ScalarAt, NameAt, HasScalar, HasBox, HasName, NameIs}
-use Rattle.known.specs.KnownLaws.{box-within, name-there, count-there}
+use Rattle.known.proofs.KnownLaws.{box-within, name-there, count-there}
 use Rattle.known.specs.declared.Name.{Name}
 
 module _ (s : List ℕ) (at d : ℕ) (h : HasScalar s at d) {x : ℕ} (kinds : (d : ℕ) (k : Scalar) → ScalarAt s at d k → x ≡ code_of k) (boxed : x ≡ box_code) where

@@ -1,4 +1,2 @@
 pub mod Known
-pub mod KnownLaws
 pub mod Whole
-pub mod WholeLaws

@@ -12,7 +12,7 @@ use Rattle.machine.specs.Steps.{put, row, join, validating, Opcode, a_put, a_row
 use Rattle.machine.specs.Sheet.{opcode_from, name_from, argument_from}
 use Rattle.machine.specs.Written.{WrittenStep, working, declaring, using_name}
 use Rattle.places.specs.Places.{ToldStep, told_step, bare_from, mark_of_read, mark_at, end_of_read, end_at, step_on, step_of}
-use Rattle.places.specs.PlacesLaws.{bare-past, step_on-end, step_on-here, step_on-next}
+use Rattle.places.proofs.PlacesLaws.{bare-past, step_on-end, step_on-here, step_on-next}
 use Rattle.names.specs.Table.{NameReadIs}
 use Rattle.names.specs.declared.reading.NameRead.{NameRead}
 use Rattle.names.specs.declared.reading.NameRead.TheVariants.{Got as Named, Refused as Unnamed}

@@ -18,8 +18,8 @@ use Rattle.record.specs.declared.Reading.TheVariants.{Got, Refused}
 use Rattle.record.proofs.ReadingLaws.{read-got, read-stopped, got-map, stopped-map}
 use Rattle.machine.specs.Written.{TableName, write_name}
 use Rattle.machine.specs.Sheet.{name_from}
-use Rattle.machine.specs.StepsTook.{took-named}
-use Rattle.machine.specs.StepsReads.{reads-named}
+use Rattle.machine.proofs.StepsTook.{took-named}
+use Rattle.machine.proofs.StepsReads.{reads-named}
 use Rattle.names.specs.Table.{NameReadIs}
 use Rattle.names.specs.declared.reading.NameRead.TheVariants.{Got as Named}
 

@@ -10,7 +10,7 @@ use Rattle.format.specs.WriteRead.{write_lone}
 use Rattle.machine.specs.SheetLimits.{max_names}
 use Rattle.machine.specs.Written.{TableName, write_name}
 use Rattle.machine.specs.Names.{same_name, naming, Names, type_in_force, declare}
-use Rattle.machine.specs.NamesLaws.{same-name, same_name-refl, added, declare-length}
+use Rattle.machine.proofs.NamesLaws.{same-name, same_name-refl, added, declare-length}
 use Rattle.names.specs.Table.{NameStands, past_name, SameStretch, Spans, Declares, ListedFrom, InForce, place_of, LookedUpIs}
 use Rattle.names.specs.declared.table.LookedUp.TheVariants.{Declared}
 

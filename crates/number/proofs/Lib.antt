@@ -4,3 +4,4 @@ pub mod Casts
 pub mod Arms
 pub mod Walk
 pub mod Greatest
+pub mod Examples

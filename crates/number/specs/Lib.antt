@@ -2,5 +2,4 @@ pub mod Class
 pub mod Size
 pub mod Sizes
 pub mod Kind
-pub mod Examples
 pub mod Answers

@@ -21,7 +21,7 @@ use Rattle.validation.specs.Validate.{validate, check_shape_only}
 use Rattle.validation.specs.Separate.{Input, spec, checked_type, neither}
 use Rattle.machine.specs.Call.{sheet_call}
 use Rattle.number.specs.Sizes.{sizes_from}
-use Rattle.number.specs.Examples.{half, one, eight_ones}
+use Rattle.number.proofs.Examples.{half, one, eight_ones}
 use Rattle.ty.specs.Calls.{deliver_boxes}
 use Rattle.val.specs.Values.{value_spec, nums_scalar, value_as_dim, value_as_dims}
 use Rattle.velgrodis.specs.Answers.{no, value, while_reading, validation_of, deliver_sizes}

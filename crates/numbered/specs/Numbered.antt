@@ -18,11 +18,11 @@ use Rattle.rules.specs.KindTable.{kind_table}
 use Rattle.rules.specs.Pervade.{pervade}
 use Rattle.rules.specs.Types.{any_ty, join_types, into_row, into_first_row, into_last_row, into_nth_row, unboxed, copies_for, as_boxes, Stretch, stretch, field_place}
 use Rattle.validation.specs.CheckShape.{Side, unsided, left, right, check_shape}
-use Rattle.validation.specs.CheckShapeLaws.{check_shape-refused}
+use Rattle.validation.proofs.CheckShapeLaws.{check_shape-refused}
 use Rattle.validation.specs.Validate.{validate, check_scalar_only, check_shape_only}
 use Rattle.validation.specs.Separate.{being_read, separately}
-use Rattle.validation.specs.Claims.{of_validation, Listed}
-use Rattle.validation.specs.RefusalsLaws.{validate-listed, check_scalar_only-listed}
+use Rattle.validation.proofs.Claims.{of_validation, Listed}
+use Rattle.validation.proofs.RefusalsLaws.{validate-listed, check_scalar_only-listed}
 use Rattle.machine.specs.Call.{sheet_call}
 use Rattle.places.specs.Places.{ToldStep, told_step, step_of}
 use Rattle.machine.specs.Steps.{max_flag, fills_top, fills_below}

@@ -12,7 +12,7 @@ use Rattle.format.specs.Outcome.{Outcome, accepted, refused, mapped, both, refus
 use Rattle.validation.specs.CheckShape.{Side, unsided, left, right}
 use Rattle.validation.specs.Validate.{validate, check_scalar_only, check_shape_only}
 use Rattle.validation.specs.Separate.{neither, being_read, separate, separately}
-use Rattle.validation.specs.RefusalsLaws.{validate-listed, check_scalar_only-listed}
+use Rattle.validation.proofs.RefusalsLaws.{validate-listed, check_scalar_only-listed}
 use Rattle.demand.specs.Numbers.{of_lone, RefusedWith}
 use Rattle.demand.specs.Numbered.{lone-numbered}
 use Rattle.velgrodis.specs.declared.Validation.{Validation}

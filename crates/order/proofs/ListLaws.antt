@@ -18,8 +18,8 @@ use Rattle.rules.specs.Sizes.{Order, less, same, more, cmp_number, cmp_dim}
 use Rattle.rules.specs.Order.{then_by, cmp_list, cmp_option, cmp_shape, cmp_name}
 use Rattle.known.specs.Known.{is_named, NameIs}
 use Rattle.known.specs.declared.Name.{Name}
-use Rattle.rules.specs.SizesLaws.{cmp_number-less, cmp_number-more, cmp_number-refl}
-use Rattle.rules.specs.OrderSteps.{cmp_list-step, cmp_list-less, cmp_list-more, cmp_list-end}
+use Rattle.rules.proofs.SizesLaws.{cmp_number-less, cmp_number-more, cmp_number-refl}
+use Rattle.rules.proofs.OrderSteps.{cmp_list-step, cmp_list-less, cmp_list-more, cmp_list-end}
 
 -- ---- lists, index by index: the first i elements are the same
 

@@ -14,12 +14,12 @@ use Rattle.format.specs.Outcome.{accepted, both, lone}
 use Rattle.record.specs.Answers.{nothings}
 use Rattle.rules.specs.Sizes.{Order, less, same, more}
 use Rattle.rules.specs.Order.{code_of, kind_place, cmp_kind, then_by, cmp_shape, cmp_name, cmp_scalar, cmp_fields, compare}
-use Rattle.rules.specs.SizesLaws.{cmp_number-less, cmp_number-more, cmp_number-refl}
-use Rattle.rules.specs.OrderLaws.{code-box, cmp_kind-same, compare_same}
+use Rattle.rules.proofs.SizesLaws.{cmp_number-less, cmp_number-more, cmp_number-refl}
+use Rattle.rules.proofs.OrderLaws.{code-box, cmp_kind-same, compare_same}
 use Rattle.known.specs.Known.{ScalarAt, TypeAt, NameAt, FieldsAt, HasType, HasName, HasFields, SeenDef, Seen}
-use Rattle.known.specs.KnownLaws.{first_field, rest-fields, type-within, scalar-behind, behind-ends}
+use Rattle.known.proofs.KnownLaws.{first_field, rest-fields, type-within, scalar-behind, behind-ends}
 use Rattle.known.specs.Whole.{of_types}
-use Rattle.known.specs.WholeLaws.{types-there}
+use Rattle.known.proofs.WholeLaws.{types-there}
 use Rattle.known.specs.declared.View.{View}
 use Rattle.known.specs.declared.View.TheVariants.{Plain, BoxAny, BoxAll, BoxDef}
 use Rattle.order.specs.Answers.{ranking_of, FieldsRanked}

@@ -6,10 +6,10 @@ use Rattle.std.proofs.Math.Option.{Option, none, some}
 use Rattle.std.proofs.Math.ListN.{get_elem?}
 use Rattle.model.specs.Types.{Dim, static, unknown}
 use Rattle.rules.specs.Pervade.{against_absent, together, sizes, clash, walk, pervade_dims}
-use Rattle.rules.specs.PervadeLaws.{together-unknown, together-unfilled, together-comm, then_rest-sizes, then_rest-clash}
+use Rattle.rules.proofs.PervadeLaws.{together-unknown, together-unfilled, together-comm, then_rest-sizes, then_rest-clash}
 use Rattle.machine.specs.Real.{RealShape, real_dim, cons_both, real_pervade}
 use Rattle.orders.specs.Cells.{unnamed, differ, cell, named_in, join_named, join_cell, cell_static, cell_of, named_by, join_named-comm, join_cell-comm}
-use Rattle.machine.specs.RealLaws.{real_dim-unfilled, cons_both-some}
+use Rattle.machine.proofs.RealLaws.{real_dim-unfilled, cons_both-some}
 
 -- ---- pervading joins cells
 

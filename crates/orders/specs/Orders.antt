@@ -6,7 +6,7 @@ use Rattle.model.specs.Refusals.{unpervaded}
 use Rattle.model.specs.Types.{Shape, shape, Ty, shape_of}
 use Rattle.rules.specs.Sizes.{Order, less, same, more}
 use Rattle.rules.specs.Order.{compare}
-use Rattle.rules.specs.OrderLaws.{compare_refl, compare_same}
+use Rattle.rules.proofs.OrderLaws.{compare_refl, compare_same}
 use Rattle.machine.specs.Steps.{Step}
 use Rattle.machine.specs.Run.{gives, refuses, steps}
 use Rattle.machine.specs.Conditions.{names_closing, puts, is_same, same_type, SamePuts, count_closing}

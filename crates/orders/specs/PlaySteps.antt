@@ -7,7 +7,7 @@ use Rattle.model.specs.Refusals.{unpervaded}
 use Rattle.model.specs.Types.{Shape, Scalar, Ty, ty, shape_of}
 use Rattle.model.specs.Within.{All}
 use Rattle.rules.specs.Pervade.{pervade}
-use Rattle.rules.specs.PervadeInSheetsLaws.{in_sheets_unfilled}
+use Rattle.rules.proofs.PervadeInSheetsLaws.{in_sheets_unfilled}
 use Rattle.rules.specs.Scalars.{union}
 use Rattle.machine.specs.Steps.{Step, put, row, pervading, join, validating, a_join, is_a, put_by}
 use Rattle.machine.specs.Run.{Ruling, gives, refuses, following, or_refuses, Stack, onto, steps}
@@ -15,7 +15,7 @@ use Rattle.machine.specs.WellFormed.{height_after, Heights}
 use Rattle.machine.specs.Real.{RealShape, real_pervade, FeedOf, Feeds, real_step, onto_real, goes_on, real_run}
 use Rattle.machine.specs.Conditions.{PutOrPervade, with_put, puts}
 use Rattle.orders.specs.Play.{Move, lay, mix, laid_down, Enough, height_left, mixed, play}
-use Rattle.machine.specs.RunLaws.{unfilled, step-put, pervade_types-is, step-pervading}
+use Rattle.machine.proofs.RunLaws.{unfilled, step-put, pervade_types-is, step-pervading}
 
 -- A put or an unfilled pervading is one of these two.
 pub put_or_pervade : (P : Step → Type 0) → ((t : Ty) → P (put t)) → P (pervading false false) → (x : Step) → PutOrPervade x → P x

@@ -13,9 +13,9 @@ use Rattle.known.specs.Known.{ScalarAt, HasScalar, Seen, SeenDef}
 use Rattle.known.specs.declared.View.{View}
 use Rattle.known.specs.declared.View.TheVariants.{Plain, BoxAny, BoxAll, BoxDef}
 use Rattle.lent.specs.Over.{over}
-use Rattle.rules.specs.KindTableLaws.{coded-below}
+use Rattle.rules.proofs.KindTableLaws.{coded-below}
 use Rattle.rules.specs.Order.{code_of}
-use Rattle.packing.specs.HeadLaws.{head-stands}
+use Rattle.packing.proofs.HeadLaws.{head-stands}
 use Rattle.packing.specs.Heads.{held_count}
 use Rattle.packing.specs.Layouts.{as_record, as_packed, form_in, def_head, head_in}
 use Rattle.packing.specs.Parts.{ScalarThere, HasHead, After}

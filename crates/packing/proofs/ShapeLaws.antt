@@ -12,7 +12,7 @@ use Rattle.format.specs.Views.{Stands, stands-first, stands-second, stands-byte,
 use Rattle.lent.specs.Over.{over}
 use Rattle.packing.specs.Layouts.{Layout, as_record, as_packed, sizes_in, counts_in, counts_length, shape_in}
 use Rattle.packing.specs.Parts.{SizesThere, ShapeThere, HasSizes, HasShape, After}
-use Rattle.packing.specs.ShapeLaws.{opening_count, closing_count, sizes_of, shape_in-parts, length-counts_in, sizes-within, sizes-counted, sizes-few}
+use Rattle.packing.proofs.PackedShapeLaws.{opening_count, closing_count, sizes_of, shape_in-parts, length-counts_in, sizes-within, sizes-counted, sizes-few}
 use Rattle.packing.proofs.Halfway.{Before, before-second, after_then}
 
 pub counts_length_least : (v : Layout) → 2 ≤ counts_length v

@@ -16,10 +16,10 @@ use Rattle.record.proofs.ByteLaws.{low, number-there, number-eight}
 use Rattle.record.specs.Answers.{eight_bytes}
 use Rattle.packing.specs.Layouts.{Layout, as_record, as_packed, size_length, size_number, size_in, sizes_in}
 use Rattle.packing.specs.Packed.{packed_size}
-use Rattle.packing.specs.PackedOnce.{number_small, sizes_once_at}
+use Rattle.packing.proofs.PackedOnce.{number_small, sizes_once_at}
 use Rattle.packing.specs.PackedSizes.{seven_bytes, unpacked_number, low_seven, unpacked-number}
 use Rattle.packing.specs.Parts.{SizesThere, HasSizes, After}
-use Rattle.packing.specs.ShapeLaws.{length-size_in, sizes_in-none, sizes_in-first}
+use Rattle.packing.proofs.PackedShapeLaws.{length-size_in, sizes_in-none, sizes_in-first}
 use Rattle.packing.proofs.Halfway.{Before, before-first, Halfway, halfway-none, halfway-length, halfway-before, halfway-more, halfway-all}
 
 -- ---- one size

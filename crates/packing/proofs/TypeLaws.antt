@@ -10,12 +10,12 @@ use Rattle.model.specs.Within.{Within}
 use Rattle.format.specs.Views.{Stands, stands-all, stands-first}
 use Rattle.format.specs.Records.{write_ty}
 use Rattle.lent.specs.Over.{over}
-use Rattle.packing.specs.Coming.{count-contents, Coming, coming-one_field, coming-contents, coming-shape, coming-scalar, coming-few, coming-shallow, coming-count, count-one_field, none-coming, some-coming}
-use Rattle.packing.specs.HeadLaws.{fields_in-none, fields_in-one_field, scalar_in-head, fields_in-head}
+use Rattle.packing.proofs.Coming.{count-contents, Coming, coming-one_field, coming-contents, coming-shape, coming-scalar, coming-few, coming-shallow, coming-count, count-one_field, none-coming, some-coming}
+use Rattle.packing.proofs.HeadLaws.{fields_in-none, fields_in-one_field, scalar_in-head, fields_in-head}
 use Rattle.packing.specs.Heads.{one_field, contents, held_count}
 use Rattle.packing.specs.Layouts.{Layout, as_record, as_packed, shape_in, head_in, scalar_in, fields_in, type_in}
 use Rattle.packing.specs.Packed.{Packable, Packs, Unpackable, Unpacks}
-use Rattle.packing.specs.PackedOnce.{type_once_at}
+use Rattle.packing.proofs.PackedOnce.{type_once_at}
 use Rattle.packing.specs.Parts.{ShapeThere, ScalarThere, HasShape, HasHead, After}
 use Rattle.packing.proofs.Halfway.{Before, before-first, Halfway, halfway-none, halfway-length, halfway-before, halfway-more, halfway-all}
 use Rattle.packing.proofs.ShapeLaws.{counts_length_least, shape_least, shape-reads}

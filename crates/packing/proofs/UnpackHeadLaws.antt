@@ -15,11 +15,12 @@ use Rattle.known.specs.declared.Name.{Name}
 use Rattle.known.specs.Known.{NameAt, HasName, NameIs}
 use Rattle.lent.specs.Over.{over}
 use Rattle.rules.specs.Order.{code_of}
-use Rattle.rules.specs.OrderLaws.{code-box}
-use Rattle.rules.specs.Views.{form_of, is_box-any, is_box-all, is_box-def, is_box-def_else}
+use Rattle.rules.proofs.OrderLaws.{code-box}
+use Rattle.rules.specs.Views.{form_of}
+use Rattle.rules.proofs.ViewsLaws.{is_box-any, is_box-all, is_box-def, is_box-def_else}
 use Rattle.writer.specs.Kinds.{kind_record}
 use Rattle.packing.specs.Heads.{held_count}
-use Rattle.packing.specs.HeadLaws.{head-stands}
+use Rattle.packing.proofs.HeadLaws.{head-stands}
 use Rattle.packing.specs.Layouts.{as_record, as_packed, form_in, def_head, head_in}
 use Rattle.packing.specs.Parts.{ScalarThere, DefThere, HasHead, HasDef, After}
 use Rattle.packing.proofs.Halfway.{Before, before-second, after_then}
@@ -208,7 +209,8 @@ module _ (s : List ℕ) (from : ℕ) where
               def-form k h = is_box-def_else k (is-box k h) (λ e. not-any (sym (form-is k h) ∙ e)) (λ e. not-all (sym (form-is k h) ∙ e))
 
               -- its form is written, and there is the rest
-              def-parts : {C : Type 0} (k : Scalar) → There k → ((n : Option (List ℕ)) (g : Fields) → k ≡ box_def n g → After from (form_in as_packed 2) out to (form_in as_record 2) one (from + 2) next → DefThere s (from + 2) n (field_count g) → C) → C
+              def-parts : {C : Type 0} (k : Scalar) → There k → ((n : Option (List ℕ)) (g : Fields) → k ≡ box_def n g → After from (form_in as_packed 2) out to (form_in as_record 2) one (from + 2) next
+                  → DefThere s (from + 2) n (field_count g) → C) → C
               unfolding head_in
               def-parts k h go = is_box-def k (def-form k h) λ n g is.
                   let here : Stands s from (form_in as_packed 2 ++ def_head n (field_count g)) = rw is at (stands k h) in

@@ -2,10 +2,4 @@ pub mod Packed
 pub mod PackedSizes
 pub mod Heads
 pub mod Layouts
-pub mod ShapeLaws
-pub mod HeadLaws
-pub mod Coming
-pub mod PackedLaws
-pub mod PackedOnce
 pub mod Parts
-pub mod Examples

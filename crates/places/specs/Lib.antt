@@ -1,5 +1,1 @@
 pub mod Places
-pub mod ReadersStay
-pub mod PlacesLaws
-pub mod RefusedStep
-pub mod Examples

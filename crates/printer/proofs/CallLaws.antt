@@ -15,7 +15,7 @@ use Rattle.format.specs.Outcome.{Outcome, accepted, refused, mapped}
 use Rattle.machine.specs.SheetLimits.{max_stack, scratch_bytes, result_bytes}
 use Rattle.machine.specs.Sheet.{sheet_run}
 use Rattle.machine.specs.Call.{Tally, tally, Called, called, write_types, zeroed, at_front, hand_over, sheet_call}
-use Rattle.machine.specs.CallLaws.{LeftBy, call-left}
+use Rattle.machine.proofs.CallLaws.{LeftBy, call-left}
 use Rattle.report.specs.Laid.{Laid}
 use Rattle.report.specs.Left.{LeftIs, Left}
 use Rattle.report.specs.Report.{reported, if_room, call_outcome}

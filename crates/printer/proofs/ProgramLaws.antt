@@ -14,7 +14,7 @@ use Rattle.format.specs.Outcome.{Outcome, accepted, refused}
 use Rattle.machine.specs.SheetLimits.{max_stack, scratch_bytes, result_bytes, program_bytes}
 use Rattle.machine.specs.Sheet.{sheet_run}
 use Rattle.machine.specs.Call.{called, write_types, zeroed, sheet_call}
-use Rattle.machine.specs.CallLaws.{Few, run-few}
+use Rattle.machine.proofs.CallLaws.{Few, run-few}
 use Rattle.report.specs.Laid.{Laid}
 use Rattle.report.specs.Report.{line_feed, reported, if_room, call_outcome, program_outcome, buffers, buffers_of, program_call, printed}
 use Rattle.report.specs.Room.{print_room}

@@ -2,4 +2,3 @@
 // kinds (2026-02); and the laws about them.
 // All of it stands in specs/; this crate has no functions.
 #![tactic(auto)]
-

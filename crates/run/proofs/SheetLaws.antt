@@ -18,17 +18,17 @@ use Rattle.format.specs.Records.{mark_bytes}
 use Rattle.format.specs.Outcome.{Outcome, accepted, refused, Delivery, delivery, deliver}
 use Rattle.machine.specs.SheetLimits.{max_steps, max_stack, max_names, scratch_bytes}
 use Rattle.machine.specs.Steps.{mark_of}
-use Rattle.machine.specs.Opcodes.{mark-two}
+use Rattle.machine.proofs.Opcodes.{mark-two}
 use Rattle.machine.specs.Run.{Stack}
 use Rattle.machine.specs.Sheet.{State, fresh, work, written_from, work_from, sheet_from, sheet_run}
-use Rattle.machine.specs.SheetSteps.{placed-got, written-got, work-taken, sheet_from-end, sheet_from-over, sheet_from-step, sheet_from-stop}
+use Rattle.machine.proofs.SheetSteps.{placed-got, written-got, work-taken, sheet_from-end, sheet_from-over, sheet_from-step, sheet_from-stop}
 use Rattle.machine.specs.Call.{Called, called, tally, write_types, first_zero, zeroed, at_front, left_with, hand_over, sheet_call}
-use Rattle.machine.specs.StepsTook.{took-step}
+use Rattle.machine.proofs.StepsTook.{took-step}
 use Rattle.machine.specs.Written.{written_as, write_rest, write_step}
 use Rattle.names.specs.Table.{InForce, HasNames}
 use Rattle.names.specs.TableLaws.{none_in_force}
 use Rattle.stack.specs.Stack.{Memory, memory, full_trays, size, Stacked, HasStack, Keeps}
-use Rattle.stack.specs.StackLaws.{stacked-none, stacked-sizes}
+use Rattle.stack.proofs.StackLaws.{stacked-none, stacked-sizes}
 use Rattle.step.specs.Answers.{NameTable, name_table, StepsTo, Waits, StepsOrWaits}
 use Rattle.run.specs.Answers.{InState, Going, Ends, ReadOn, Runs, Answers, called_of}
 use Rattle.step.specs.declared.Stepped.{Stepped}

@@ -8,11 +8,11 @@ use Rattle.format.specs.Records.{box_code}
 use Rattle.rules.specs.Order.{code_of, compare}
 use Rattle.rules.specs.Shapes.{Compatibility, compatible_with, is_yes, compatible_shapes}
 use Rattle.rules.specs.Scalars.{compatible_codes, superset_of, compatible_scalars, compatible_with_boxes, wider, later_ty, union}
-use Rattle.rules.specs.ScalarsLaws.{superset_codes-refl}
+use Rattle.rules.proofs.ScalarsLaws.{superset_codes-refl}
 use Rattle.rules.specs.KindTable.{kind_count}
-use Rattle.rules.specs.KindTableLaws.{coded-below}
+use Rattle.rules.proofs.KindTableLaws.{coded-below}
 use Rattle.known.specs.Known.{ScalarAt, TypeAt, HasType}
-use Rattle.known.specs.KnownLaws.{scalar-behind}
+use Rattle.known.proofs.KnownLaws.{scalar-behind}
 use Rattle.known.specs.declared.View.{View}
 use Rattle.known.specs.declared.View.TheVariants.{Plain, BoxAny, BoxAll, BoxDef}
 use Rattle.order.specs.Answers.{ranking_of}

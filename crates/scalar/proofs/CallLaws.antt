@@ -13,12 +13,12 @@ use Rattle.format.specs.Views.{rest-is}
 use Rattle.rules.specs.Order.{code_of}
 use Rattle.rules.specs.Scalars.{superset_codes, compatible_codes, superset_of, compatible_scalars, compatible_with_boxes, union}
 use Rattle.rules.specs.KindTable.{kind_count, contents_decide, union_number}
-use Rattle.rules.specs.KindTableLaws.{coded-below, kind_united, boxes_united}
+use Rattle.rules.proofs.KindTableLaws.{coded-below, kind_united, boxes_united}
 use Rattle.record.specs.Answers.{nothings}
 use Rattle.known.specs.Known.{ScalarAt, HasType, HasScalar}
-use Rattle.known.specs.KnownLaws.{has-scalar}
+use Rattle.known.proofs.KnownLaws.{has-scalar}
 use Rattle.known.specs.Whole.{of_scalars}
-use Rattle.known.specs.WholeLaws.{Begins, scalar-inside, first_good, second_good, has-types, records-there, scalars-there}
+use Rattle.known.proofs.WholeLaws.{Begins, scalar-inside, first_good, second_good, has-types, records-there, scalars-there}
 use Rattle.writer.specs.Kinds.{kind_record}
 use Rattle.scalar.proofs.BoxLaws.{BoxesUnite}
 use Rattle.scalar.specs.Calls.{united_of}

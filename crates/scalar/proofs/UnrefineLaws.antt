@@ -20,11 +20,11 @@ use Rattle.lent.specs.Delivers.{deliver-short, deliver-wrote}
 use Rattle.record.specs.Answers.{nothing}
 use Rattle.record.proofs.LoneLaws.{passed-accepted}
 use Rattle.rules.specs.Scalars.{unrefine_kind, unrefine, unrefine_fields}
-use Rattle.rules.specs.ScalarsLaws.{unrefine-field_count}
+use Rattle.rules.proofs.ScalarsLaws.{unrefine-field_count}
 use Rattle.known.specs.Known.{ScalarAt, TypeAt, FieldsAt, HasScalar, HasType, HasFields}
-use Rattle.known.specs.KnownLaws.{first_field, rest-fields, type-within, scalar-behind, behind-ends}
+use Rattle.known.proofs.KnownLaws.{first_field, rest-fields, type-within, scalar-behind, behind-ends}
 use Rattle.known.specs.Whole.{of_scalar}
-use Rattle.known.specs.WholeLaws.{Begins, record_there, scalar-there}
+use Rattle.known.proofs.WholeLaws.{Begins, record_there, scalar-there}
 use Rattle.known.specs.declared.View.{View}
 use Rattle.known.specs.declared.View.TheVariants.{Plain, BoxAny, BoxAll, BoxDef}
 use Rattle.order.proofs.TypeLaws.{Looked, Starts, seen}

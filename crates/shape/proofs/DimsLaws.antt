@@ -17,10 +17,11 @@ use Rattle.record.specs.declared.Dims.{Dims}
 use Rattle.record.proofs.ByValue.{size-at, one_more}
 use Rattle.rules.specs.Sizes.{larger, row_compatible, join_dim}
 use Rattle.rules.specs.Shapes.{says_yes, says_no, compatible_dims, merge_dims, join_dims, join_ends}
-use Rattle.rules.specs.CompatibleLaws.{Passes, is_so_once}
-use Rattle.rules.specs.ShapesLaws.{merge_length, join-length, join_ends-length}
-use Rattle.rules.specs.ShapesSteps.{merge_at, merge-at, join-at, from_end, join_ends-at}
-use Rattle.rules.specs.Lists.{get_elem?_in}
+use Rattle.rules.proofs.CompatibleLaws.{Passes, is_so_once}
+use Rattle.rules.proofs.ShapesLaws.{merge_length, join-length, join_ends-length}
+use Rattle.rules.specs.ShapesSteps.{merge_at, from_end}
+use Rattle.rules.proofs.ShapesSteps.{merge-at, join-at, join_ends-at}
+use Rattle.rules.proofs.Lists.{get_elem?_in}
 
 -- ---- what stands at an index
 

@@ -20,9 +20,9 @@ use Rattle.record.specs.declared.DynShape.{DynShape}
 use Rattle.rules.specs.Shapes.{is_open}
 use Rattle.rules.specs.Pervade.{against_absent, by_order, together, IndexRule, pervade_at, Pervaded, sizes, clash, then_rest, walk, pervade_closing, closed_by, pervade}
 use Rattle.rules.specs.PervadeInSheets.{other_than_one, unsettled, may_grow, in_sheets_at, pervade_in_sheets}
-use Rattle.rules.specs.PervadeSteps.{walk_step, walk_end, after, after-start, after_more, after_stop, after-end}
+use Rattle.rules.proofs.PervadeSteps.{walk_step, walk_end, after, after-start, after_more, after_stop, after-end}
 use Rattle.rules.specs.Sizes.{Order, cmp_dim}
-use Rattle.rules.specs.Lists.{get_elem?-out}
+use Rattle.rules.proofs.Lists.{get_elem?-out}
 use Rattle.record.proofs.ByValue.{one_more}
 use Rattle.shape.specs.Answers.{pervade_as, any_grows, rule_for, sizes_beside, shape_beside}
 use Rattle.shape.specs.declared.Pervading.{Pervading}

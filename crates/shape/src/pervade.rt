@@ -65,7 +65,7 @@ pub fn pervade_closed(
 
 // Whether any size may grow: in sheets, where a side is filled.
 fn any_grows(pervading: Pervading, a_fill: bool, b_fill: bool) -> bool
-    ensures { «r» ≡ any_grows pervading a_fill b_fill }
+    ensures { result ≡ any_grows pervading a_fill b_fill }
 {
     let Pervading::InSheets = pervading else {
         return false;
@@ -153,14 +153,14 @@ fn pervade_spots(x: Spot, y: Spot, filling: Filling) -> Meeting
 
 // One of the two sizes of an index may grow.
 fn either_grows(x: Spot, y: Spot, filling: Filling) -> bool
-    ensures { «r» ≡ may_grow filling.a_fill filling.b_open (spot_of x) (spot_of y) || may_grow filling.b_fill filling.a_open (spot_of y) (spot_of x) }
+    ensures { result ≡ may_grow filling.a_fill filling.b_open (spot_of x) (spot_of y) || may_grow filling.b_fill filling.a_open (spot_of y) (spot_of x) }
 {
     may_grow(filling.a_fill, filling.b_open, x, y) || may_grow(filling.b_fill, filling.a_open, y, x)
 }
 
 // The first is a static size other than 1, filled on its own side, and what it meets may be larger.
 fn may_grow(fill: bool, opening: bool, x: Spot, y: Spot) -> bool
-    ensures { «r» ≡ may_grow fill opening (spot_of x) (spot_of y) }
+    ensures { result ≡ may_grow fill opening (spot_of x) (spot_of y) }
 {
     if fill {
         return other_than_one(x) && unsettled(opening, y);
@@ -170,7 +170,7 @@ fn may_grow(fill: bool, opening: bool, x: Spot, y: Spot) -> bool
 
 // A static size other than 1.
 fn other_than_one(x: Spot) -> bool
-    ensures { «r» ≡ other_than_one (spot_of x) }
+    ensures { result ≡ other_than_one (spot_of x) }
 {
     let Spot::Size(size) = x else {
         return false;
@@ -180,7 +180,7 @@ fn other_than_one(x: Spot) -> bool
 
 // The unknown, or nothing in a shape that is open.
 fn unsettled(opening: bool, x: Spot) -> bool
-    ensures { «r» ≡ rules.unsettled opening (spot_of x) }
+    ensures { result ≡ rules.unsettled opening (spot_of x) }
 {
     let Spot::Size(size) = x else {
         return opening;

@@ -18,7 +18,7 @@ use Rattle.record.specs.declared.Lone.TheVariants.{Accepted, Refused}
 use Rattle.record.specs.declared.Two.{Two}
 use Rattle.record.proofs.LoneLaws.{passed-accepted, passed-refused, both-accepted, both-refused, both_read}
 use Rattle.known.specs.Known.{TypeAt, HasType}
-use Rattle.known.specs.WholeLaws.{type-there, has-type, has-types}
+use Rattle.known.proofs.WholeLaws.{type-there, has-type, has-types}
 use Rattle.shape_calls.specs.Calls.{is_size, size_at, on_sizes, on_shape, on_shapes}
 
 -- ---- two sizes

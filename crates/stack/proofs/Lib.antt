@@ -1,1 +1,5 @@
 mod OutLaws
+pub mod ApartLaws
+pub mod KeepsLaws
+pub mod LyingLaws
+pub mod StackLaws

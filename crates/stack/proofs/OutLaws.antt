@@ -11,7 +11,7 @@ use Rattle.format.specs.Suffices.{suffices}
 use Rattle.lent.specs.Over.{over, over-over, over-front}
 use Rattle.machine.specs.Call.{write_types}
 use Rattle.stack.specs.Stack.{Memory, size, Lies, Stacked, lowest}
-use Rattle.stack.specs.StackLaws.{stacked-count, lie-next}
+use Rattle.stack.proofs.StackLaws.{stacked-count, lie-next}
 
 -- the bytes of the k lowest, bottom first
 abbrev pub lowest_bytes : ℕ → ℕ → List Ty → List ℕ

@@ -24,16 +24,16 @@ use Rattle.lent.specs.declared.Written.TheVariants.{Wrote, Refused as Unwritten}
 use Rattle.machine.specs.SheetLimits.{max_stack, max_names}
 use Rattle.machine.specs.Steps.{Step, put, row, pervading, join, validating}
 use Rattle.machine.specs.Run.{Ruling, gives, refuses, following, aside, Stack, onto, pervade_types, step, steps}
-use Rattle.machine.specs.RunLaws.{step-put}
+use Rattle.machine.proofs.RunLaws.{step-put}
 use Rattle.machine.specs.Written.{TableName, WrittenStep, working, declaring, using_name}
 use Rattle.machine.specs.Names.{type_in_force, declare, names_past}
 use Rattle.machine.specs.Sheet.{State, after_step, placed, step_from, work_from}
-use Rattle.machine.specs.SheetSteps.{written-unread, written-unknown, written_crowded, written_read, work-unread, work_rule}
+use Rattle.machine.proofs.SheetSteps.{written-unread, written-unknown, written_crowded, written_read, work-unread, work_rule}
 use Rattle.names.specs.Table.{NameStands, Spans, Declares, InForce, LookedUpIs}
 use Rattle.names.specs.declared.table.LookedUp.{LookedUp}
 use Rattle.names.specs.declared.table.LookedUp.TheVariants.{Declared, Undeclared}
 use Rattle.stack.specs.Stack.{Memory, Stacked, HasStack, Unpacked, Keeps}
-use Rattle.stack.specs.StackLaws.{stacked-count, stacked_top, stacked-below}
+use Rattle.stack.proofs.StackLaws.{stacked-count, stacked_top, stacked-below}
 use Rattle.cursor.specs.Answers.{StepIs}
 use Rattle.cursor.specs.declared.StepRead.{StepRead}
 use Rattle.cursor.specs.declared.StepRead.TheVariants.{Put, Row, Pervading, Join, Validating, Declaring, Using, Refused as Unread}

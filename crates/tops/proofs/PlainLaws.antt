@@ -15,9 +15,9 @@ use Rattle.rules.specs.PervadeInSheets.{pervade_in_sheets}
 use Rattle.rules.specs.KindTable.{contents_decide, union_number}
 use Rattle.machine.specs.Run.{pervade_types}
 use Rattle.known.specs.Known.{TypeAt, opening_of, is_closed}
-use Rattle.known.specs.KnownLaws.{closed-shape}
+use Rattle.known.proofs.KnownLaws.{closed-shape}
 use Rattle.known.specs.Whole.{of_scalars}
-use Rattle.known.specs.WholeLaws.{type-there}
+use Rattle.known.proofs.WholeLaws.{type-there}
 use Rattle.join.specs.UnionLaws.{union-plain}
 use Rattle.tops.specs.Answers.{at_start}
 use Rattle.tops.specs.Plain.{plainly}

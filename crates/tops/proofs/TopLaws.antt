@@ -11,16 +11,16 @@ use Rattle.format.specs.Records.{write_ty}
 use Rattle.format.specs.WriteRead.{write_lone}
 use Rattle.format.specs.Outcome.{Outcome, accepted, mapped, both, lone}
 use Rattle.record.specs.Answers.{nothing, nothings}
-use Rattle.rules.specs.RowsLaws.{into_row-within}
+use Rattle.rules.proofs.RowsLaws.{into_row-within}
 use Rattle.rules.specs.Types.{into_row, join_types}
-use Rattle.rules.specs.TypesLaws.{join_types-within}
+use Rattle.rules.proofs.TypesLaws.{join_types-within}
 use Rattle.validation.specs.CheckShape.{unsided}
 use Rattle.validation.specs.Validate.{validate}
-use Rattle.validation.specs.ValidateLaws.{validate-within}
+use Rattle.validation.proofs.ValidateLaws.{validate-within}
 use Rattle.machine.specs.Run.{Ruling, gives, refuses, Stack, pervade_types}
-use Rattle.machine.specs.StepsWithin.{pervade_types-within}
+use Rattle.machine.proofs.StepsWithin.{pervade_types-within}
 use Rattle.stack.specs.Stack.{Memory, memory, Lies, HasOne, Stacked, HasStack, NotPacked}
-use Rattle.stack.specs.StackLaws.{stacked-count, stacked_top, stacked-below, one_at}
+use Rattle.stack.proofs.StackLaws.{stacked-count, stacked_top, stacked-below, one_at}
 use Rattle.tops.specs.Answers.{Workable, at_start}
 
 -- ---- the types on top

@@ -16,14 +16,14 @@ use Rattle.lent.specs.declared.Written.{Written}
 use Rattle.record.specs.Answers.{nothings}
 use Rattle.record.proofs.LoneLaws.{both-accepted}
 use Rattle.rules.specs.KindTable.{kind_count}
-use Rattle.rules.specs.KindTableLaws.{coded-below}
+use Rattle.rules.proofs.KindTableLaws.{coded-below}
 use Rattle.rules.specs.Order.{code_of}
-use Rattle.rules.specs.Views.{is_plain}
+use Rattle.rules.proofs.ViewsLaws.{is_plain}
 use Rattle.validation.specs.CheckShape.{unsided}
 use Rattle.validation.specs.Validate.{validate}
 use Rattle.known.specs.Known.{TypeAt, ScalarAt, opening_of, is_closed}
-use Rattle.known.specs.KnownLaws.{closed-shape}
-use Rattle.known.specs.WholeLaws.{Begins, type-there, scalar-there, has-scalars}
+use Rattle.known.proofs.KnownLaws.{closed-shape}
+use Rattle.known.proofs.WholeLaws.{Begins, type-there, scalar-there, has-scalars}
 use Rattle.tops.proofs.RuleLaws.{delivered-puts}
 use Rattle.tops.proofs.TopLaws.{validated-within}
 

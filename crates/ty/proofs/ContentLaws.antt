@@ -18,8 +18,8 @@ use Rattle.record.specs.Answers.{nothing}
 use Rattle.record.proofs.LoneLaws.{passed-accepted}
 use Rattle.rules.specs.Shapes.{is_scalar}
 use Rattle.rules.specs.Types.{any_ty, field_in, first_field, or_else, stretch, stretch_in, field_at, field_place, unboxed}
-use Rattle.rules.specs.FieldsLaws.{cut, option_bytes, field-bytes}
-use Rattle.rules.specs.Views.{type_least}
+use Rattle.rules.proofs.FieldsLaws.{cut, option_bytes, field-bytes}
+use Rattle.rules.proofs.ViewsLaws.{type_least}
 use Rattle.known.specs.declared.View.TheVariants.{Plain, BoxAny}
 use Rattle.ty.specs.Parts.{LoneDef, content_of}
 use Rattle.ty.proofs.PartLaws.{LoneAll, Inside, in_plain, in_any}

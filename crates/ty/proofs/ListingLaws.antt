@@ -14,7 +14,7 @@ use Rattle.format.specs.Outcome.{accepted, refused, mapped, bound, lone, Deliver
 use Rattle.format.specs.Views.{rest-is}
 use Rattle.rules.specs.Shapes.{row_count}
 use Rattle.rules.specs.Types.{any_ty, boxes, copies, copies_for, as_boxes, write_boxes}
-use Rattle.rules.specs.FieldsLaws.{copies-count, copies-bytes}
+use Rattle.rules.proofs.FieldsLaws.{copies-count, copies-bytes}
 use Rattle.lent.specs.Written.{written_of, delivered}
 use Rattle.lent.specs.declared.Written.{Written}
 use Rattle.ty.specs.declared.Boxes.{Boxes as Answered}

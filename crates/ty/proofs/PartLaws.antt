@@ -15,8 +15,8 @@ use Rattle.record.specs.Answers.{nothing}
 use Rattle.record.proofs.LoneLaws.{passed-accepted}
 use Rattle.rules.specs.Types.{before_fields, boxes, write_boxes}
 use Rattle.known.specs.Known.{ScalarAt, HasType, HasScalar, SeenAll, SeenDef, Seen}
-use Rattle.known.specs.KnownLaws.{type-within, name-within, fields_deeper, has-scalar}
-use Rattle.known.specs.WholeLaws.{type-there, has-type, Begins, record_there, scalar-there}
+use Rattle.known.proofs.KnownLaws.{type-within, name-within, fields_deeper, has-scalar}
+use Rattle.known.proofs.WholeLaws.{type-there, has-type, Begins, record_there, scalar-there}
 use Rattle.known.specs.declared.View.{View}
 use Rattle.known.specs.declared.View.TheVariants.{Plain, BoxAny, BoxAll, BoxDef}
 use Rattle.ty.specs.Parts.{LoneDef}

@@ -21,13 +21,13 @@ use Rattle.record.specs.Answers.{nothing}
 use Rattle.record.proofs.LoneLaws.{passed-accepted}
 use Rattle.rules.specs.Order.{code_of}
 use Rattle.rules.specs.KindTable.{kind_count}
-use Rattle.rules.specs.KindTableLaws.{coded-below}
-use Rattle.rules.specs.Views.{is_plain}
+use Rattle.rules.proofs.KindTableLaws.{coded-below}
+use Rattle.rules.proofs.ViewsLaws.{is_plain}
 use Rattle.rules.specs.Shapes.{rank, row_shape}
 use Rattle.rules.specs.Types.{any_ty, field_in, first_field, last_field, nth_field, or_else, stretch, field_place, row_scalar, row_by}
 use Rattle.known.specs.Known.{TypeAt, ScalarAt, opening_of, is_closed}
-use Rattle.known.specs.KnownLaws.{closed-shape}
-use Rattle.known.specs.WholeLaws.{type-there, Begins, scalar-there, whole-scalar}
+use Rattle.known.proofs.KnownLaws.{closed-shape}
+use Rattle.known.proofs.WholeLaws.{type-there, Begins, scalar-there, whole-scalar}
 use Rattle.known.specs.declared.View.{View}
 use Rattle.writer.specs.Kinds.{closed_record}
 use Rattle.ty.specs.Parts.{LoneDef}

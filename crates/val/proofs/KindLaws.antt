@@ -8,7 +8,7 @@ use Rattle.model.specs.Types.{Kind, plain, Ty, ty, scalar_of}
 use Rattle.format.specs.Records.{code, write_scalar}
 use Rattle.format.specs.Outcome.{Outcome, accepted, refused, mapped, lone, scalar_record}
 use Rattle.rules.specs.Order.{code_of}
-use Rattle.rules.specs.KindTableLaws.{coded-below}
+use Rattle.rules.proofs.KindTableLaws.{coded-below}
 use Rattle.number.specs.Kind.{kind_of_numbers}
 use Rattle.val.specs.declared.Value as declared
 use Rattle.val.specs.declared.Value.TheVariants.{Num, List as Listed, Of}

@@ -5,3 +5,5 @@ mod PartLaws
 mod KindLaws
 mod RowLaws
 mod CountLaws
+pub mod Examples
+pub mod ReadAgain

@@ -1,4 +1,2 @@
 pub mod Values
-pub mod Examples
 pub mod Answers
-pub mod ReadAgain

@@ -11,7 +11,7 @@ use Rattle.format.specs.Outcome.{Outcome, accepted, refused, mapped, both, lone}
 use Rattle.record.specs.Answers.{shape_for}
 use Rattle.validation.specs.CheckShape.{Side, refused_by}
 use Rattle.validation.specs.Validate.{check_shape_only}
-use Rattle.known.specs.WholeLaws.{Begins, record_there}
+use Rattle.known.proofs.WholeLaws.{Begins, record_there}
 use Rattle.validate.specs.Answers.{clash_of, checked_of}
 use Rattle.validate.specs.Plans.{shape_after}
 use Rattle.validate.specs.declared.Clash.TheVariants.{Clear, Numbered}

@@ -13,7 +13,7 @@ use Rattle.format.specs.Suffices.{box_bytes, shape-suffices, scalar-suffices}
 use Rattle.format.specs.Views.{Stands, stands-part}
 use Rattle.lent.specs.Over.{over, take-over}
 use Rattle.known.specs.Known.{TypeAt, ScalarAt, HasType, SpanIs}
-use Rattle.known.specs.KnownLaws.{type-within, scalar-behind, behind-ends}
+use Rattle.known.proofs.KnownLaws.{type-within, scalar-behind, behind-ends}
 use Rattle.known.specs.declared.Span.{Span}
 use Rattle.validate.specs.Lists.{next_place, ListAt}
 use Rattle.validate.specs.Walk.{type_bytes, piece, scalar_piece, type_piece, fields_piece, CopyIs, Placeable, Going}

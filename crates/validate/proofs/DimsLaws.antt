@@ -16,9 +16,9 @@ use Rattle.record.specs.Answers.{dims_of}
 use Rattle.record.specs.declared.Dims.{Dims}
 use Rattle.record.proofs.ByValue.{size-at}
 use Rattle.rules.specs.Sizes.{compatible}
-use Rattle.rules.specs.Lists.{get_d_reverse}
+use Rattle.rules.proofs.Lists.{get_d_reverse}
 use Rattle.validation.specs.CheckShape.{agree, equal_dim}
-use Rattle.validation.specs.CheckShapeSteps.{agree-step, agree-end, agree_end'}
+use Rattle.validation.proofs.CheckShapeSteps.{agree-step, agree-end, agree_end'}
 
 -- ---- what stands at an index from the end
 
@@ -65,11 +65,11 @@ equal-numbers x y = go (eqb x ones) (eqb y ones) refl refl
 module _ (a b : Dims) (i : ℕ) {m n : ℕ} (e : m ≡ length (dims_of a)) (f : n ≡ length (dims_of b)) (h : i < m) where
   module _ (k : i < n) where
     module _ {t : Bool} (w : t ≡ compatible (dim_of (get_or a.sizes i 0)) (dim_of (get_or b.sizes i 0))) where
-      pub sizes-more : not t ≡ false → agree compatible (drop i (dims_of a)) (drop i (dims_of b)) ≡ agree compatible (drop (i + 1) (dims_of a)) (drop (i + 1) (dims_of b))
-      sizes-more u = agree-more compatible (dims_of a) (dims_of b) i (omega arith) (omega arith) (size-at a i (omega arith)) (size-at b i (omega arith)) w (not-false t u)
+      pub sizes-more : t ≡ true → agree compatible (drop i (dims_of a)) (drop i (dims_of b)) ≡ agree compatible (drop (i + 1) (dims_of a)) (drop (i + 1) (dims_of b))
+      sizes-more u = agree-more compatible (dims_of a) (dims_of b) i (omega arith) (omega arith) (size-at a i (omega arith)) (size-at b i (omega arith)) w u
 
-      pub sizes-stop : not t ≡ true → agree compatible (drop i (dims_of a)) (drop i (dims_of b)) ≡ false
-      sizes-stop u = agree-stop compatible (dims_of a) (dims_of b) i (omega arith) (omega arith) (size-at a i (omega arith)) (size-at b i (omega arith)) w (not-true t u)
+      pub sizes-stop : t ≡ false → agree compatible (drop i (dims_of a)) (drop i (dims_of b)) ≡ false
+      sizes-stop u = agree-stop compatible (dims_of a) (dims_of b) i (omega arith) (omega arith) (size-at a i (omega arith)) (size-at b i (omega arith)) w u
 
     -- the same from the end
     module _ {t : Bool} (w : t ≡ compatible (dim_of (get_or a.sizes (m - 1 - i) 0)) (dim_of (get_or b.sizes (n - 1 - i) 0))) where
@@ -85,11 +85,11 @@ module _ (a b : Dims) (i : ℕ) {m n : ℕ} (e : m ≡ length (dims_of a)) (f : 
       in_second : i < length rb
       in_second = omega (arith, length-reverse (dims_of b))
 
-      pub ends_more : not t ≡ false → agree compatible (drop i ra) (drop i rb) ≡ agree compatible (drop (i + 1) ra) (drop (i + 1) rb)
-      ends_more u = agree-more compatible ra rb i in_skipped in_second (size-from_end a i e h) (size-from_end b i f k) w (not-false t u)
+      pub ends_more : t ≡ true → agree compatible (drop i ra) (drop i rb) ≡ agree compatible (drop (i + 1) ra) (drop (i + 1) rb)
+      ends_more u = agree-more compatible ra rb i in_skipped in_second (size-from_end a i e h) (size-from_end b i f k) w u
 
-      pub ends-stop : not t ≡ true → agree compatible (drop i ra) (drop i rb) ≡ false
-      ends-stop u = agree-stop compatible ra rb i in_skipped in_second (size-from_end a i e h) (size-from_end b i f k) w (not-true t u)
+      pub ends-stop : t ≡ false → agree compatible (drop i ra) (drop i rb) ≡ false
+      ends-stop u = agree-stop compatible ra rb i in_skipped in_second (size-from_end a i e h) (size-from_end b i f k) w u
 
     -- equal sizes
     abbrev x : ℕ

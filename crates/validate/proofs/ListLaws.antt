@@ -8,7 +8,7 @@ use Rattle.model.specs.Limits.{max_types, max_depth}
 use Rattle.model.specs.Types.{Shape, Scalar, Fields, no_fields, field, field_count, Ty, ty, scalar_of, types, inside, among}
 use Rattle.rules.specs.Types.{copies}
 use Rattle.known.specs.Known.{TypeAt, HasType, SpanIs}
-use Rattle.known.specs.KnownLaws.{first_field, rest-fields}
+use Rattle.known.proofs.KnownLaws.{first_field, rest-fields}
 use Rattle.known.specs.declared.Span.{Span}
 use Rattle.validate.specs.Lists.{next_place, ListAt, Counting}
 

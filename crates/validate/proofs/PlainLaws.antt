@@ -16,7 +16,7 @@ use Rattle.rules.specs.Scalars.{superset_codes, superset_of}
 use Rattle.rules.specs.Shapes.{is_any, merge_dims, merge_closing, merge_from}
 use Rattle.rules.specs.Types.{wholly_any}
 use Rattle.validation.specs.CheckShape.{unsided, mismatch, shape_mismatch, sided_shape, check_shape}
-use Rattle.validation.specs.CheckShapeLaws.{check_shape_match, check_shape-mismatch}
+use Rattle.validation.proofs.CheckShapeLaws.{check_shape_match, check_shape-mismatch}
 use Rattle.validation.specs.CheckScalar.{in_turn, check_scalar}
 use Rattle.validation.specs.Validate.{outermost, validate}
 use Rattle.writer.specs.Kinds.{closed_record}
@@ -73,12 +73,12 @@ module _ (o p : List Dim) where
       says : over ≡ superset_codes (code k) (code l)
       says = rw (← first, ← second) found
 
-      pub plain-uncovered : not over ≡ true → answer ≡ refused wrong_scalar 0
-      plain-uncovered h = uncovered (sym says ∙ not-true over h)
+      pub plain-uncovered : over ≡ false → answer ≡ refused wrong_scalar 0
+      plain-uncovered h = uncovered (sym says ∙ h)
 
-      module _ (h : not over ≡ false) (r : Clash) (judged : clash_of r ≡ mismatch unsided o (shape p none)) where
+      module _ (h : over ≡ true) (r : Clash) (judged : clash_of r ≡ mismatch unsided o (shape p none)) where
         pub plain-clash : {n : ℕ} → r ≡ Numbered n → answer ≡ refused n 0
-        plain-clash e = clashed (sym says ∙ not-false over h) (rw e at judged)
+        plain-clash e = clashed (sym says ∙ h) (rw e at judged)
 
         pub plain-clear : r ≡ Clear → (m : Dims) → dims_of m ≡ merge_dims p o → answer ≡ accepted (closed_record (dims_of m) y)
-        plain-clear e m is = clear (sym says ∙ not-false over h) (rw e at judged) ∙ rw (is, second)
+        plain-clear e m is = clear (sym says ∙ h) (rw e at judged) ∙ rw (is, second)

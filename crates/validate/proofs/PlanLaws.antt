@@ -23,15 +23,16 @@ use Rattle.rules.specs.Order.{code_of}
 use Rattle.rules.specs.Scalars.{superset_codes, superset_of}
 use Rattle.rules.specs.Shapes.{is_any}
 use Rattle.rules.specs.Types.{any_ty, wholly_any, copies}
-use Rattle.rules.specs.FieldsLaws.{copies-count}
+use Rattle.rules.proofs.FieldsLaws.{copies-count}
 use Rattle.validation.specs.CheckShape.{unsided, check_shape}
 use Rattle.validation.specs.AsFields.{measured, fields_for, as_box, named, as_fields, copied}
 use Rattle.validation.specs.CheckScalar.{◌>>=◌, in_turn, each_field, on_all, on_def, check_scalar, check_fields}
-use Rattle.validation.specs.OutcomeLaws.{and_rest}
-use Rattle.validation.specs.MeasureLaws.{limited, fields_limited, limited-true}
-use Rattle.validation.specs.CheckScalarSteps.{check_any, check_plain, check_box_any, check_all, check_def, on_all-all, on_all-def, on_def-def, all-begun, def-begun, copies-among, copies-deepest, copied-limited}
+use Rattle.validation.proofs.OutcomeLaws.{and_rest}
+use Rattle.validation.specs.MeasureLaws.{limited, fields_limited}
+use Rattle.validation.proofs.MeasureLaws.{limited-true}
+use Rattle.validation.proofs.CheckScalarSteps.{check_any, check_plain, check_box_any, check_all, check_def, on_all-all, on_all-def, on_def-def, all-begun, def-begun, copies-among, copies-deepest, copied-limited}
 use Rattle.known.specs.Known.{TypeAt, ScalarAt, HasType, NameAt, SpanIs, is_named, Seen, SeenPlain, SeenAny, SeenAll, SeenDef}
-use Rattle.known.specs.KnownLaws.{type_deeper, fields_deeper, scalar-behind}
+use Rattle.known.proofs.KnownLaws.{type_deeper, fields_deeper, scalar-behind}
 use Rattle.known.specs.declared.Span.{Span}
 use Rattle.known.specs.declared.View.{View}
 use Rattle.known.specs.declared.View.TheVariants.{Plain, BoxAny, BoxAll, BoxDef}
@@ -104,13 +105,13 @@ pub def_flag : {s : List ℕ} {p : ℕ} {k : Scalar} {n f c : ℕ} {a b : Bool} 
 def_flag h e = rw e at h
 
 module _ (p : Shape) (k : Scalar) {m : Bool} (e : m ≡ is_any p) where
-  pub not-any : not m ≡ true → false ≡ wholly_any (ty p k)
+  pub not-any : m ≡ false → false ≡ wholly_any (ty p k)
   unfolding wholly_any
-  not-any h = rw (← e, not-true m h)
+  not-any h = rw (← e, h)
 
-  pub any-by-code : {c : ℕ} → not m ≡ false → c ≡ code_of k → eqb c 9 ≡ wholly_any (ty p k)
+  pub any-by-code : {c : ℕ} → m ≡ true → c ≡ code_of k → eqb c 9 ≡ wholly_any (ty p k)
   unfolding wholly_any code
-  any-by-code h f = rw (← e, not-false m h, f)
+  any-by-code h f = rw (← e, h, f)
 
 -- ---- the number of fields
 

@@ -3,21 +3,18 @@ use Prim.Native.Nat.{ℕ}
 use native.Mathlib.Omega.{arith}
 use mathlib.Core.List.{List, [], ◌∷◌}
 use mathlib.Core.Path.{◌≡◌, refl, sym, ◌∙◌, ap}
-use denote.Enum.Declared.{tag_of}
-use types.Run.{OneOf, miss}
 use Rattle.model.specs.Types.{Ty}
 use Rattle.format.specs.Records.{write_ty}
 use Rattle.format.specs.Outcome.{Outcome, accepted, refused, mapped, both, unrefused, refusal_of, lone, Delivery, deliver}
 use Rattle.record.specs.Answers.{nothings, two_of}
 use Rattle.record.specs.declared.Two.{Two}
 use Rattle.record.specs.declared.Two.TheVariants.{Accepted, First, Second}
-use Rattle.record.specs.contracts.Two.{the_type}
 use Rattle.validation.specs.Separate.{neither, being_read, separate, separately}
 use Rattle.validate.specs.Answers.{reading_of}
 
--- an arm that takes both refusals: of the first input or of the second
-refused-one : (two : Two) → OneOf (1 ∷ 2 ∷ []) (tag_of the_type two) → two_of two ≡ unrefused → ⊥
-refused-one Accepted h e = miss (1 ∷ 2 ∷ []) 0 tt h
+-- what is not accepted is a refusal: of the first input or of the second
+refused-one : (two : Two) → (two ≡ Accepted → ⊥) → two_of two ≡ unrefused → ⊥
+refused-one Accepted h e = h refl
 refused-one (First k p) h e = let z : ◌≡◌ {A = ℕ} 0 1 = cc in absurd (omega arith)
 refused-one (Second k p) h e = let z : ◌≡◌ {A = ℕ} 0 1 = cc in absurd (omega arith)
 
@@ -36,7 +33,7 @@ module _ (f : Ty → Ty → Outcome Ty) (s t : List ℕ) (two : Two) (read : two
   abbrev call : Ty → Ty → Outcome (List ℕ)
   call a b = mapped write_ty (f a b)
 
-  pub tells_input : OneOf (1 ∷ 2 ∷ []) (tag_of the_type two) → (buffer : List ℕ) → reading_of (two_of two) buffer ≡ separately f s t buffer
+  pub tells_input : (two ≡ Accepted → ⊥) → (buffer : List ℕ) → reading_of (two_of two) buffer ≡ separately f s t buffer
   tells_input h buffer = ap (λ r. reading_of r buffer) read ∙ one-refused call (lone s) (lone t) (λ e. refused-one two h (read ∙ e)) buffer
 
   module _ (h : two ≡ Accepted) where

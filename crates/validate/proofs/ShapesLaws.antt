@@ -16,7 +16,7 @@ use Rattle.format.specs.Outcome.{accepted}
 use Rattle.rules.specs.Sizes.{compatible}
 use Rattle.rules.specs.Shapes.{is_any, rank, merge_from}
 use Rattle.validation.specs.CheckShape.{Side, unsided, left, right, agree, equal_dim, sizes_agree, count_test, names_all, clash, mismatch, shape_mismatch, sided_shape, refused_by, check_shape}
-use Rattle.validation.specs.CheckShapeLaws.{check_shape_match, check_shape-mismatch}
+use Rattle.validation.proofs.CheckShapeLaws.{check_shape_match, check_shape-mismatch}
 use Rattle.validate.specs.Answers.{clash_of}
 use Rattle.validate.specs.declared.Clash.{Clash}
 use Rattle.validate.specs.declared.Clash.TheVariants.{Clear, Numbered}
@@ -63,13 +63,13 @@ module _ (o : List Dim) (t : DynShape) where
 
 -- an open type without a side: its opening sizes, then its closing ones
 module _ (o p d : List Dim) {a : Bool} (f : a ≡ agree equal_dim p o) where
-  pub opening-differ : not a ≡ true → false ≡ sizes_agree unsided o (shape p (some d))
+  pub opening-differ : a ≡ false → false ≡ sizes_agree unsided o (shape p (some d))
   unfolding sizes_agree
-  opening-differ h = rw (← f, not-true a h)
+  opening-differ h = rw (← f, h)
 
-  pub closing_decide : {b : Bool} → not a ≡ false → b ≡ agree equal_dim (reverse d) (reverse (drop (length p) o)) → b ≡ sizes_agree unsided o (shape p (some d))
+  pub closing_decide : {b : Bool} → a ≡ true → b ≡ agree equal_dim (reverse d) (reverse (drop (length p) o)) → b ≡ sizes_agree unsided o (shape p (some d))
   unfolding sizes_agree
-  closing_decide h g = rw (← f, not-false a h, g)
+  closing_decide h g = rw (← f, h, g)
 
 -- ---- with what excuses it
 

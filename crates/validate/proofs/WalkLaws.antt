@@ -17,10 +17,11 @@ use Rattle.record.specs.Answers.{shape_for}
 use Rattle.record.specs.declared.DynShape.{DynShape}
 use Rattle.validation.specs.CheckShape.{Side, unsided, refused_by, check_shape}
 use Rattle.validation.specs.CheckScalar.{◌>>=◌, in_turn, check_scalar, check_fields}
-use Rattle.validation.specs.OutcomeLaws.{and_rest}
-use Rattle.validation.specs.MeasureLaws.{limited, fields_limited, limited-counts, limited-true, fields_limited-true}
-use Rattle.validation.specs.KeepsLaws.{check_scalar-keeps}
-use Rattle.validation.specs.CheckScalarSteps.{at_hand, after_it, fields-step, field-begun, field_next}
+use Rattle.validation.proofs.OutcomeLaws.{and_rest}
+use Rattle.validation.specs.MeasureLaws.{limited, fields_limited}
+use Rattle.validation.proofs.MeasureLaws.{limited-counts, limited-true, fields_limited-true}
+use Rattle.validation.proofs.KeepsLaws.{check_scalar-keeps}
+use Rattle.validation.proofs.CheckScalarSteps.{at_hand, after_it, fields-step, field-begun, field_next}
 use Rattle.known.specs.Known.{TypeAt, HasType, SpanIs}
 use Rattle.known.specs.declared.Span.{Span}
 use Rattle.validate.specs.Answers.{clash_of, checked_of}

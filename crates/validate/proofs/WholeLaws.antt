@@ -17,11 +17,12 @@ use Rattle.record.proofs.LoneLaws.{both-accepted}
 use Rattle.validation.specs.CheckShape.{Side}
 use Rattle.validation.specs.CheckScalar.{in_turn}
 use Rattle.validation.specs.Validate.{validate, check_scalar_only}
-use Rattle.validation.specs.KeepsLaws.{check_scalar-keeps}
-use Rattle.validation.specs.MeasureLaws.{limited, limited-of, limited-counts, limited-true}
-use Rattle.validation.specs.CheckScalarSteps.{validate-limited, check_scalar_only-limited}
+use Rattle.validation.proofs.KeepsLaws.{check_scalar-keeps}
+use Rattle.validation.specs.MeasureLaws.{limited}
+use Rattle.validation.proofs.MeasureLaws.{limited-of, limited-counts, limited-true}
+use Rattle.validation.proofs.CheckScalarSteps.{validate-limited, check_scalar_only-limited}
 use Rattle.known.specs.Known.{TypeAt}
-use Rattle.known.specs.WholeLaws.{type-there}
+use Rattle.known.proofs.WholeLaws.{type-there}
 use Rattle.validate.specs.Plans.{Pair, scalar_after, shape_after, type_after}
 use Rattle.validate.specs.Walk.{type_bytes, piece, validated_of, scalar_piece, type_piece, TypeDone, ScalarDone, Roomy}
 use Rattle.validate.specs.declared.Validated.{Validated}

@@ -3,17 +3,4 @@ pub mod AsFields
 pub mod CheckScalar
 pub mod Validate
 pub mod Separate
-pub mod Claims
-pub mod Examples
-pub mod OutcomeLaws
-pub mod CheckShapeLaws
-pub mod MismatchLaws
-pub mod SeparateLaws
-pub mod CheckShapeSteps
-pub mod RecordsLaws
-pub mod KeepsLaws
 pub mod MeasureLaws
-pub mod CheckScalarSteps
-pub mod LimitsLaws
-pub mod RefusalsLaws
-pub mod ValidateLaws

@@ -11,7 +11,7 @@ use Rattle.format.specs.Records.{dim_of}
 use Rattle.format.specs.Outcome.{Outcome, accepted, refused, mapped, both, lone, Delivery, delivery}
 use Rattle.rules.specs.Sizes.{Order, less, same, more}
 use Rattle.rules.specs.Shapes.{Compatibility, says_yes, says_no, compatible_with}
-use Rattle.rules.specs.CompatibleLaws.{GreatestFailing, is_so}
+use Rattle.rules.proofs.CompatibleLaws.{GreatestFailing, is_so}
 use Rattle.rules.specs.Types.{Stretch, stretch}
 use Rattle.validation.specs.Separate.{Input, neither, spec, checked_type, Separate, separate}
 use Rattle.shape_calls.specs.Calls.{compatible_shapes_call}

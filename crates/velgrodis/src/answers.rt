@@ -142,7 +142,7 @@ pub fn of_boxes(b: Boxes) -> Answer
 }
 
 pub fn of_called(s: SheetAnswer) -> Answer
-    ensures* { λ r. ⌜ ((result scratch : List ℕ) → returned r result scratch ≡ checked (called_of s result scratch)) ⌝ }
+    ensures { (buffer scratch : List ℕ) → returned result buffer scratch ≡ checked (called_of s buffer scratch) }
 {
     match s {
         SheetAnswer::Accepted { types, bytes } => give(types as u64, bytes as u64),

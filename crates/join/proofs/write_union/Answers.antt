@@ -2,7 +2,7 @@ use native.Mathlib.Omega.{arith}
 use Rattle.format.specs.Reader.{Bytes}
 use Rattle.format.specs.Records.{code, write_shape, write_scalar, write_ty}
 use Rattle.record.specs.Answers.{shape_for}
-use Rattle.known.specs.WholeLaws.{has-scalars}
+use Rattle.known.proofs.WholeLaws.{has-scalars}
 use Rattle.lent.specs.Delivers.{deliver-as}
 use Rattle.scalar.proofs.CallLaws.{first-type, second_type, first-scalar, second-scalar, first-within, second-within, kinds_below, union-kind, union-first, union-second, union-box_any}
 use borrow.Author.Rules.{rules}
@@ -49,7 +49,7 @@ returns-then-code c =
     let args = c.args in
     let small : Bytes args.a.now = λ i. omega (arith, c.shared_slice_known-1.given i) in
     let small' : Bytes args.b.now = λ i. omega (arith, c.shared_slice_known-2-1.given i) in
-    deliver-as args.result.now c.write_plain.ensures
+    deliver-as args.res.now c.write_plain.ensures
     (union-kind args.a.now args.b.now c.requires small small' c.scalar_at-i.ensures c.scalar_at-j.ensures (write_shape (shape_for args.shape))
     c.kind_at.ensures c.kind_at-2.ensures c.union_code-code.ensures c.if-code.true)
 
@@ -98,7 +98,7 @@ returns-in-First c =
     let args = c.args in
     let small : Bytes args.a.now = λ i. omega (arith, c.shared_slice_known-1.given i) in
     let small' : Bytes args.b.now = λ i. omega (arith, c.shared_slice_known-2-1.given i) in
-    deliver-as args.result.now c.write_parts.ensures
+    deliver-as args.res.now c.write_parts.ensures
     (union-first args.a.now args.b.now c.requires small small' c.scalar_at-i.ensures c.scalar_at-j.ensures (write_shape (shape_for args.shape))
     c.kind_at.ensures c.kind_at-2.ensures c.union_code-code.ensures c.if-code.false c.unite_boxes.result c.unite_boxes.ensures c.in-First.is)
 
@@ -108,7 +108,7 @@ returns-in-Second c =
     let args = c.args in
     let small : Bytes args.a.now = λ i. omega (arith, c.shared_slice_known-1.given i) in
     let small' : Bytes args.b.now = λ i. omega (arith, c.shared_slice_known-2-1.given i) in
-    deliver-as args.result.now c.write_parts-in-Second.ensures
+    deliver-as args.res.now c.write_parts-in-Second.ensures
     (union-second args.a.now args.b.now c.requires small small' c.scalar_at-i.ensures c.scalar_at-j.ensures (write_shape (shape_for args.shape))
     c.kind_at.ensures c.kind_at-2.ensures c.union_code-code.ensures c.if-code.false c.unite_boxes.result c.unite_boxes.ensures c.in-Second.is)
 
@@ -118,6 +118,6 @@ returns-in-BoxAny c =
     let args = c.args in
     let small : Bytes args.a.now = λ i. omega (arith, c.shared_slice_known-1.given i) in
     let small' : Bytes args.b.now = λ i. omega (arith, c.shared_slice_known-2-1.given i) in
-    deliver-as args.result.now c.write_parts-in-BoxAny.ensures
+    deliver-as args.res.now c.write_parts-in-BoxAny.ensures
     (union-box_any args.a.now args.b.now c.requires small small' c.scalar_at-i.ensures c.scalar_at-j.ensures (write_shape (shape_for args.shape))
     c.kind_at.ensures c.kind_at-2.ensures c.union_code-code.ensures c.if-code.false c.unite_boxes.result c.unite_boxes.ensures c.in-BoxAny.is)

@@ -7,7 +7,7 @@ use Rattle.lent.specs.Delivers.{deliver-short, deliver-wrote}
 use Rattle.rules.specs.Order.{code_of, kind_place}
 use Rattle.rules.specs.Scalars.{superset_codes, compatible_codes, superset_of, compatible_scalars, union}
 use Rattle.rules.specs.KindTable.{squares, kind_table}
-use Rattle.rules.specs.KindTableLaws.{table_length}
+use Rattle.rules.proofs.KindTableLaws.{table_length}
 use Rattle.kind_table.proofs.TableLaws.{table_laid}
 use borrow.Author.Rules.{rules}
 use Rattle.kind_table.proofs.kinds.Goals as goal

@@ -1,5 +1,6 @@
 -- `number::as_dim` meets its contract: past the infinities its reading of a size is that of a list. Assumes nothing.
 use mathlib.Core.Path.{◌∙◌}
+use borrow.Enum.Refused.{opened}
 use borrow.Author.Rules.{rules}
 use Rattle.number.proofs.Arms.{arm_finite, infinite-unknown}
 use Rattle.number.proofs.as_dim.Goals as goal
@@ -11,4 +12,4 @@ returns-in-Infinite c =
 pub returns : goal.returns
 returns c =
     let k = c.classify in
-    c.listed_dim.ensures ∙ arm_finite k.result c.args.x k.ensures c.in_default.in_default-own.keys2
+    c.listed_dim.ensures ∙ arm_finite k.result c.args.x k.ensures (opened c.in_default.in_default-own.keys2)

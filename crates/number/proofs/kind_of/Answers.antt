@@ -10,6 +10,7 @@ use Rattle.format.specs.Records.{code}
 use Rattle.number.specs.Kind.{kind_of_numbers}
 use Rattle.number.proofs.Greatest.{greatest-next, greatest-ends}
 use Rattle.number.proofs.kind_of.Goals as goal
+use Rattle.number.proofs.kind_of.Goals.{then-kind-k, else-kind-k}
 
 pub loop-i-init : goal.loop-i-init
 loop-i-init c = (search rules, omega arith)
@@ -21,7 +22,7 @@ offset_bounds-xs-i c =
 pub loop-i-preserved : goal.loop-i-preserved
 loop-i-preserved c =
     let e = greatest-next c.args.xs.now c.loop-i.i c.loop-i-test.true in
-    ⊎_elim (λ w. (omega arith, omega arith)) (λ w. (omega arith, omega arith)) c.if-kind-k.branch
+    elim c.if-kind-k.branch [ then-kind-k w ↦ (omega arith, omega arith) | else-kind-k w ↦ (omega arith, omega arith) ]
 
 pub returns : goal.returns
 returns c =

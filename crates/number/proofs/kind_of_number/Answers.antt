@@ -1,6 +1,7 @@
 -- `number::kind_of_number` meets its contract: whether the number is whole, below 0 or above 1 decides. Assumes nothing.
 use mathlib.Core.Path.{refl, sym}
 use mathlib.Core.Bool.{true, false}
+use borrow.Enum.Refused.{opened}
 use borrow.Author.Rules.{rules}
 use lib.Ieee.{of_bits}
 use Rattle.format.specs.Records.{code}
@@ -28,7 +29,7 @@ unfolding code
 returns-in-NotANumber c =
     let k = c.classify in
     let x = c.args.x in
-    sym (kind_of_numbers-one x true _ _ (arm_unwhole k.result x k.ensures c.in-NotANumber.in-NotANumber-own.keys1) refl refl)
+    sym (kind_of_numbers-one x true _ _ (arm_unwhole k.result x k.ensures (opened c.in-NotANumber.in-NotANumber-own.keys1)) refl refl)
 
 pub returns-else-x-2 : goal.returns-else-x-2
 unfolding of_bits code

@@ -3,7 +3,7 @@ use native.Mathlib.Omega.{arith}
 use mathlib.Core.Path.{◌≡◌}
 use lib.ListN.{length, get_or}
 use Rattle.stack.specs.Stack.{memory}
-use Rattle.stack.specs.LyingLaws.{tray_ends, tray_part, sheet_begins, sheet-ends, sheet-bytes}
+use Rattle.stack.proofs.LyingLaws.{tray_ends, tray_part, sheet_begins, sheet-ends, sheet-bytes}
 use borrow.Author.Rules.{rules}
 use Rattle.stack.proofs.bytes_of.Goals as goal
 

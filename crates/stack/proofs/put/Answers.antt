@@ -1,7 +1,7 @@
 use Prim.Native.Nat.{◌-◌}
 use native.Mathlib.Omega.{arith}
 use mathlib.Core.Path.{refl}
-use Rattle.stack.specs.KeepsLaws.{put-takes}
+use Rattle.stack.proofs.KeepsLaws.{put-takes}
 use borrow.Author.Rules.{rules}
 use Rattle.stack.proofs.put.Goals as goal
 

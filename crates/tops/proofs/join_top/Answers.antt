@@ -5,7 +5,7 @@ use mathlib.Core.Path.{◌∙◌}
 use Rattle.format.specs.Outcome.{accepted}
 use Rattle.rules.specs.Types.{join_types}
 use Rattle.stack.specs.Stack.{memory}
-use Rattle.stack.specs.StackLaws.{stacked_top, stacked-below}
+use Rattle.stack.proofs.StackLaws.{stacked_top, stacked-below}
 use Rattle.tops.proofs.RuleLaws.{delivered-puts}
 use Rattle.tops.proofs.TopLaws.{record_there, top_lone, below-lone, good_two, join-within}
 use borrow.Author.Rules.{rules}

@@ -4,7 +4,7 @@ use Rattle.model.specs.Limits.{max_depth}
 use Rattle.format.specs.Outcome.{lone, deliver}
 use Rattle.lent.specs.Delivers.{deliver-refused}
 use Rattle.record.specs.Answers.{shape_for}
-use Rattle.known.specs.WholeLaws.{first_good, second_good, has-types, whole-shape}
+use Rattle.known.proofs.WholeLaws.{first_good, second_good, has-types, whole-shape}
 use Rattle.shape.specs.Answers.{shape_beside}
 use Rattle.tops.proofs.RuleLaws.{types-clash, types-pervade}
 use borrow.Author.Rules.{rules}
@@ -26,7 +26,7 @@ returns-in-Stopped c =
     let first = whole-shape args.a.now (λ i. omega (arith, c.shared_slice_known-1.given i)) (first_good _ _ c.requires) c.shape_at.result c.shape_at.ensures in
     let second = whole-shape args.b.now (λ i. omega (arith, c.shared_slice_known-2-1.given i)) (second_good _ _ c.requires) c.shape_at-2.result c.shape_at-2.ensures in
     let clash = sym c.pervade_dyn_shapes-pervaded.ensures ∙ ap (λ v. shape_beside v (shape_for c.pervade_dyn_shapes-pervaded.result.shape)) c.in-Stopped.is in
-    sym (deliver-refused _ (types-clash args.a-fill args.b-fill (lone args.a.now) (lone args.b.now) first second c.requires clash))
+    sym (deliver-refused _ (types-clash args.a_fill args.b_fill (lone args.a.now) (lone args.b.now) first second c.requires clash))
 
 pub returns : goal.returns
 returns c =
@@ -34,5 +34,5 @@ returns c =
     let first = whole-shape args.a.now (λ i. omega (arith, c.shared_slice_known-1.given i)) (first_good _ _ c.requires) c.shape_at.result c.shape_at.ensures in
     let second = whole-shape args.b.now (λ i. omega (arith, c.shared_slice_known-2-1.given i)) (second_good _ _ c.requires) c.shape_at-2.result c.shape_at-2.ensures in
     let meets = sym c.pervade_dyn_shapes-pervaded.ensures ∙ ap (λ v. shape_beside v (shape_for c.pervade_dyn_shapes-pervaded.result.shape)) c.in_default.is in
-    let made = types-pervade args.a-fill args.b-fill (lone args.a.now) (lone args.b.now) first second meets in
+    let made = types-pervade args.a_fill args.b_fill (lone args.a.now) (lone args.b.now) first second meets in
     c.write_union.ensures ∙ ap (λ o. deliver o args.out.now) made

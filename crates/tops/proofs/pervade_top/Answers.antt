@@ -4,7 +4,7 @@ use mathlib.Core.List.{◌∷◌}
 use mathlib.Core.Path.{◌∙◌}
 use Rattle.machine.specs.Run.{pervade_types}
 use Rattle.stack.specs.Stack.{memory}
-use Rattle.stack.specs.StackLaws.{stacked_top, stacked-below}
+use Rattle.stack.proofs.StackLaws.{stacked_top, stacked-below}
 use Rattle.tops.specs.Answers.{at_start}
 use Rattle.tops.proofs.RuleLaws.{delivered-puts}
 use Rattle.tops.proofs.TopLaws.{record_there, top_lone, below-lone, good_two, pervade-within}
@@ -34,5 +34,5 @@ returns c =
     let m = (memory args.ends.now args.lengths.now args.s.now args.trays.now d) in
     let top = top_lone m args.count (c.bytes_of-top.ensures d) t (u ∷ ts) h in
     let below = below-lone m args.count (c.bytes_of-below.ensures d) t u ts h in
-    delivered-puts (at_start (pervade_types args.top-fill args.below-fill t u)) c.pervade_types.result _ args.out.now (c.pervade_types.ensures ∙ rw (top, below))
-    (pervade-within args.top-fill args.below-fill t u (stacked_top m args.count h).within (stacked-below m args.count h).within)
+    delivered-puts (at_start (pervade_types args.top_fill args.below_fill t u)) c.pervade_types.result _ args.out.now (c.pervade_types.ensures ∙ rw (top, below))
+    (pervade-within args.top_fill args.below_fill t u (stacked_top m args.count h).within (stacked-below m args.count h).within)

@@ -2,7 +2,7 @@ use native.Mathlib.Omega.{arith}
 use Rattle.model.specs.Limits.{max_depth}
 use Rattle.format.specs.Reader.{Bytes}
 use Rattle.lent.specs.Delivers.{deliver-as}
-use Rattle.known.specs.WholeLaws.{first_good, second_good, has-types}
+use Rattle.known.proofs.WholeLaws.{first_good, second_good, has-types}
 use Rattle.tops.proofs.PlainLaws.{whole-closed, types-plain}
 use borrow.Author.Rules.{rules}
 use Rattle.tops.proofs.pervade_types.Goals as goal
@@ -39,4 +39,4 @@ returns-then-kind c =
     let first = whole-closed args.a.now small (first_good _ _ c.requires) c.opening_at.ensures c.closed_at.ensures c.if-closed_at.true in
     let second = whole-closed args.b.now small' (second_good _ _ c.requires) c.opening_at-then-kind.ensures c.closed_at-then-closed_at.ensures c.if-closed_at-2.true in
     deliver-as args.out.now c.pervade_plain.ensures
-    (types-plain args.a-fill args.b-fill args.a.now args.b.now c.requires first second c.union_kind-kind.ensures c.if-kind.true)
+    (types-plain args.a_fill args.b_fill args.a.now args.b.now c.requires first second c.union_kind-kind.ensures c.if-kind.true)

@@ -4,7 +4,7 @@ use mathlib.Core.Path.{◌∙◌}
 use Rattle.format.specs.Outcome.{accepted}
 use Rattle.rules.specs.Types.{into_row}
 use Rattle.stack.specs.Stack.{memory}
-use Rattle.stack.specs.StackLaws.{stacked_top}
+use Rattle.stack.proofs.StackLaws.{stacked_top}
 use Rattle.tops.proofs.RuleLaws.{delivered-puts}
 use Rattle.tops.proofs.TopLaws.{record_there, top_lone, good_top, row_within}
 use borrow.Author.Rules.{rules}

@@ -24,5 +24,5 @@ returns c =
     let args = c.args in
     λ x d e t ts h.
     let here = top_lone (memory args.ends.now args.lengths.now args.s.now args.trays.now d) args.count (c.bytes_of-top.ensures d) t ts h in
-    let out = c.validate_types.new.1.1.0 in
+    let out = c.validate_types.new.out in
     subst (λ o. Puts c.validate_types.result out o ⊎ Short c.validate_types.result out) (rw (e, here)) c.validate_types.ensures

@@ -3,8 +3,8 @@ use native.Mathlib.Omega.{arith}
 use borrow.Author.Tests.{eqb-false, not-true}
 use Rattle.model.specs.Limits.{max_depth}
 use Rattle.format.specs.Reader.{Bytes}
-use Rattle.known.specs.KnownLaws.{has-scalar}
-use Rattle.known.specs.WholeLaws.{has-types}
+use Rattle.known.proofs.KnownLaws.{has-scalar}
+use Rattle.known.proofs.WholeLaws.{has-types}
 use Rattle.tops.proofs.ValidateLaws.{of-kind, both_below, plain-validated}
 use borrow.Author.Rules.{rules}
 use Rattle.tops.proofs.validate_types.Goals as goal
@@ -70,5 +70,5 @@ returns-then-kind-ne-BOX c =
     let first = of-kind _ small c.opening_at.ensures c.closed_at.ensures c.if-closed_at.true
     c.scalar_at.ensures c.kind_at-over.ensures c.if-over-ne-BOX.true in
     let second = of-kind _ small' c.opening_at-then-kind-ne-BOX.ensures c.closed_at-then-closed_at.ensures c.if-closed_at-2.true
-    c.scalar_at-then-closed_at-2.ensures c.kind_at-kind.ensures (eqb-false _ _ (not-true _ c.if-kind-ne-BOX.true)) in
+    c.scalar_at-then-closed_at-2.ensures c.kind_at-kind.ensures c.if-kind-ne-BOX.true in
     plain-validated _ _ c.requires small small' first second c.validate_plain.result _ _ c.validate_plain.ensures

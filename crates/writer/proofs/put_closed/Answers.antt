@@ -11,11 +11,11 @@ put_head-requires c =
 
 pub put_places-next-requires : goal.put_places-next-requires
 put_places-next-requires c =
-    omega (arith, length-closed (dims_of c.args.dims) c.args.kind, c.requires, c.put_head.auto.0)
+    omega (arith, length-closed (dims_of c.args.dims) c.args.kind, c.requires, c.put_head.auto.out)
 
 pub put_plain-requires : goal.put_plain-requires
 put_plain-requires c =
-    omega (arith, length-closed (dims_of c.args.dims) c.args.kind, c.requires, c.put_head.auto.0, c.put_places-next.auto.0, c.put_places-next.ensures.0)
+    omega (arith, length-closed (dims_of c.args.dims) c.args.kind, c.requires, c.put_head.auto.out, c.put_places-next.auto.out, c.put_places-next.ensures.0)
 
 pub returns : goal.returns
 returns c =

@@ -16,7 +16,7 @@ put_head-requires c =
 pub put_dims-next-requires : goal.put_dims-next-requires
 put_dims-next-requires c =
     let args = c.args in
-    omega (arith, length_record (dims_of args.shape.dims) (closing_for args.shape), c.requires, c.put_head.auto.0)
+    omega (arith, length_record (dims_of args.shape.dims) (closing_for args.shape), c.requires, c.put_head.auto.out)
 
 pub returns-then-shape : goal.returns-then-shape
 returns-then-shape c =
@@ -42,8 +42,8 @@ put_dims-requires c =
       ap (λ x. length (list_of x))
           (open_is args.shape c.if-shape.false),
       c.requires,
-      c.put_head.auto.0,
-      c.put_dims-next.auto.0,
+      c.put_head.auto.out,
+      c.put_dims-next.auto.out,
       c.put_dims-next.ensures.0,
     )
 

@@ -1,6 +1,6 @@
 use native.Mathlib.Omega.{arith}
 use Rattle.model.specs.Limits.{max_depth}
-use Rattle.known.specs.WholeLaws.{has-type, scalar-inside, whole-scalar}
+use Rattle.known.proofs.WholeLaws.{has-type, scalar-inside, whole-scalar}
 use mathlib.Core.Path.{sym, ap, ◌∙◌}
 use Rattle.format.specs.Outcome.{accepted, lone, deliver, scalar_record}
 use Rattle.lent.specs.Delivers.{deliver-handed}
@@ -31,7 +31,7 @@ pub returns : goal.returns
 returns c =
     let args = c.args in
     c.hand_over.ensures
-    ∙ (ap (λ w. deliver (accepted w) args.result.now) (rest-is args.ty.now c.scalar_at-start.result)
-    ∙ ap (λ o. deliver o args.result.now)
+    ∙ (ap (λ w. deliver (accepted w) args.res.now) (rest-is args.ty.now c.scalar_at-start.result)
+    ∙ ap (λ o. deliver o args.res.now)
     (sym (whole-scalar _ (λ i. omega (arith, c.shared_slice_known-1.given i)) (sym c.read_lone-read.ensures ∙ ap lone_of c.in-Accepted.is)
     c.scalar_at-start.ensures)))

@@ -1,6 +1,6 @@
 use native.Mathlib.Omega.{arith}
 use Rattle.model.specs.Limits.{max_depth}
-use Rattle.known.specs.WholeLaws.{has-type, whole-shape}
+use Rattle.known.proofs.WholeLaws.{has-type, whole-shape}
 use mathlib.Core.Path.{sym, ap, ◌∙◌}
 use Rattle.format.specs.Outcome.{lone, deliver, shape_record}
 use Rattle.lent.specs.Delivers.{deliver-handed}
@@ -23,7 +23,7 @@ pub returns : goal.returns
 returns c =
     let args = c.args in
     c.write_shape.ensures
-    ∙ ap (λ o. deliver o args.result.now)
+    ∙ ap (λ o. deliver o args.res.now)
     (sym (shape_record-is (lone args.ty.now)
     (whole-shape _ (λ i. omega (arith, c.shared_slice_known-1.given i)) (sym c.read_lone-read.ensures ∙ ap lone_of c.in-Accepted.is)
     c.shape_at.result c.shape_at.ensures)))

@@ -6,7 +6,7 @@ use Rattle.cursor.proofs.types.read_stretch.Goals as goal
 pub returns-in-Got : goal.returns-in-Got
 returns-in-Got c =
     let args = c.args in
-    type-read args.s.now args.at c.read_type-read.ensures (λ i. omega (arith, c.shared_slice_known-1.given i)) c.in-Got.is
+    type-read args.s.now args.at c.read_type-read.ensures (λ i. omega (arith, c.type_inv.s i)) c.in-Got.is
 
 pub returns-in-Refused : goal.returns-in-Refused
 returns-in-Refused c =

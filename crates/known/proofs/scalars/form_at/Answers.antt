@@ -1,6 +1,6 @@
 use native.Mathlib.Omega.{arith}
 use mathlib.Core.Path.{◌∙◌}
-use Rattle.known.specs.KnownLaws.{box-within, formed}
+use Rattle.known.proofs.KnownLaws.{box-within, formed}
 use borrow.Author.Rules.{rules}
 use Rattle.known.proofs.scalars.form_at.Goals as goal
 

@@ -1,6 +1,6 @@
 use native.Mathlib.Omega.{arith}
 use mathlib.Core.Path.{◌∙◌}
-use Rattle.known.specs.KnownLaws.{scalar-kind, coded}
+use Rattle.known.proofs.KnownLaws.{scalar-kind, coded}
 use borrow.Author.Rules.{rules}
 use Rattle.known.proofs.scalars.kind_at.Goals as goal
 

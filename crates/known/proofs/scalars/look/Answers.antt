@@ -1,5 +1,5 @@
 use native.Mathlib.Omega.{arith}
-use Rattle.known.specs.KnownLaws.{scalar-kind, seen_plain, seen-any, seen_all, seen-def}
+use Rattle.known.proofs.KnownLaws.{scalar-kind, seen_plain, seen-any, seen_all, seen-def}
 use Rattle.known.proofs.LookLaws.{has-box, box-inside, has-name, count-inside}
 use borrow.Author.Rules.{rules}
 use Rattle.known.proofs.scalars.look.Goals as goal

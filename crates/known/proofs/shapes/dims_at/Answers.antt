@@ -26,7 +26,10 @@ number_at-requires c =
 pub loop-i-preserved : goal.loop-i-preserved
 loop-i-preserved c =
     let room : c.loop-i.i < length c.loop-i.sizes = omega (arith, c.loop-i.invariant.1, c.loop-i-test.true) in
-    elim c.if-i-count.branch [ then-i-count w ↦ rw w.2 (omega arith, simp length-set c.loop-i.invariant.1, λ ds h e. gathering_more (c.loop-i.invariant.2 ds h e) w.0.taken room w.1.ensures) | else-i-count w ↦ rw w.1 (omega arith, c.loop-i.invariant.1, λ ds h e. gathering_past (c.loop-i.invariant.2 ds h e) w.0.left) ]
+    elim c.if-i-count.branch [
+      | then-i-count w ↦ rw w.sizes-is (omega arith, simp length-set c.loop-i.invariant.1, λ ds h e. gathering_more (c.loop-i.invariant.2 ds h e) w.if-i-count.true room w.number_at.ensures)
+      | else-i-count w ↦ rw w.sizes-is (omega arith, c.loop-i.invariant.1, λ ds h e. gathering_past (c.loop-i.invariant.2 ds h e) w.if-i-count.false)
+    ]
 
 pub returns : goal.returns
 returns c = λ ds h e. (c.loop-i.invariant.2 ds h e).after (omega (arith, h.records.0, e, c.loop-i-test.false))

@@ -23,7 +23,7 @@ returns-in-Got c =
     let args = c.args in
     let count = c.wide-count.ensures.0 in
     name-read args.s.now args.mark args.at c.if-s-at.false (omega (arith, c.if-count-eq0.false, count)) (omega (arith, c.if-count-gt-MAX_NAME.false, count))
-    (rw (← count) c.read_name-read.ensures) (λ i. omega (arith, c.shared_slice_known-1.given i)) c.in-Got.is
+    (rw (← count) c.read_name-read.ensures) (λ i. omega (arith, c.type_inv.s i)) c.in-Got.is
 
 pub returns-in-Refused : goal.returns-in-Refused
 returns-in-Refused c =

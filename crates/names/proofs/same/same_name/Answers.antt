@@ -30,7 +30,7 @@ overflow_add-b c =
 pub overflow_cast-count : goal.overflow_cast-count
 overflow_cast-count c =
     let args = c.args in
-    omega (arith, c.shared_slice_known-1.given args.a)
+    omega (arith, c.type_inv.s args.a)
 
 pub same_bytes-requires : goal.same_bytes-requires
 same_bytes-requires c =

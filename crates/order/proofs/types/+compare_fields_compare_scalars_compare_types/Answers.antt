@@ -7,7 +7,7 @@ use Rattle.format.specs.Records.{write_fields}
 use Rattle.shape.specs.Answers.{order_of}
 use Rattle.rules.specs.Order.{cmp_fields}
 use Rattle.known.specs.Known.{FieldsAt}
-use Rattle.known.specs.KnownLaws.{deep, has-scalar}
+use Rattle.known.proofs.KnownLaws.{deep, has-scalar}
 use Rattle.order.specs.Answers.{ranking_of}
 use Rattle.order.proofs.TypeLaws.{by_kinds, any-kind, any-any, any-all, any-def, all-kind, all_any, all-all, all-def}
 use Rattle.order.proofs.TypeLaws.{def-kind, def-any, def-all, def-less, def-same, def-more, all_there, name-there, fields-there}
@@ -27,8 +27,8 @@ compare_fields-returns-then-others-eq0 t c =
 
 pub compare_fields-compare_types-requires : goal.compare_fields-compare_types-requires
 compare_fields-compare_types-requires t c =
-    let x = c.requires.1.0 in
-    let y = c.requires.1.1 in
+    let x = c.requires.0 in
+    let y = c.requires.1 in
     let left = c.loop-left.invariant x.fields y.fields x.there y.there x.counted y.counted in
     (omega arith, left-types left c.loop-left-test.true c.if-others-eq0.false)
 
@@ -38,15 +38,15 @@ compare_fields-returns-in-Less t c =
 
 pub compare_fields-overflow_sub-j : goal.compare_fields-overflow_sub-j
 compare_fields-overflow_sub-j t c =
-    let x = c.requires.1.0 in
-    let y = c.requires.1.1 in
+    let x = c.requires.0 in
+    let y = c.requires.1 in
     let left = c.loop-left.invariant x.fields y.fields x.there y.there x.counted y.counted in
     (next_place left c.loop-left-test.true c.if-others-eq0.false c.compare_types.ensures c.in-Same.is).0
 
 pub compare_fields-overflow_add-j : goal.compare_fields-overflow_add-j
 compare_fields-overflow_add-j t c =
-    let x = c.requires.1.0 in
-    let y = c.requires.1.1 in
+    let x = c.requires.0 in
+    let y = c.requires.1 in
     let left = c.loop-left.invariant x.fields y.fields x.there y.there x.counted y.counted in
     omega (arith, (next_place left c.loop-left-test.true c.if-others-eq0.false c.compare_types.ensures c.in-Same.is).1)
 
@@ -69,47 +69,47 @@ compare_fields-returns t c =
 pub compare_scalars-look-requires : goal.compare_scalars-look-requires
 compare_scalars-look-requires t c =
     let args = c.args in
-    (args.depth, c.requires.1.0)
+    (args.depth, c.requires.0)
 
 pub compare_scalars-kind_at-requires : goal.compare_scalars-kind_at-requires
 compare_scalars-kind_at-requires t c =
     let args = c.args in
-    (args.depth, c.requires.1.1)
+    (args.depth, c.requires.1)
 
 pub compare_scalars-look-requires-in-BoxAny : goal.compare_scalars-look-requires-in-BoxAny
 compare_scalars-look-requires-in-BoxAny t c =
     let args = c.args in
-    (args.depth, c.requires.1.1)
+    (args.depth, c.requires.1)
 
 pub compare_scalars-look-requires-in-BoxAll : goal.compare_scalars-look-requires-in-BoxAll
 compare_scalars-look-requires-in-BoxAll t c =
     let args = c.args in
-    (args.depth, c.requires.1.1)
+    (args.depth, c.requires.1)
 
 pub compare_scalars-compare_types-requires : goal.compare_scalars-compare_types-requires
 compare_scalars-compare_types-requires t c =
     let args = c.args in
-    let first = all_there args.a.now args.i args.depth c.requires.1.0.there c.look.ensures c.in-BoxAll.is in
-    let second = all_there args.b.now args.j args.depth c.requires.1.1.there c.look-in-BoxAll.ensures c.in-BoxAll-look-2.is in
+    let first = all_there args.a.now args.i args.depth c.requires.0.there c.look.ensures c.in-BoxAll.is in
+    let second = all_there args.b.now args.j args.depth c.requires.1.there c.look-in-BoxAll.ensures c.in-BoxAll-look-2.is in
     (omega arith, (first, second))
 
 pub compare_scalars-look-requires-in-BoxDef : goal.compare_scalars-look-requires-in-BoxDef
 compare_scalars-look-requires-in-BoxDef t c =
     let args = c.args in
-    (args.depth, c.requires.1.1)
+    (args.depth, c.requires.1)
 
 pub compare_scalars-cmp_names-requires : goal.compare_scalars-cmp_names-requires
 compare_scalars-cmp_names-requires t c =
     let args = c.args in
-    let first = name-there args.a.now args.i args.depth c.requires.1.0.there c.look.ensures c.in-BoxDef.is in
-    let second = name-there args.b.now args.j args.depth c.requires.1.1.there c.look-in-BoxDef.ensures c.in-BoxDef-look-3.is in
+    let first = name-there args.a.now args.i args.depth c.requires.0.there c.look.ensures c.in-BoxDef.is in
+    let second = name-there args.b.now args.j args.depth c.requires.1.there c.look-in-BoxDef.ensures c.in-BoxDef-look-3.is in
     (first, second)
 
 pub compare_scalars-compare_fields-requires : goal.compare_scalars-compare_fields-requires
 compare_scalars-compare_fields-requires t c =
     let args = c.args in
-    let first = fields-there args.a.now args.i args.depth c.requires.1.0.there c.look.ensures c.in-BoxDef.is in
-    let second = fields-there args.b.now args.j args.depth c.requires.1.1.there c.look-in-BoxDef.ensures c.in-BoxDef-look-3.is in
+    let first = fields-there args.a.now args.i args.depth c.requires.0.there c.look.ensures c.in-BoxDef.is in
+    let second = fields-there args.b.now args.j args.depth c.requires.1.there c.look-in-BoxDef.ensures c.in-BoxDef-look-3.is in
     (omega arith, (first, second))
 
 pub compare_scalars-returns-in-Plain : goal.compare_scalars-returns-in-Plain
@@ -193,33 +193,33 @@ compare_scalars-returns-in-More t c =
 pub compare_types-scalar_at-requires : goal.compare_types-scalar_at-requires
 compare_types-scalar_at-requires t c =
     let args = c.args in
-    (args.depth, c.requires.1.0)
+    (args.depth, c.requires.0)
 
 pub compare_types-scalar_at-requires-2 : goal.compare_types-scalar_at-requires-2
 compare_types-scalar_at-requires-2 t c =
     let args = c.args in
-    (args.depth, c.requires.1.1)
+    (args.depth, c.requires.1)
 
 pub compare_types-overflow_sub-depth : goal.compare_types-overflow_sub-depth
 compare_types-overflow_sub-depth t c =
-    deep _ _ _ c.requires.1.0
+    deep _ _ _ c.requires.0
 
 pub compare_types-compare_scalars-requires : goal.compare_types-compare_scalars-requires
 compare_types-compare_scalars-requires t c =
     let args = c.args in
-    let first = has-scalar args.a.now args.i c.scalar_at.ensures args.depth c.requires.1.0 in
-    let second = has-scalar args.b.now args.j c.scalar_at-2.ensures args.depth c.requires.1.1 in
-    (omega (arith, deep _ _ _ c.requires.1.0), (first, second))
+    let first = has-scalar args.a.now args.i c.scalar_at.ensures args.depth c.requires.0 in
+    let second = has-scalar args.b.now args.j c.scalar_at-2.ensures args.depth c.requires.1 in
+    (omega (arith, deep _ _ _ c.requires.0), (first, second))
 
 pub compare_types-shape_at-requires : goal.compare_types-shape_at-requires
 compare_types-shape_at-requires t c =
     let args = c.args in
-    (args.depth, c.requires.1.0)
+    (args.depth, c.requires.0)
 
 pub compare_types-shape_at-requires-in-Same : goal.compare_types-shape_at-requires-in-Same
 compare_types-shape_at-requires-in-Same t c =
     let args = c.args in
-    (args.depth, c.requires.1.1)
+    (args.depth, c.requires.1)
 
 pub compare_types-returns-in-Less : goal.compare_types-returns-in-Less
 compare_types-returns-in-Less t c =

@@ -7,7 +7,7 @@ use Rattle.format.specs.Records.{write_fields}
 use Rattle.shape.specs.Answers.{order_of}
 use Rattle.rules.specs.Order.{cmp_fields}
 use Rattle.known.specs.Known.{FieldsAt}
-use Rattle.known.specs.KnownLaws.{deep, has-scalar}
+use Rattle.known.proofs.KnownLaws.{deep, has-scalar}
 use Rattle.order.specs.Answers.{ranking_of}
 use Rattle.order.proofs.TypeLaws.{by_kinds, any-kind, any-any, any-all, any-def, all-kind, all_any, all-all, all-def}
 use Rattle.order.proofs.TypeLaws.{def-kind, def-any, def-all, def-less, def-same, def-more, all_there, name-there, fields-there}

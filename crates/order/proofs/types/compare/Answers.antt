@@ -6,7 +6,7 @@ use Rattle.rules.specs.Sizes.{same}
 use Rattle.rules.specs.Order.{compare}
 use Rattle.record.specs.Answers.{lone_of}
 use Rattle.record.proofs.LoneLaws.{both-refused, both_read}
-use Rattle.known.specs.WholeLaws.{has-types}
+use Rattle.known.proofs.WholeLaws.{has-types}
 use Rattle.order.proofs.TypeLaws.{whole-less, whole_same, whole-more}
 use borrow.Author.Rules.{rules}
 use Rattle.order.proofs.types.compare.Goals as goal

@@ -71,7 +71,7 @@ pack_sizes-requires c =
     shape-sizes as_record as_packed args.s.now args.from args.out.now args.to opens closes counted laid c.requires
 
 pub shape_of-out : goal.shape_of-out
-shape_of-out c = c.pack_sizes.auto.1.1.0 ∙ simp length-set
+shape_of-out c = c.pack_sizes.auto.out ∙ simp length-set
 
 pub returns : goal.returns
 returns c =

@@ -9,14 +9,7 @@ use Rattle.record.proofs.TypeLaws.{type-deep, type-many, type_unshaped, type-sha
 use Rattle.record.proofs.TypeLaws.{box-any, box-all, box-def, box-unformed, def-unnamed, def_misnamed, def_uncounted, def-counted, fields-end, fields-stop, fields-more}
 use Rattle.record.specs.Answers.{reading_of}
 use Prim.Native.Nat.{ℕ, ◌<◌, ◌+◌, ◌-◌, ◌*◌}
-use Rattle.record.proofs.types.+read_box_read_def_read_fields_read_scalar_read_type.{
 use Rattle.record.proofs.types.+read_box_read_def_read_fields_read_scalar_read_type.Goals as goal
-
-  statement,
-}
-use Rattle.record.proofs.types.+read_box_read_def_read_fields_read_scalar_read_type.Tie.{
-  close,
-}
 
 pub read_box-returns-in_default : goal.read_box-returns-in_default
 read_box-returns-in_default t c =

@@ -51,13 +51,12 @@ put_type-end-requires c =
     omega (arith, due.room, c.loop-i.invariant.1)
 
 pub loop-i-preserved : goal.loop-i-preserved
-loop-i-preserved c =
-    (
-      search rules,
-      c.put_type-end.auto.out ∙ c.loop-i.invariant.1,
-      λ ts h.
-          (walk_due _ _ _ _ _ _ ts c.requires.bytes_in_bounds (omega (arith, c.loop-i-test.true)) (c.loop-i.invariant.2 ts h)).more _ _ c.put_type-end.ensures,
-    )
+loop-i-preserved c = (
+  search rules,
+  c.put_type-end.auto.out ∙ c.loop-i.invariant.1,
+  λ ts h.
+      (walk_due _ _ _ _ _ _ ts c.requires.bytes_in_bounds (omega (arith, c.loop-i-test.true)) (c.loop-i.invariant.2 ts h)).more _ _ c.put_type-end.ensures,
+)
 
 pub returns : goal.returns
 returns c = λ ts h. walk_ends _ _ _ _ _ _ ts _ _ _ _ (omega (arith, c.loop-i-test.false)) (c.loop-i.invariant.2 ts h)

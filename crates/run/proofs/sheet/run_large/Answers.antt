@@ -4,7 +4,7 @@ use mathlib.Core.Path.{refl}
 use lib.ListN.{length, length-replicate}
 use Rattle.model.specs.Limits.{max_bytes}
 use Rattle.stack.specs.Stack.{full_trays}
-use Rattle.stack.specs.KeepsLaws.{trays_keep}
+use Rattle.stack.proofs.KeepsLaws.{trays_keep}
 use Rattle.run.proofs.SheetLaws.{state-kept, some-here, stopped-has, run_finished, run-refused}
 use Rattle.step.proofs.StepLaws.{has_kept}
 use borrow.Author.Rules.{rules}
@@ -29,8 +29,8 @@ returns-in-At c =
     λ small st h same.
     let kept = trays_keep args.ends.now args.lengths.now args.sheet.now small _ args.scratch.now args.count c.requires.3 in
     let runs = c.run_steps-ran.ensures st (state-kept h refl kept) in
-    let trays-room : full_trays ≤ length c.run_steps-ran.new.1.1.1.1.1.1.1.1.1.0 = omega (arith, c.run_steps-ran.auto.1.1.1.1.1.1.1.1.1.0, length-replicate {A = ℕ} full_trays 0) in
-    let out-room : max_bytes ≤ length c.run_steps-ran.new.1.1.1.1.1.1.1.1.1.1.1.0 = omega (arith, c.requires.0, c.run_steps-ran.auto.1.1.1.1.1.1.1.1.1.1.1.0) in
+    let trays-room : full_trays ≤ length c.run_steps-ran.new.trays = omega (arith, c.run_steps-ran.auto.trays, length-replicate {A = ℕ} full_trays 0) in
+    let out-room : max_bytes ≤ length c.run_steps-ran.new.out = omega (arith, c.requires.0, c.run_steps-ran.auto.out) in
     run_finished c.run_steps-ran.result _ _ _ _ runs same c.in-At.is trays-room out-room λ ts left e. c.hand_over.ensures ts left e
 
 pub returns-in-Refused : goal.returns-in-Refused

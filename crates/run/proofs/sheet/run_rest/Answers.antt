@@ -12,10 +12,10 @@ returns-then-sheet-at c =
 pub run_large-requires : goal.run_large-requires
 run_large-requires c =
     let args = c.args in
-    let kept = c.empty_trays.ensures.0 args.sheet.now in
-    (c.requires.0, (args.small.now, has_kept _ _ args.count kept c.requires.1), c.requires.2, c.empty_trays.ensures.1)
+    let kept = c.empty_trays.ensures.by_index args.sheet.now in
+    (c.requires.0, (args.small.now, has_kept _ _ args.count kept c.requires.1), c.requires.2, c.empty_trays.ensures.none_in_tray)
 
 pub returns : goal.returns
 returns c =
     let args = c.args in
-    λ st h same. c.run_large.ensures args.small.now st (state-kept h refl (c.empty_trays.ensures.0 args.sheet.now)) same
+    λ st h same. c.run_large.ensures args.small.now st (state-kept h refl (c.empty_trays.ensures.by_index args.sheet.now)) same

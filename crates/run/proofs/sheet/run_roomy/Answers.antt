@@ -11,7 +11,7 @@ pub run_rest-requires : goal.run_rest-requires
 run_rest-requires c =
     let runs = c.run_steps-ran.ensures _ (some-here c.requires.0 c.requires.1 c.args.taken) in
     let is = c.in-At.is in
-    let room : max_bytes ≤ length c.run_steps-ran.new.1.1.1.1.1.1.1.1.1.1.1.0 = omega (arith, c.run_steps-ran.auto.1.1.1.1.1.1.1.1.1.1.1.0, length-replicate {A = ℕ} max_bytes 0) in
+    let room : max_bytes ≤ length c.run_steps-ran.new.out = omega (arith, c.run_steps-ran.auto.out, length-replicate {A = ℕ} max_bytes 0) in
     (room, stopped-has c.run_steps-ran.result _ _ _ _ runs is, stopped-names c.run_steps-ran.result _ _ _ _ runs is)
 
 pub returns-in-At : goal.returns-in-At

@@ -5,4 +5,4 @@ use Rattle.run.proofs.sheet.run_sheet.Goals as goal
 pub returns-then-sheet-eq0 : goal.returns-then-sheet-eq0
 returns-then-sheet-eq0 c =
     let args = c.args in
-    no_steps args.sheet.now args.result.now args.lengths.now (search rules)
+    no_steps args.sheet.now args.res.now args.lengths.now (search rules)

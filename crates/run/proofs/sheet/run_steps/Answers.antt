@@ -107,31 +107,31 @@ work_step-worked-requires c =
 
 pub shape_of-ends-in_default : goal.shape_of-ends-in_default
 shape_of-ends-in_default c =
-    c.work_step-worked.auto.1.1.1.1.0 ∙ c.loop-at.invariant.0
+    c.work_step-worked.auto.ends ∙ c.loop-at.invariant.0
 
 pub shape_of-lengths-in_default : goal.shape_of-lengths-in_default
 shape_of-lengths-in_default c =
-    c.work_step-worked.auto.1.1.1.1.1.0 ∙ c.loop-at.invariant.1
+    c.work_step-worked.auto.lengths ∙ c.loop-at.invariant.1
 
 pub shape_of-places-in_default : goal.shape_of-places-in_default
 shape_of-places-in_default c =
-    c.work_step-worked.auto.1.1.1.1.1.1.0 ∙ c.loop-at.invariant.2
+    c.work_step-worked.auto.places ∙ c.loop-at.invariant.2
 
 pub shape_of-bounds-in_default : goal.shape_of-bounds-in_default
 shape_of-bounds-in_default c =
-    c.work_step-worked.auto.1.1.1.1.1.1.1.0 ∙ c.loop-at.invariant.3
+    c.work_step-worked.auto.bounds ∙ c.loop-at.invariant.3
 
 pub shape_of-trays-in_default : goal.shape_of-trays-in_default
 shape_of-trays-in_default c =
-    c.work_step-worked.auto.1.1.1.1.1.1.1.1.0 ∙ c.loop-at.invariant.4
+    c.work_step-worked.auto.trays ∙ c.loop-at.invariant.4
 
 pub shape_of-scratch-in_default : goal.shape_of-scratch-in_default
 shape_of-scratch-in_default c =
-    c.work_step-worked.auto.1.1.1.1.1.1.1.1.1.0 ∙ c.loop-at.invariant.5
+    c.work_step-worked.auto.scratch ∙ c.loop-at.invariant.5
 
 pub shape_of-out-in_default : goal.shape_of-out-in_default
 shape_of-out-in_default c =
-    c.work_step-worked.auto.1.1.1.1.1.1.1.1.1.1.0 ∙ c.loop-at.invariant.6
+    c.work_step-worked.auto.out ∙ c.loop-at.invariant.6
 
 pub returns-in_default : goal.returns-in_default
 returns-in_default c =
@@ -143,31 +143,31 @@ returns-in_default c =
 
 pub shape_of-ends-then-next-at : goal.shape_of-ends-then-next-at
 shape_of-ends-then-next-at c =
-    c.work_step-worked.auto.1.1.1.1.0 ∙ c.loop-at.invariant.0
+    c.work_step-worked.auto.ends ∙ c.loop-at.invariant.0
 
 pub shape_of-lengths-then-next-at : goal.shape_of-lengths-then-next-at
 shape_of-lengths-then-next-at c =
-    c.work_step-worked.auto.1.1.1.1.1.0 ∙ c.loop-at.invariant.1
+    c.work_step-worked.auto.lengths ∙ c.loop-at.invariant.1
 
 pub shape_of-places-then-next-at : goal.shape_of-places-then-next-at
 shape_of-places-then-next-at c =
-    c.work_step-worked.auto.1.1.1.1.1.1.0 ∙ c.loop-at.invariant.2
+    c.work_step-worked.auto.places ∙ c.loop-at.invariant.2
 
 pub shape_of-bounds-then-next-at : goal.shape_of-bounds-then-next-at
 shape_of-bounds-then-next-at c =
-    c.work_step-worked.auto.1.1.1.1.1.1.1.0 ∙ c.loop-at.invariant.3
+    c.work_step-worked.auto.bounds ∙ c.loop-at.invariant.3
 
 pub shape_of-trays-then-next-at : goal.shape_of-trays-then-next-at
 shape_of-trays-then-next-at c =
-    c.work_step-worked.auto.1.1.1.1.1.1.1.1.0 ∙ c.loop-at.invariant.4
+    c.work_step-worked.auto.trays ∙ c.loop-at.invariant.4
 
 pub shape_of-scratch-then-next-at : goal.shape_of-scratch-then-next-at
 shape_of-scratch-then-next-at c =
-    c.work_step-worked.auto.1.1.1.1.1.1.1.1.1.0 ∙ c.loop-at.invariant.5
+    c.work_step-worked.auto.scratch ∙ c.loop-at.invariant.5
 
 pub shape_of-out-then-next-at : goal.shape_of-out-then-next-at
 shape_of-out-then-next-at c =
-    c.work_step-worked.auto.1.1.1.1.1.1.1.1.1.1.0 ∙ c.loop-at.invariant.6
+    c.work_step-worked.auto.out ∙ c.loop-at.invariant.6
 
 pub returns-then-next-at : goal.returns-then-next-at
 returns-then-next-at c =
@@ -181,13 +181,13 @@ returns-then-next-at c =
 pub loop-at-preserved : goal.loop-at-preserved
 loop-at-preserved c =
     let args = c.args in (
-      c.work_step-worked.auto.1.1.1.1.0 ∙ c.loop-at.invariant.0,
-      c.work_step-worked.auto.1.1.1.1.1.0 ∙ c.loop-at.invariant.1,
-      c.work_step-worked.auto.1.1.1.1.1.1.0 ∙ c.loop-at.invariant.2,
-      c.work_step-worked.auto.1.1.1.1.1.1.1.0 ∙ c.loop-at.invariant.3,
-      c.work_step-worked.auto.1.1.1.1.1.1.1.1.0 ∙ c.loop-at.invariant.4,
-      c.work_step-worked.auto.1.1.1.1.1.1.1.1.1.0 ∙ c.loop-at.invariant.5,
-      c.work_step-worked.auto.1.1.1.1.1.1.1.1.1.1.0 ∙ c.loop-at.invariant.6,
+      c.work_step-worked.auto.ends ∙ c.loop-at.invariant.0,
+      c.work_step-worked.auto.lengths ∙ c.loop-at.invariant.1,
+      c.work_step-worked.auto.places ∙ c.loop-at.invariant.2,
+      c.work_step-worked.auto.bounds ∙ c.loop-at.invariant.3,
+      c.work_step-worked.auto.trays ∙ c.loop-at.invariant.4,
+      c.work_step-worked.auto.scratch ∙ c.loop-at.invariant.5,
+      c.work_step-worked.auto.out ∙ c.loop-at.invariant.6,
       λ st h.
           let g = c.loop-at.invariant.7 st h in
           let to = c.work_step-worked.ensures g.state g.here.stacked g.here.in_force in

@@ -1,6 +1,6 @@
 use native.Mathlib.Omega.{arith}
 use borrow.Author.Rules.{rules}
-use Rattle.known.specs.KnownLaws.{deep, has-scalar}
+use Rattle.known.proofs.KnownLaws.{deep, has-scalar}
 use Rattle.scalar.proofs.CallLaws.{kind-below}
 use Rattle.scalar.proofs.BoxLaws.{content-there, code-there, kinds_compatible, box-compatible, all-compatible, contents-no, contents-shapes}
 use Prim.Native.Nat.{ℕ, ◌<◌, ◌+◌, ◌*◌}
@@ -9,35 +9,35 @@ use Rattle.scalar.proofs.boxes.+compatible_boxes_compatible_contents.Goals as go
 pub compatible_boxes-inner_at-requires : goal.compatible_boxes-inner_at-requires
 compatible_boxes-inner_at-requires t c =
     let args = c.args in
-    (args.depth, c.requires.1.0)
+    (args.depth, c.requires.0)
 
 pub compatible_boxes-inner_at-requires-in-Content : goal.compatible_boxes-inner_at-requires-in-Content
 compatible_boxes-inner_at-requires-in-Content t c =
     let args = c.args in
-    (args.depth, c.requires.1.1)
+    (args.depth, c.requires.1)
 
 pub compatible_boxes-compatible_contents-requires : goal.compatible_boxes-compatible_contents-requires
 compatible_boxes-compatible_contents-requires t c =
     let args = c.args in
-    let first = content-there args.a.now args.i args.depth c.inner_at.ensures c.requires.1.0.there c.in-Content.is in
-    let second = content-there args.b.now args.j args.depth c.inner_at-in-Content.ensures c.requires.1.1.there c.in-Content-inner_at.is in
+    let first = content-there args.a.now args.i args.depth c.inner_at.ensures c.requires.0.there c.in-Content.is in
+    let second = content-there args.b.now args.j args.depth c.inner_at-in-Content.ensures c.requires.1.there c.in-Content-inner_at.is in
     (omega arith, (first, second))
 
 pub compatible_boxes-compatible_codes-requires : goal.compatible_boxes-compatible_codes-requires
 compatible_boxes-compatible_codes-requires t c =
     let args = c.args in
-    (omega arith, code-there args.b.now args.j args.depth c.inner_at-in-Content.ensures c.requires.1.1.there c.in-Code-inner_at.is)
+    (omega arith, code-there args.b.now args.j args.depth c.inner_at-in-Content.ensures c.requires.1.there c.in-Code-inner_at.is)
 
 pub compatible_boxes-kind_at-requires : goal.compatible_boxes-kind_at-requires
 compatible_boxes-kind_at-requires t c =
     let args = c.args in
-    (args.depth, c.requires.1.1)
+    (args.depth, c.requires.1)
 
 pub compatible_boxes-compatible_codes-requires-in-Code : goal.compatible_boxes-compatible_codes-requires-in-Code
 compatible_boxes-compatible_codes-requires-in-Code t c =
     let args = c.args in
-    let first = code-there args.a.now args.i args.depth c.inner_at.ensures c.requires.1.0.there c.in-Code.is in
-    (first, kind-below args.b.now args.j c.kind_at.ensures (args.depth, c.requires.1.1))
+    let first = code-there args.a.now args.i args.depth c.inner_at.ensures c.requires.0.there c.in-Code.is in
+    (first, kind-below args.b.now args.j c.kind_at.ensures (args.depth, c.requires.1))
 
 pub compatible_boxes-returns-in-Content-inner_at : goal.compatible_boxes-returns-in-Content-inner_at
 compatible_boxes-returns-in-Content-inner_at t c =
@@ -57,33 +57,33 @@ compatible_boxes-returns-in-Code t c =
 pub compatible_contents-scalar_at-requires : goal.compatible_contents-scalar_at-requires
 compatible_contents-scalar_at-requires t c =
     let args = c.args in
-    (args.depth, c.requires.1.0)
+    (args.depth, c.requires.0)
 
 pub compatible_contents-scalar_at-requires-2 : goal.compatible_contents-scalar_at-requires-2
 compatible_contents-scalar_at-requires-2 t c =
     let args = c.args in
-    (args.depth, c.requires.1.1)
+    (args.depth, c.requires.1)
 
 pub compatible_contents-overflow_sub-depth : goal.compatible_contents-overflow_sub-depth
 compatible_contents-overflow_sub-depth t c =
-    deep _ _ _ c.requires.1.0
+    deep _ _ _ c.requires.0
 
 pub compatible_contents-compatible_boxes-requires : goal.compatible_contents-compatible_boxes-requires
 compatible_contents-compatible_boxes-requires t c =
     let args = c.args in
-    let first = has-scalar args.a.now args.i c.scalar_at.ensures args.depth c.requires.1.0 in
-    let second = has-scalar args.b.now args.j c.scalar_at-2.ensures args.depth c.requires.1.1 in
-    (omega (arith, deep _ _ _ c.requires.1.0), (first, second))
+    let first = has-scalar args.a.now args.i c.scalar_at.ensures args.depth c.requires.0 in
+    let second = has-scalar args.b.now args.j c.scalar_at-2.ensures args.depth c.requires.1 in
+    (omega (arith, deep _ _ _ c.requires.0), (first, second))
 
 pub compatible_contents-shape_at-requires : goal.compatible_contents-shape_at-requires
 compatible_contents-shape_at-requires t c =
     let args = c.args in
-    (args.depth, c.requires.1.0)
+    (args.depth, c.requires.0)
 
 pub compatible_contents-shape_at-requires-then-compatible_boxes : goal.compatible_contents-shape_at-requires-then-compatible_boxes
 compatible_contents-shape_at-requires-then-compatible_boxes t c =
     let args = c.args in
-    (args.depth, c.requires.1.1)
+    (args.depth, c.requires.1)
 
 pub compatible_contents-returns-then-compatible_boxes : goal.compatible_contents-returns-then-compatible_boxes
 compatible_contents-returns-then-compatible_boxes t c =

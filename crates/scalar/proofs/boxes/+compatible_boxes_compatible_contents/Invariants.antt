@@ -1,6 +1,6 @@
 use native.Mathlib.Omega.{arith}
 use borrow.Author.Rules.{rules}
-use Rattle.known.specs.KnownLaws.{deep, has-scalar}
+use Rattle.known.proofs.KnownLaws.{deep, has-scalar}
 use Rattle.scalar.proofs.CallLaws.{kind-below}
 use Rattle.scalar.proofs.BoxLaws.{content-there, code-there, kinds_compatible, box-compatible, all-compatible, contents-no, contents-shapes}
 use Prim.Native.Nat.{ℕ, ◌<◌, ◌+◌, ◌*◌}

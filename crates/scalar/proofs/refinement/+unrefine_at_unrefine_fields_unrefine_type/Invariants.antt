@@ -7,7 +7,7 @@ use Rattle.format.specs.Records.{write_fields}
 use Rattle.lent.specs.Over.{over}
 use Rattle.rules.specs.Scalars.{unrefine_fields}
 use Rattle.known.specs.Known.{FieldsAt}
-use Rattle.known.specs.KnownLaws.{deep, has-scalar}
+use Rattle.known.proofs.KnownLaws.{deep, has-scalar}
 use Rattle.scalar.proofs.UnrefineLaws.{kind-there, unrefine-plain, unrefine-any, all_there, unrefine-all, fields-there, unrefine-def, unrefine-behind}
 use Rattle.scalar.proofs.UnrefineLaws.{FieldsLeft, left-start, left-type, left-next, left_end}
 use Prim.Native.Nat.{ℕ, ◌<◌, ◌+◌, ◌*◌}

@@ -9,7 +9,7 @@ use Rattle.rules.specs.Scalars.{unrefine}
 use Rattle.lent.specs.Delivers.{deliver-handed}
 use Rattle.record.specs.Answers.{lone_of}
 use Rattle.record.proofs.LoneLaws.{passed-refused, mapped-refused}
-use Rattle.known.specs.WholeLaws.{has-type, scalar-inside}
+use Rattle.known.proofs.WholeLaws.{has-type, scalar-inside}
 use Rattle.scalar.proofs.UnrefineLaws.{whole-short, laid-scalar, whole-wrote}
 use borrow.Author.Rules.{rules}
 use Rattle.scalar.proofs.refinement.unrefine.Goals as goal
@@ -40,7 +40,7 @@ returns-then-res-n c =
     let args = c.args in
     let small : Bytes args.ty.now = λ i. omega (arith, c.shared_slice_known-1.given i) in
     let good = sym c.read_lone-read.ensures ∙ ap lone_of c.in-Accepted.is in
-    whole-short args.ty.now small good c.scalar_at-start.ensures args.result.now c.if-res-n.true
+    whole-short args.ty.now small good c.scalar_at-start.ensures args.res.now c.if-res-n.true
 
 pub slice_bounds-lay-count : goal.slice_bounds-lay-count
 slice_bounds-lay-count c =
@@ -61,11 +61,11 @@ unrefine_at-requires c =
     let args = c.args in
     let small : Bytes args.ty.now = λ i. omega (arith, c.shared_slice_known-1.given i) in
     let good = sym c.read_lone-read.ensures ∙ ap lone_of c.in-Accepted.is in
-    laid-scalar args.ty.now small good c.scalar_at-start.ensures args.result.now c.if-res-n.false c.lay.ensures
+    laid-scalar args.ty.now small good c.scalar_at-start.ensures args.res.now c.if-res-n.false c.lay.ensures
 
 pub returns : goal.returns
 returns c =
     let args = c.args in
     let small : Bytes args.ty.now = λ i. omega (arith, c.shared_slice_known-1.given i) in
     let good = sym c.read_lone-read.ensures ∙ ap lone_of c.in-Accepted.is in
-    whole-wrote args.ty.now small good c.scalar_at-start.ensures args.result.now c.if-res-n.false c.lay.ensures c.unrefine_at.ensures
+    whole-wrote args.ty.now small good c.scalar_at-start.ensures args.res.now c.if-res-n.false c.lay.ensures c.unrefine_at.ensures

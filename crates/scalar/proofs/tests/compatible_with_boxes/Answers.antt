@@ -8,7 +8,7 @@ use Rattle.rules.specs.Scalars.{compatible_with_boxes}
 use Rattle.record.specs.Answers.{lone_of}
 use Rattle.record.proofs.LoneLaws.{both-refused, both_read}
 use Rattle.scalar.proofs.CallLaws.{first-type, second_type, boxes-is}
-use Rattle.known.specs.WholeLaws.{has-scalars}
+use Rattle.known.proofs.WholeLaws.{has-scalars}
 use borrow.Author.Rules.{rules}
 use Rattle.scalar.proofs.tests.compatible_with_boxes.Goals as goal
 

@@ -9,7 +9,7 @@ use Rattle.rules.specs.Scalars.{union}
 use Rattle.lent.specs.Delivers.{deliver-as, deliver-handed}
 use Rattle.record.specs.Answers.{lone_of}
 use Rattle.record.proofs.LoneLaws.{both-refused, both_read}
-use Rattle.known.specs.WholeLaws.{has-scalars}
+use Rattle.known.proofs.WholeLaws.{has-scalars}
 use Rattle.scalar.proofs.CallLaws.{first-type, second_type, first-scalar, second-scalar, first-within, second-within, kinds_below, union-kind, union-first, union-second, union-box_any}
 use borrow.Author.Rules.{rules}
 use Rattle.scalar.proofs.unions.union.Goals as goal
@@ -76,7 +76,7 @@ returns-then-code c =
     let small' : Bytes args.b.now = λ i. omega (arith, c.shared_slice_known-2-1.given i) in
     let read = both_read (lone args.a.now) (lone args.b.now) c.read_two.result c.read_two.ensures c.whichever-read.result c.whichever-read.ensures in
     let good = sym read ∙ ap lone_of c.in-Accepted.is in
-    deliver-as args.result.now c.write_kind.ensures
+    deliver-as args.res.now c.write_kind.ensures
     (union-kind args.a.now args.b.now good small small' c.scalar_at-i.ensures c.scalar_at-j.ensures []
     c.kind_at.ensures c.kind_at-2.ensures c.union_code-code.ensures c.if-code.true)
 
@@ -136,7 +136,7 @@ returns-in-First c =
     let small' : Bytes args.b.now = λ i. omega (arith, c.shared_slice_known-2-1.given i) in
     let read = both_read (lone args.a.now) (lone args.b.now) c.read_two.result c.read_two.ensures c.whichever-read.result c.whichever-read.ensures in
     let good = sym read ∙ ap lone_of c.in-Accepted.is in
-    deliver-as args.result.now c.hand_over.ensures
+    deliver-as args.res.now c.hand_over.ensures
     (union-first args.a.now args.b.now good small small' c.scalar_at-i.ensures c.scalar_at-j.ensures []
     c.kind_at.ensures c.kind_at-2.ensures c.union_code-code.ensures c.if-code.false c.unite_boxes.result c.unite_boxes.ensures c.in-First.is)
 
@@ -147,7 +147,7 @@ returns-in-Second c =
     let small' : Bytes args.b.now = λ i. omega (arith, c.shared_slice_known-2-1.given i) in
     let read = both_read (lone args.a.now) (lone args.b.now) c.read_two.result c.read_two.ensures c.whichever-read.result c.whichever-read.ensures in
     let good = sym read ∙ ap lone_of c.in-Accepted.is in
-    deliver-as args.result.now c.hand_over-in-Second.ensures
+    deliver-as args.res.now c.hand_over-in-Second.ensures
     (union-second args.a.now args.b.now good small small' c.scalar_at-i.ensures c.scalar_at-j.ensures []
     c.kind_at.ensures c.kind_at-2.ensures c.union_code-code.ensures c.if-code.false c.unite_boxes.result c.unite_boxes.ensures c.in-Second.is)
 
@@ -158,6 +158,6 @@ returns-in-BoxAny c =
     let small' : Bytes args.b.now = λ i. omega (arith, c.shared_slice_known-2-1.given i) in
     let read = both_read (lone args.a.now) (lone args.b.now) c.read_two.result c.read_two.ensures c.whichever-read.result c.whichever-read.ensures in
     let good = sym read ∙ ap lone_of c.in-Accepted.is in
-    deliver-as args.result.now c.hand_box_any.ensures
+    deliver-as args.res.now c.hand_box_any.ensures
     (union-box_any args.a.now args.b.now good small small' c.scalar_at-i.ensures c.scalar_at-j.ensures []
     c.kind_at.ensures c.kind_at-2.ensures c.union_code-code.ensures c.if-code.false c.unite_boxes.result c.unite_boxes.ensures c.in-BoxAny.is)

@@ -7,7 +7,7 @@ use lib.ListN.{length}
 use Rattle.record.specs.Answers.{dims_of}
 use Rattle.record.proofs.ByValue.{size-at}
 use Rattle.rules.specs.Shapes.{says_no}
-use Rattle.rules.specs.CompatibleLaws.{is_so_once}
+use Rattle.rules.proofs.CompatibleLaws.{is_so_once}
 use Rattle.shape.proofs.DimsLaws.{PassFrom, pass_end, pass_all, pass_more, pass_stop}
 use Rattle.shape.proofs.dims.compatible_dims.Given as goal
 

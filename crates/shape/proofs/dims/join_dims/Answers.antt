@@ -5,7 +5,7 @@ use Prim.Native.Nat.{◌-◌}
 use mathlib.Core.Logic.{⊎_elim}
 use Rattle.record.specs.Answers.{dims_of}
 use Rattle.rules.specs.Shapes.{join_dims}
-use Rattle.rules.specs.ShapesLaws.{join-length}
+use Rattle.rules.proofs.ShapesLaws.{join-length}
 use Rattle.shape.proofs.DimsLaws.{Listed, listed-none, listed_more, listed-past, listed-all, join_more}
 use Rattle.shape.proofs.dims.join_dims.Goals.{else-i-count, then-i-count}
 use Rattle.shape.proofs.dims.join_dims.Goals as goal
@@ -21,9 +21,12 @@ loop-i-preserved c =
     let at-loop = c.loop-i in
     let list = join_dims (dims_of args.a) (dims_of args.b) in
     let count = c.shorter-count.result in
-    elim c.if-i-count.branch [ then-i-count w ↦ listed_more list count at-loop.sizes at-loop.i c.loop-i-test.true at-loop.invariant w.3.result w.0.taken w.4
-    (join_more (dims_of args.a) (dims_of args.b) at-loop.sizes at-loop.i w.3.result (omega arith) (omega (arith, c.shorter-count.ensures.0))
-    w.1.ensures w.2.ensures w.3.ensures) | else-i-count w ↦ listed-past list count at-loop.sizes at-loop.i c.loop-i-test.true at-loop.invariant w.0.left w.1 ]
+    elim c.if-i-count.branch [
+      | then-i-count w ↦ listed_more list count at-loop.sizes at-loop.i c.loop-i-test.true at-loop.invariant w.join_sizes.result w.if-i-count.true w.sizes-is
+          (join_more (dims_of args.a) (dims_of args.b) at-loop.sizes at-loop.i w.join_sizes.result (omega arith) (omega (arith, c.shorter-count.ensures.0))
+          w.size_at.ensures w.size_at-then-i-count.ensures w.join_sizes.ensures)
+      | else-i-count w ↦ listed-past list count at-loop.sizes at-loop.i c.loop-i-test.true at-loop.invariant w.if-i-count.false w.sizes-is
+    ]
 
 pub returns : goal.returns
 returns c =

@@ -5,7 +5,7 @@ use Prim.Native.Nat.{◌-◌, ◌≤◌}
 use lib.ListN.{length, length-set}
 use Rattle.record.specs.Answers.{dims_of}
 use Rattle.rules.specs.Shapes.{join_ends}
-use Rattle.rules.specs.ShapesLaws.{join_ends-length}
+use Rattle.rules.proofs.ShapesLaws.{join_ends-length}
 use Rattle.shape.proofs.DimsLaws.{Built, build_start, build_end, ends_more}
 use mathlib.Core.List.{[]}
 use Rattle.shape.proofs.dims.join_ends.Goals as goal

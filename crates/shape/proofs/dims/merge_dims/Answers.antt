@@ -5,7 +5,7 @@ use Prim.Native.Nat.{◌-◌}
 use mathlib.Core.Logic.{⊎_elim}
 use Rattle.record.specs.Answers.{dims_of}
 use Rattle.rules.specs.Shapes.{merge_dims}
-use Rattle.rules.specs.ShapesLaws.{merge_length}
+use Rattle.rules.proofs.ShapesLaws.{merge_length}
 use Rattle.shape.proofs.DimsLaws.{Listed, listed-none, listed_more, listed-past, listed-all, merge_more}
 use Rattle.shape.proofs.dims.merge_dims.Goals.{else-i-count, then-i-count}
 use Rattle.shape.proofs.dims.merge_dims.Goals as goal
@@ -21,8 +21,11 @@ loop-i-preserved c =
     let at-loop = c.loop-i in
     let list = merge_dims (dims_of args.a) (dims_of args.b) in
     let count = c.longer-count.result in
-    elim c.if-i-count.branch [ then-i-count w ↦ listed_more list count at-loop.sizes at-loop.i c.loop-i-test.true at-loop.invariant w.1.result w.0.taken w.2
-    (merge_more (dims_of args.a) (dims_of args.b) at-loop.sizes at-loop.i w.1.result (omega arith) (omega (arith, c.longer-count.ensures.0)) w.1.ensures) | else-i-count w ↦ listed-past list count at-loop.sizes at-loop.i c.loop-i-test.true at-loop.invariant w.0.left w.1 ]
+    elim c.if-i-count.branch [
+      | then-i-count w ↦ listed_more list count at-loop.sizes at-loop.i c.loop-i-test.true at-loop.invariant w.merge_at.result w.if-i-count.true w.sizes-is
+          (merge_more (dims_of args.a) (dims_of args.b) at-loop.sizes at-loop.i w.merge_at.result (omega arith) (omega (arith, c.longer-count.ensures.0)) w.merge_at.ensures)
+      | else-i-count w ↦ listed-past list count at-loop.sizes at-loop.i c.loop-i-test.true at-loop.invariant w.if-i-count.false w.sizes-is
+    ]
 
 pub returns : goal.returns
 returns c =

@@ -23,8 +23,11 @@ loop-i-preserved c =
     let at-loop = c.loop-i in
     let list = drop 1 (dims_of args.d) in
     let count = c.size_count-n.result - 1 in
-    elim c.if-i-count.branch [ then-i-count w ↦ listed_more list count at-loop.sizes at-loop.i c.loop-i-test.true at-loop.invariant w.1.result w.0.taken w.2
-    (rest_more (dims_of args.d) at-loop.sizes at-loop.i w.1.result (omega arith) (omega (arith, c.size_count-n.ensures.0)) w.1.ensures) | else-i-count w ↦ listed-past list count at-loop.sizes at-loop.i c.loop-i-test.true at-loop.invariant w.0.left w.1 ]
+    elim c.if-i-count.branch [
+      | then-i-count w ↦ listed_more list count at-loop.sizes at-loop.i c.loop-i-test.true at-loop.invariant w.size_at.result w.if-i-count.true w.sizes-is
+          (rest_more (dims_of args.d) at-loop.sizes at-loop.i w.size_at.result (omega arith) (omega (arith, c.size_count-n.ensures.0)) w.size_at.ensures)
+      | else-i-count w ↦ listed-past list count at-loop.sizes at-loop.i c.loop-i-test.true at-loop.invariant w.if-i-count.false w.sizes-is
+    ]
 
 pub returns : goal.returns
 returns c =

@@ -8,4 +8,4 @@ pub returns : goal.returns
 returns c =
     let args = c.args in
     closed-beside none c.pervade_dims.result.answer c.pervade_dims.ensures refl
-    ∙ pervaded-closed args.a-fill args.b-fill args.pervading c.any_grows.ensures args.a args.b
+    ∙ pervaded-closed args.a_fill args.b_fill args.pervading c.any_grows.ensures args.a args.b

@@ -9,4 +9,4 @@ pub returns : goal.returns
 returns c =
     let args = c.args in
     closed-beside (pervade_closing (closing_for args.a) (closing_for args.b)) c.pervade_dims-walk.result.answer c.pervade_dims-walk.ensures c.pervade_closing-shape.ensures
-    ∙ pervaded-as args.a-fill args.b-fill args.pervading c.any_grows.ensures args.a args.b
+    ∙ pervaded-as args.a_fill args.b_fill args.pervading c.any_grows.ensures args.a args.b

@@ -1,7 +1,7 @@
 use mathlib.Core.Logic.{⊎_elim}
 use Rattle.shape.proofs.PervadeLaws.{index-plain, index-grows, index_stays}
 use borrow.Author.Rules.{rules}
-use Rattle.shape.proofs.pervade.pervade_spots.Goals.{else-else-filling, then-else-filling}
+use Rattle.shape.proofs.pervade.pervade_spots.Goals.{else-filling-via-else-filling, else-filling-via-then-filling+else-either_grows}
 use Rattle.shape.proofs.pervade.pervade_spots.Goals as goal
 
 pub returns-then-either_grows : goal.returns-then-either_grows
@@ -10,4 +10,7 @@ returns-then-either_grows c =
 
 pub returns : goal.returns
 returns c =
-    elim c.else-filling.branch [ then-else-filling w ↦ index_stays c.args.filling _ _ w.0.taken w.1.ensures w.2.left c.meet.ensures | else-else-filling w ↦ index-plain c.args.filling _ _ w.left c.meet.ensures ]
+    elim c.else-filling.branch [
+      | else-filling-via-then-filling+else-either_grows w ↦ index_stays c.args.filling _ _ w.if-filling.true w.either_grows.ensures w.if-either_grows.false c.meet.ensures
+      | else-filling-via-else-filling w ↦ index-plain c.args.filling _ _ w.if-filling.false c.meet.ensures
+    ]

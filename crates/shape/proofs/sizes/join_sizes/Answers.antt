@@ -1,5 +1,5 @@
 use mathlib.Core.Path.{sym}
-use Rattle.rules.specs.SizesLaws.{join_dim_idem}
+use Rattle.rules.proofs.SizesLaws.{join_dim_idem}
 use Rattle.shape.proofs.SizeLaws.{join_unequal}
 use Rattle.shape.proofs.sizes.join_sizes.Goals as goal
 

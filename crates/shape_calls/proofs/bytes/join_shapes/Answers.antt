@@ -15,7 +15,7 @@ returns-in_default c =
     let known : TwoRead args.a.now args.b.now c.whichever-read.result =
     two-read args.a.now args.b.now (λ i. omega (arith, c.shared_slice_known-1.given i)) (λ i. omega (arith, c.shared_slice_known-2-1.given i))
     c.read_two.result c.read_two.ensures c.whichever-read.result c.whichever-read.ensures in
-    deliver-handed args.result.now c.as_written.result (c.as_written.ensures ∙ ap lone_of c.in_default.is)
+    deliver-handed args.res.now c.as_written.result (c.as_written.ensures ∙ ap lone_of c.in_default.is)
     (shapes-told (λ s t. recorded (join_shapes s t)) known c.in_default.is)
 
 pub shape_at-requires : goal.shape_at-requires
@@ -41,7 +41,7 @@ returns c =
     two-read args.a.now args.b.now (λ i. omega (arith, c.shared_slice_known-1.given i)) (λ i. omega (arith, c.shared_slice_known-2-1.given i))
     c.read_two.result c.read_two.ensures c.whichever-read.result c.whichever-read.ensures in
     c.write_shape.ensures
-    ∙ ap (λ o. deliver o args.result.now)
+    ∙ ap (λ o. deliver o args.res.now)
     (ap recorded c.join.ensures
     ∙ sym (shapes_are (λ s t. recorded (join_shapes s t)) known c.in-Accepted.is c.shape_at.result c.shape_at-2.result
     c.shape_at.ensures c.shape_at-2.ensures))

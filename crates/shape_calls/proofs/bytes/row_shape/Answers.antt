@@ -14,7 +14,7 @@ returns-in_default c =
     let args = c.args in
     let known : OneRead args.a.now c.read_lone-read.result =
     record { small = λ i. omega (arith, c.shared_slice_known-1.given i); reads = c.read_lone-read.ensures } in
-    deliver-handed args.result.now c.as_written.result (c.as_written.ensures ∙ ap lone_of c.in_default.is)
+    deliver-handed args.res.now c.as_written.result (c.as_written.ensures ∙ ap lone_of c.in_default.is)
     (shape-told (λ s. recorded (row_shape s)) known c.in_default.is)
 
 pub shape_at-requires : goal.shape_at-requires
@@ -29,6 +29,6 @@ returns c =
     let known : OneRead args.a.now c.read_lone-read.result =
     record { small = λ i. omega (arith, c.shared_slice_known-1.given i); reads = c.read_lone-read.ensures } in
     c.write_shape.ensures
-    ∙ ap (λ o. deliver o args.result.now)
+    ∙ ap (λ o. deliver o args.res.now)
     (shape_is (λ s. recorded (row_shape s)) known c.in-Accepted.is
     (λ d t h. ap recorded (c.into_row.ensures ∙ ap row_shape (c.shape_at.ensures d t h))))

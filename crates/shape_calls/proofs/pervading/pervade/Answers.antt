@@ -16,8 +16,8 @@ returns-in_default c =
     let known : TwoRead args.a.now args.b.now c.whichever-read.result =
     two-read args.a.now args.b.now (λ i. omega (arith, c.shared_slice_known-1.given i)) (λ i. omega (arith, c.shared_slice_known-2-1.given i))
     c.read_two.result c.read_two.ensures c.whichever-read.result c.whichever-read.ensures in
-    deliver-handed args.result.now c.as_written.result (c.as_written.ensures ∙ ap lone_of c.in_default.is)
-    (shapes-told (λ s t. pervaded (rules.pervade args.fill-a args.fill-b s t)) known c.in_default.is)
+    deliver-handed args.res.now c.as_written.result (c.as_written.ensures ∙ ap lone_of c.in_default.is)
+    (shapes-told (λ s t. pervaded (rules.pervade args.fill_a args.fill_b s t)) known c.in_default.is)
 
 pub shape_at-requires : goal.shape_at-requires
 shape_at-requires c =
@@ -25,7 +25,7 @@ shape_at-requires c =
     let known : TwoRead args.a.now args.b.now c.whichever-read.result =
     two-read args.a.now args.b.now (λ i. omega (arith, c.shared_slice_known-1.given i)) (λ i. omega (arith, c.shared_slice_known-2-1.given i))
     c.read_two.result c.read_two.ensures c.whichever-read.result c.whichever-read.ensures in
-    first-there (λ s t. pervaded (rules.pervade args.fill-a args.fill-b s t)) known c.in-Accepted.is
+    first-there (λ s t. pervaded (rules.pervade args.fill_a args.fill_b s t)) known c.in-Accepted.is
 
 pub shape_at-requires-2 : goal.shape_at-requires-2
 shape_at-requires-2 c =
@@ -33,7 +33,7 @@ shape_at-requires-2 c =
     let known : TwoRead args.a.now args.b.now c.whichever-read.result =
     two-read args.a.now args.b.now (λ i. omega (arith, c.shared_slice_known-1.given i)) (λ i. omega (arith, c.shared_slice_known-2-1.given i))
     c.read_two.result c.read_two.ensures c.whichever-read.result c.whichever-read.ensures in
-    second-there (λ s t. pervaded (rules.pervade args.fill-a args.fill-b s t)) known c.in-Accepted.is
+    second-there (λ s t. pervaded (rules.pervade args.fill_a args.fill_b s t)) known c.in-Accepted.is
 
 pub returns-in-Stopped : goal.returns-in-Stopped
 returns-in-Stopped c =
@@ -41,8 +41,8 @@ returns-in-Stopped c =
     let known : TwoRead args.a.now args.b.now c.whichever-read.result =
     two-read args.a.now args.b.now (λ i. omega (arith, c.shared_slice_known-1.given i)) (λ i. omega (arith, c.shared_slice_known-2-1.given i))
     c.read_two.result c.read_two.ensures c.whichever-read.result c.whichever-read.ensures in
-    sym (deliver-refused args.result.now
-    (shapes_are (λ s t. pervaded (rules.pervade args.fill-a args.fill-b s t)) known c.in-Accepted.is c.shape_at.result
+    sym (deliver-refused args.res.now
+    (shapes_are (λ s t. pervaded (rules.pervade args.fill_a args.fill_b s t)) known c.in-Accepted.is c.shape_at.result
     c.shape_at-2.result c.shape_at.ensures c.shape_at-2.ensures
     ∙ sym (ap pervaded (sym (ap (λ v. shape_beside v (shape_for c.pervade_dyn_shapes-pervaded.result.shape)) c.in-Stopped.is)
     ∙ c.pervade_dyn_shapes-pervaded.ensures))))
@@ -54,8 +54,8 @@ returns c =
     two-read args.a.now args.b.now (λ i. omega (arith, c.shared_slice_known-1.given i)) (λ i. omega (arith, c.shared_slice_known-2-1.given i))
     c.read_two.result c.read_two.ensures c.whichever-read.result c.whichever-read.ensures in
     c.write_shape.ensures
-    ∙ ap (λ o. deliver o args.result.now)
+    ∙ ap (λ o. deliver o args.res.now)
     (ap pervaded (sym (ap (λ v. shape_beside v (shape_for c.pervade_dyn_shapes-pervaded.result.shape)) c.in_default-answer.is)
     ∙ c.pervade_dyn_shapes-pervaded.ensures)
-    ∙ sym (shapes_are (λ s t. pervaded (rules.pervade args.fill-a args.fill-b s t)) known c.in-Accepted.is c.shape_at.result
+    ∙ sym (shapes_are (λ s t. pervaded (rules.pervade args.fill_a args.fill_b s t)) known c.in-Accepted.is c.shape_at.result
     c.shape_at-2.result c.shape_at.ensures c.shape_at-2.ensures))

@@ -1,7 +1,7 @@
 use Prim.Native.Nat.{◌-◌}
 use native.Mathlib.Omega.{arith}
 use mathlib.Core.Path.{◌∙◌}
-use Rattle.stack.specs.LyingLaws.{lies_packed}
+use Rattle.stack.proofs.LyingLaws.{lies_packed}
 use borrow.Author.Rules.{rules}
 use Rattle.stack.proofs.out.lay_type.Goals as goal
 

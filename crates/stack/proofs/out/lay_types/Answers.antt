@@ -17,15 +17,15 @@ loop-k-init c =
       refl,
       λ ts st.
           let none = bytes-none (memory args.ends.now args.lengths.now args.s.now args.trays.now args.scratch.now) args.count ts st in
-          (sym (ap length none), laid_none args.result.now (lowest_bytes args.count 0 ts) none),
+          (sym (ap length none), laid_none args.res.now (lowest_bytes args.count 0 ts) none),
     )
 
 pub lay_type-requires : goal.lay_type-requires
 lay_type-requires c =
     let args = c.args in
     let st = c.requires.1 in
-    let fits = next_fits _ args.count c.requires.0 st c.loop-k.k c.loop-k-test.true c.loop-k.at (length args.result.now) (c.loop-k.invariant.2 c.requires.0 st).0 c.requires.2 in
-    ((fits.0, fits.1, rw c.loop-k.invariant.1 fits.2), omega (arith, st.few), st.ended, st.decreases)
+    let fits = next_fits _ args.count c.requires.0 st c.loop-k.k c.loop-k-test.true c.loop-k.at (length args.res.now) (c.loop-k.invariant.2 c.requires.0 st).0 c.requires.2 in
+    ((fits.0, fits.1, rw c.loop-k.invariant.1 fits.2), omega (arith, st.few), st.ended, st.measured)
 
 pub bounds-lengths-k : goal.bounds-lengths-k
 bounds-lengths-k c =
@@ -37,7 +37,7 @@ pub overflow_add-at : goal.overflow_add-at
 overflow_add-at c =
     let args = c.args in
     let st = c.requires.1 in
-    let b : c.loop-k.at + get_or args.lengths.now c.loop-k.k 0 ≤ length args.result.now =
+    let b : c.loop-k.at + get_or args.lengths.now c.loop-k.k 0 ≤ length args.res.now =
     omega (
       arith,
       (c.loop-k.invariant.2 c.requires.0 st).0,
@@ -52,7 +52,7 @@ pub loop-k-preserved : goal.loop-k-preserved
 loop-k-preserved c =
     let args = c.args in
     let st₀ = c.requires.1 in
-    let fits : c.loop-k.at ≤ length args.result.now =
+    let fits : c.loop-k.at ≤ length args.res.now =
     omega (
       arith,
       (c.loop-k.invariant.2 c.requires.0 st₀).0,
@@ -63,11 +63,11 @@ loop-k-preserved c =
     )
     in (
       omega arith,
-      c.lay_type.auto.1.1.1.1.1.1.0 ∙ c.loop-k.invariant.1,
+      c.lay_type.auto.res ∙ c.loop-k.invariant.1,
       λ ts st.
           let reached = c.loop-k.invariant.2 ts st in (
             omega (arith, reached.0, size-next _ args.count ts st c.loop-k.k c.loop-k-test.true),
-            laid_next _ args.count ts st c.loop-k.k c.loop-k-test.true args.result.now c.loop-k.result _ c.loop-k.at reached.0 reached.1 fits c.lay_type.ensures,
+            laid_next _ args.count ts st c.loop-k.k c.loop-k-test.true args.res.now c.loop-k.res _ c.loop-k.at reached.0 reached.1 fits c.lay_type.ensures,
           ),
     )
 
@@ -79,4 +79,4 @@ pub returns : goal.returns
 returns c =
     let args = c.args in
     let all : c.loop-k.k ≡ args.count = omega arith in
-    λ ts st. (c.loop-k.invariant.2 ts st).1 ∙ ap (over args.result.now 0) (bytes-all _ args.count ts st all)
+    λ ts st. (c.loop-k.invariant.2 ts st).1 ∙ ap (over args.res.now 0) (bytes-all _ args.count ts st all)

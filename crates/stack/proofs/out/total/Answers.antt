@@ -19,7 +19,7 @@ pub offset_bounds-lengths-k : goal.offset_bounds-lengths-k
 offset_bounds-lengths-k c =
     let b = c.requires.4.stacked in
     let f = b.few in
-    let l = b.decreases in
+    let l = b.measured in
     search rules
 
 pub bounds-lengths-k : goal.bounds-lengths-k

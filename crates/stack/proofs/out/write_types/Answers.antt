@@ -15,7 +15,7 @@ returns-then-res-size c =
     let args = c.args in
     λ ts h.
     let long = c.total-size.ensures args.ends.now args.s.now args.trays.now args.scratch.now ts h in
-    sym (deliver-short args.result.now refl (omega (arith, long, c.if-res-size.true)))
+    sym (deliver-short args.res.now refl (omega (arith, long, c.if-res-size.true)))
 
 pub lay_types-requires : goal.lay_types-requires
 lay_types-requires c =
@@ -27,4 +27,4 @@ returns c =
     let args = c.args in
     λ ts h.
     let long = c.total-size.ensures args.ends.now args.s.now args.trays.now args.scratch.now ts h in
-    deliver-wrote args.result.now refl (omega (arith, long, c.if-res-size.false)) long (c.lay_types.ensures ts h)
+    deliver-wrote args.res.now refl (omega (arith, long, c.if-res-size.false)) long (c.lay_types.ensures ts h)

@@ -3,7 +3,7 @@ use native.Mathlib.Omega.{arith}
 use mathlib.Core.Path.{◌≡◌}
 use lib.ListN.{get_or}
 use Rattle.stack.specs.Stack.{NotPacked}
-use Rattle.stack.specs.StackLaws.{top_one}
+use Rattle.stack.proofs.StackLaws.{top_one}
 use borrow.Author.Rules.{rules}
 use Rattle.stack.proofs.tops.unpack_top.Goals as goal
 
@@ -15,4 +15,4 @@ unpack_at-requires c =
 pub returns : goal.returns
 returns c =
     let args = c.args in
-    (λ s. c.unpack_at.ensures.0 s args.count (omega (arith, c.requires.0)) (omega arith), top_one (NotPacked c.unpack_at.new.1.0) args.count c.unpack_at.ensures.1.0)
+    record { by_index = λ s. c.unpack_at.ensures.by_index s args.count (omega (arith, c.requires.0)) (omega arith); unpacked = top_one (NotPacked c.unpack_at.new.ends) args.count c.unpack_at.ensures.not_packed.0 }

@@ -3,7 +3,7 @@ use native.Mathlib.Omega.{arith}
 use mathlib.Core.Path.{◌≡◌, sym, ◌∙◌}
 use lib.ListN.{get_or}
 use Rattle.stack.specs.Stack.{NotPacked}
-use Rattle.stack.specs.StackLaws.{top_two}
+use Rattle.stack.proofs.StackLaws.{top_two}
 use borrow.Author.Rules.{rules}
 use Rattle.stack.proofs.tops.unpack_two.Goals as goal
 
@@ -15,16 +15,17 @@ unpack_at-requires c =
 pub unpack_at-requires-2 : goal.unpack_at-requires-2
 unpack_at-requires-2 c =
     let args = c.args in
-    let opened = c.unpack_at.ensures.0 c.requires.1.0 args.count (omega (arith, c.requires.0)) (omega arith) c.requires.1.1.types c.requires.1.1.stacked in (
+    let opened = c.unpack_at.ensures.by_index c.requires.1.0 args.count (omega (arith, c.requires.0)) (omega arith) c.requires.1.1.types c.requires.1.1.stacked in (
       (c.requires.1.0, args.count, omega (arith, c.requires.0), record { types = c.requires.1.1.types; stacked = opened }),
-      omega (arith, c.unpack_at.auto.1.1.1.0, c.requires.2 (args.count - 2) (omega (arith, c.requires.0)) (omega arith)),
+      omega (arith, c.unpack_at.auto.ends, c.requires.2 (args.count - 2) (omega (arith, c.requires.0)) (omega arith)),
     )
 
 pub returns : goal.returns
 returns c =
-    let args = c.args in (
-      λ s ts h. c.unpack_at-2.ensures.0 s args.count (omega (arith, c.requires.0)) (omega arith) ts (c.unpack_at.ensures.0 s args.count (omega (arith, c.requires.0)) (omega arith) ts h),
-      top_two (NotPacked c.unpack_at-2.new.1.0) args.count
-          (λ e. c.unpack_at.ensures.1.0 (sym (c.unpack_at-2.ensures.1.1 (args.count - 1) (omega (arith, c.requires.0))) ∙ e))
-          c.unpack_at-2.ensures.1.0,
-    )
+    let args = c.args in
+    record {
+      by_index = λ s ts h. c.unpack_at-2.ensures.by_index s args.count (omega (arith, c.requires.0)) (omega arith) ts (c.unpack_at.ensures.by_index s args.count (omega (arith, c.requires.0)) (omega arith) ts h);
+      unpacked = top_two (NotPacked c.unpack_at-2.new.ends) args.count
+          (λ e. c.unpack_at.ensures.not_packed.0 (sym (c.unpack_at-2.ensures.not_packed.1 (args.count - 1) (omega (arith, c.requires.0))) ∙ e))
+          c.unpack_at-2.ensures.not_packed.0;
+    }

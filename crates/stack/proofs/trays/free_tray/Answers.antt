@@ -4,7 +4,7 @@ use mathlib.Core.List.{List}
 use mathlib.Core.Path.{◌≡◌, refl, sym, ◌∙◌}
 use lib.ListN.{length, get_or}
 use Rattle.stack.specs.Stack.{memory, tray_end, Keeps}
-use Rattle.stack.specs.StackLaws.{below_next}
+use Rattle.stack.proofs.StackLaws.{below_next}
 use borrow.Author.Rules.{rules}
 use Rattle.stack.proofs.trays.free_tray.Goals as goal
 
@@ -19,12 +19,12 @@ pub loop-i-preserved : goal.loop-i-preserved
 loop-i-preserved c =
     let args = c.args in
     let (before, first, second, kept, free, same) = c.loop-i.invariant in
-    let (now-free, others) = c.put_aside.ensures.1 in (
+    let (now-free, others) = c.put_aside.ensures.fact in (
       omega arith,
-      c.put_aside.auto.1.1.0 ∙ first,
-      c.put_aside.auto.1.1.1.1.1.0 ∙ second,
-      λ s count there ts h. c.put_aside.ensures.0 s count (omega arith) ts (kept s count there ts h),
-      below_next (λ j. j % 2 ≡ args.k % 2 → get_or c.put_aside.new.1.1.0 j 0 ≡ tray_end → ⊥) c.loop-i.i
+      c.put_aside.auto.ends ∙ first,
+      c.put_aside.auto.scratch ∙ second,
+      λ s count there ts h. c.put_aside.ensures.by_index s count (omega arith) ts (kept s count there ts h),
+      below_next (λ j. j % 2 ≡ args.k % 2 → get_or c.put_aside.new.ends j 0 ≡ tray_end → ⊥) c.loop-i.i
           (λ j lower e held. free j lower e (sym (others j (λ x. omega arith)) ∙ held)) now-free,
       λ j there. others j (λ x. omega arith) ∙ same j (omega arith),
     )
@@ -41,4 +41,4 @@ pub returns : goal.returns
 returns c =
     let args = c.args in
     let all : c.loop-i.i ≡ args.k = omega arith in
-    (λ s count there. c.loop-i.invariant.3 s count there, (λ j less. c.loop-i.invariant.4 j (omega arith), λ j there. c.loop-i.invariant.5 j (omega arith)))
+    record { by_index = c.loop-i.invariant.3; free = (λ j less. c.loop-i.invariant.4 j (omega arith), λ j there. c.loop-i.invariant.5 j (omega arith)) }

@@ -4,7 +4,7 @@ use mathlib.Core.List.{List}
 use mathlib.Core.Path.{◌≡◌, refl, sym, ◌∙◌}
 use lib.ListN.{length, get_or}
 use Rattle.stack.specs.Stack.{memory, tray_end, Keeps}
-use Rattle.stack.specs.StackLaws.{below_next}
+use Rattle.stack.proofs.StackLaws.{below_next}
 use borrow.Author.Rules.{rules}
 use Rattle.stack.proofs.trays.free_tray.Given as goal
 

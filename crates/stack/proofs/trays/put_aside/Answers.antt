@@ -4,10 +4,10 @@ use mathlib.Core.Path.{◌≡◌, refl}
 use lib.ListN.{length, get_or}
 use lib.Seq.{get_or-set_other}
 use Rattle.stack.specs.Stack.{memory, packed_end}
-use Rattle.stack.specs.StackLaws.{one_at}
-use Rattle.stack.specs.LyingLaws.{tray_ends, tray_part, not_in_tray}
-use Rattle.stack.specs.ApartLaws.{slot_inside}
-use Rattle.stack.specs.KeepsLaws.{packed_keeps}
+use Rattle.stack.proofs.StackLaws.{one_at}
+use Rattle.stack.proofs.LyingLaws.{tray_ends, tray_part, not_in_tray}
+use Rattle.stack.proofs.ApartLaws.{slot_inside}
+use Rattle.stack.proofs.KeepsLaws.{packed_keeps}
 use borrow.Author.Rules.{rules}
 use Rattle.stack.proofs.trays.put_aside.Goals as goal
 
@@ -41,11 +41,12 @@ pack-requires c =
 pub returns : goal.returns
 returns c =
     let args = c.args in
-    let inside : args.i < length args.ends.now = omega (arith, c.requires.3.stacked.ended, c.requires.3.stacked.few) in (
-      λ s count less. packed_keeps args.ends.now args.lengths.now s args.trays.now args.scratch.now count args.i less packed_end args.trays.now _
-          c.pack.auto.1.0 c.if-ends-i-ne-TRAY_END.false refl refl c.tray_at-at.ensures c.pack.ensures,
-      (
+    let inside : args.i < length args.ends.now = omega (arith, c.requires.3.stacked.ended, c.requires.3.stacked.few) in
+    record {
+      by_index = λ s count less. packed_keeps args.ends.now args.lengths.now s args.trays.now args.scratch.now count args.i less packed_end args.trays.now _
+          c.pack.auto.out c.if-ends-i-ne-TRAY_END.false refl refl c.tray_at-at.ensures c.pack.ensures;
+      fact = (
         λ e. not_in_tray args.ends.now args.i inside,
         λ j ne. get_or-set_other args.ends.now args.i j packed_end 0 ne,
-      ),
-    )
+      );
+    }

@@ -1,7 +1,7 @@
 use Prim.Native.Nat.{◌-◌, ◌/◌, ◌%◌}
 use native.Mathlib.Omega.{arith}
 use mathlib.Core.Path.{◌≡◌, sym}
-use Rattle.stack.specs.ApartLaws.{half-first, half-second}
+use Rattle.stack.proofs.ApartLaws.{half-first, half-second}
 use Rattle.stack.proofs.trays.tray_at.Goals as goal
 
 pub returns-then-k-eq0 : goal.returns-then-k-eq0

@@ -3,7 +3,7 @@ use native.Mathlib.Omega.{arith}
 use mathlib.Core.List.{◌∷◌}
 use mathlib.Core.Path.{◌≡◌}
 use Rattle.stack.specs.Stack.{memory}
-use Rattle.stack.specs.StackLaws.{stacked-count}
+use Rattle.stack.proofs.StackLaws.{stacked-count}
 use Rattle.step.proofs.StepLaws.{put-worked}
 use borrow.Author.Rules.{rules}
 use Rattle.step.proofs.steps.put.Goals as goal

@@ -13,8 +13,8 @@ pub validate_top-w-requires : goal.validate_top-w-requires
 validate_top-w-requires c =
     let args = c.args in
     let m = memory args.ends.now args.lengths.now args.s.now args.trays.now args.scratch.now in
-    let m₁ = memory c.unpack_top.new.1.0 args.lengths.now args.s.now c.unpack_top.new.1.1.1.0 c.unpack_top.new.1.1.1.1.0 in
-    let ready = ready_unpacked m m₁ args.count c.requires.0 (c.unpack_top.ensures.0 args.s.now) c.unpack_top.ensures.1 in
+    let m₁ = memory c.unpack_top.new.ends args.lengths.now args.s.now c.unpack_top.new.trays c.unpack_top.new.scratch in
+    let ready = ready_unpacked m m₁ args.count c.requires.0 (c.unpack_top.ensures.by_index args.s.now) c.unpack_top.ensures.unpacked in
     ((m₁.scratch, ready), c.requires.1)
 
 pub lay_down-requires : goal.lay_down-requires
@@ -23,8 +23,8 @@ lay_down-requires c =
     let m = memory args.ends.now args.lengths.now args.s.now args.trays.now args.scratch.now in
     let (spec, read) = c.requires.1 in
     let within = (lone_write args.spec.now (λ i. omega (arith, c.shared_slice_known-1.given i)) spec read).1 in
-    let m₁ = memory c.unpack_top.new.1.0 args.lengths.now args.s.now c.unpack_top.new.1.1.1.0 c.unpack_top.new.1.1.1.1.0 in
-    let ready = ready_unpacked m m₁ args.count c.requires.0 (c.unpack_top.ensures.0 args.s.now) c.unpack_top.ensures.1 in (
+    let m₁ = memory c.unpack_top.new.ends args.lengths.now args.s.now c.unpack_top.new.trays c.unpack_top.new.scratch in
+    let ready = ready_unpacked m m₁ args.count c.requires.0 (c.unpack_top.ensures.by_index args.s.now) c.unpack_top.ensures.unpacked in (
       (args.s.now, ready.has),
       ruled_one m₁ args.count c.validate_top-w.result _ (λ t. validate unsided spec t) (validated-within spec within) c.requires.0.enough
           (c.validate_top-w.ensures spec m₁.scratch read) ready.has,
@@ -36,7 +36,7 @@ returns c =
     let m = memory args.ends.now args.lengths.now args.s.now args.trays.now args.scratch.now in
     λ spec read.
     let within = (lone_write args.spec.now (λ i. omega (arith, c.shared_slice_known-1.given i)) spec read).1 in
-    let m₁ = memory c.unpack_top.new.1.0 args.lengths.now args.s.now c.unpack_top.new.1.1.1.0 c.unpack_top.new.1.1.1.1.0 in
-    works_kept (validating spec) args.at args.next m m₁ _ args.count _ c.lay_down.result (c.unpack_top.ensures.0 args.s.now)
+    let m₁ = memory c.unpack_top.new.ends args.lengths.now args.s.now c.unpack_top.new.trays c.unpack_top.new.scratch in
+    works_kept (validating spec) args.at args.next m m₁ _ args.count _ c.lay_down.result (c.unpack_top.ensures.by_index args.s.now)
     (works_one m₁ args.count c.validate_top-w.result _ (λ t. validate unsided spec t) (validated-within spec within) c.requires.0.enough (c.validate_top-w.ensures spec m₁.scratch read)
     (validating spec) (validate-step spec) args.at args.next c.lay_down.result _ (c.lay_down.ensures args.s.now))

@@ -4,7 +4,7 @@ use mathlib.Core.Path.{refl}
 use Rattle.format.specs.Reader.{Bytes}
 use Rattle.machine.specs.Steps.{put, row, pervading, join, validating}
 use Rattle.machine.specs.Written.{working, using_name}
-use Rattle.machine.specs.StepsTook.{took-step}
+use Rattle.machine.proofs.StepsTook.{took-step}
 use Rattle.step.proofs.StepLaws.{put-read, row_read, pervading-read, join-read, validating-read, declaring-read, using_read, step-unread}
 use Rattle.names.specs.TableLaws.{spans_forth, spans_there, spans_lone}
 use Rattle.step.proofs.StepLaws.{worked, worked_or_waits, declared, used, unworked}

@@ -7,7 +7,7 @@ use Rattle.record.specs.Answers.{lone_of}
 use Rattle.record.proofs.LoneLaws.{passed-refused, mapped-refused}
 use Rattle.lent.specs.Delivers.{deliver-as, deliver-handed}
 use Rattle.rules.specs.Types.{unboxed}
-use Rattle.known.specs.WholeLaws.{whole-shape}
+use Rattle.known.proofs.WholeLaws.{whole-shape}
 use Rattle.ty.proofs.PartLaws.{type-known}
 use Rattle.ty.proofs.ContentLaws.{unboxed_in, unboxed-out}
 use borrow.Author.Rules.{rules}
@@ -36,7 +36,7 @@ returns-then-is_scalar c =
     let small : Bytes args.ty.now = λ i. omega (arith, c.shared_slice_known-1.given i) in
     let good = sym c.read_lone-read.ensures ∙ ap lone_of c.in-Accepted.is in
     let shaped = whole-shape args.ty.now small good c.shape_at.result c.shape_at.ensures in
-    deliver-as args.result.now c.write_content.ensures (unboxed_in args.ty.now shaped (sym c.is_scalar.ensures ∙ c.if-is_scalar.true))
+    deliver-as args.res.now c.write_content.ensures (unboxed_in args.ty.now shaped (sym c.is_scalar.ensures ∙ c.if-is_scalar.true))
 
 pub returns : goal.returns
 returns c =
@@ -44,4 +44,4 @@ returns c =
     let small : Bytes args.ty.now = λ i. omega (arith, c.shared_slice_known-1.given i) in
     let good = sym c.read_lone-read.ensures ∙ ap lone_of c.in-Accepted.is in
     let shaped = whole-shape args.ty.now small good c.shape_at.result c.shape_at.ensures in
-    deliver-as args.result.now c.hand_over.ensures (unboxed-out args.ty.now shaped small (sym c.is_scalar.ensures ∙ c.if-is_scalar.false))
+    deliver-as args.res.now c.hand_over.ensures (unboxed-out args.ty.now shaped small (sym c.is_scalar.ensures ∙ c.if-is_scalar.false))

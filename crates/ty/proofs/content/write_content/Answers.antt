@@ -65,21 +65,21 @@ returns-in-Plain c =
     let args = c.args in
     let small : Bytes args.ty.now = λ i. omega (arith, c.shared_slice_known-1.given i) in
     let held = inside args.ty.now small c.requires c.scalar_at.ensures c.look-held.ensures c.in-Plain.is in
-    deliver-as args.result.now c.hand_over.ensures (content-plain args.ty.now small held)
+    deliver-as args.res.now c.hand_over.ensures (content-plain args.ty.now small held)
 
 pub returns-in-BoxAny : goal.returns-in-BoxAny
 returns-in-BoxAny c =
     let args = c.args in
     let small : Bytes args.ty.now = λ i. omega (arith, c.shared_slice_known-1.given i) in
     let held = inside args.ty.now small c.requires c.scalar_at.ensures c.look-held.ensures c.in-BoxAny.is in
-    deliver-as args.result.now c.hand_over-in-BoxAny.ensures (content-any args.ty.now small held)
+    deliver-as args.res.now c.hand_over-in-BoxAny.ensures (content-any args.ty.now small held)
 
 pub returns-in-BoxAll : goal.returns-in-BoxAll
 returns-in-BoxAll c =
     let args = c.args in
     let small : Bytes args.ty.now = λ i. omega (arith, c.shared_slice_known-1.given i) in
     let held = inside args.ty.now small c.requires c.scalar_at.ensures c.look-held.ensures c.in-BoxAll.is in
-    deliver-as args.result.now c.hand_over-in-BoxAll.ensures (content-all args.ty.now (the_all held))
+    deliver-as args.res.now c.hand_over-in-BoxAll.ensures (content-all args.ty.now (the_all held))
 
 pub returns-in-At : goal.returns-in-At
 returns-in-At c =
@@ -88,7 +88,7 @@ returns-in-At c =
     let held = inside args.ty.now small c.requires c.scalar_at.ensures c.look-held.ensures c.in-BoxDef.is in
     let def = the_def held in
     let found = c.find_field-part.ensures ∙ ap (λ p. accepted (part_of p)) c.in-At.is in
-    deliver-as args.result.now c.hand_over-in-At.ensures (content-first args.ty.now small def found)
+    deliver-as args.res.now c.hand_over-in-At.ensures (content-first args.ty.now small def found)
 
 pub returns-in-Nothing : goal.returns-in-Nothing
 returns-in-Nothing c =
@@ -96,4 +96,4 @@ returns-in-Nothing c =
     let small : Bytes args.ty.now = λ i. omega (arith, c.shared_slice_known-1.given i) in
     let held = inside args.ty.now small c.requires c.scalar_at.ensures c.look-held.ensures c.in-BoxDef.is in
     let lacks = c.find_field-part.ensures ∙ ap (λ p. accepted (part_of p)) c.in-Nothing.is in
-    deliver-as args.result.now c.hand_over-in-Nothing.ensures (content-none args.ty.now small (the_def held) lacks)
+    deliver-as args.res.now c.hand_over-in-Nothing.ensures (content-none args.ty.now small (the_def held) lacks)

@@ -29,7 +29,7 @@ loop-i-preserved c =
     let inv = c.loop-i.invariant in (
       omega arith,
       repeated-more args.t.now c.loop-i.i args.start inv.1,
-      c.lay.auto.1.0 ∙ inv.2,
+      c.lay.auto.dst ∙ inv.2,
       lay-more args.out.now args.start args.t.now c.loop-i.i args.n c.loop-i-test.true c.requires inv.1 inv.3 c.lay.ensures,
     )
 

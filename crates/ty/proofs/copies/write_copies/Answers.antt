@@ -8,7 +8,7 @@ use Rattle.ty.proofs.copies.write_copies.Goals as goal
 pub returns-then-rows-eq-UNKNOWN : goal.returns-then-rows-eq-UNKNOWN
 returns-then-rows-eq-UNKNOWN c =
     let args = c.args in
-    c.write_list.ensures ∙ ap (λ o. deliver o args.result.now) (sym (rows-unknown args.rows args.t.now c.if-rows-eq-UNKNOWN.true))
+    c.write_list.ensures ∙ ap (λ o. deliver o args.res.now) (sym (rows-unknown args.rows args.t.now c.if-rows-eq-UNKNOWN.true))
 
 pub returns-then-rows-gt-MAX_FIELDS : goal.returns-then-rows-gt-MAX_FIELDS
 returns-then-rows-gt-MAX_FIELDS c =
@@ -18,4 +18,4 @@ returns-then-rows-gt-MAX_FIELDS c =
 pub returns : goal.returns
 returns c =
     let args = c.args in
-    c.write_list-2.ensures ∙ ap (λ o. deliver o args.result.now) (sym (rows-some args.rows args.t.now c.if-rows-eq-UNKNOWN.false c.if-rows-gt-MAX_FIELDS.false))
+    c.write_list-2.ensures ∙ ap (λ o. deliver o args.res.now) (sym (rows-some args.rows args.t.now c.if-rows-eq-UNKNOWN.false c.if-rows-gt-MAX_FIELDS.false))

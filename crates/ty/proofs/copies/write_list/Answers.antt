@@ -18,7 +18,7 @@ overflow_add-size c =
 pub returns-then-res-size : goal.returns-then-res-size
 returns-then-res-size c =
     let args = c.args in
-    list_short args.result.now args.n args.t.now c.if-res-size.true
+    list_short args.res.now args.n args.t.now c.if-res-size.true
 
 pub put_copies-requires : goal.put_copies-requires
 put_copies-requires c =
@@ -27,9 +27,9 @@ put_copies-requires c =
 
 pub shape_of-res : goal.shape_of-res
 shape_of-res c =
-    c.put_copies.auto.1.1.0 ∙ simp length-set
+    c.put_copies.auto.out ∙ simp length-set
 
 pub returns : goal.returns
 returns c =
     let args = c.args in
-    list_wrote args.result.now args.n args.t.now c.if-res-size.false c.put_copies.ensures
+    list_wrote args.res.now args.n args.t.now c.if-res-size.false c.put_copies.ensures

@@ -1,7 +1,7 @@
 use native.Mathlib.Omega.{arith}
 use Rattle.format.specs.Reader.{Bytes}
 use Rattle.record.specs.Answers.{shape_for}
-use Rattle.known.specs.WholeLaws.{scalar-inside}
+use Rattle.known.proofs.WholeLaws.{scalar-inside}
 use Rattle.lent.specs.Delivers.{deliver-as}
 use Rattle.ty.proofs.PartLaws.{type-known}
 use Rattle.ty.proofs.RowLaws.{keep_bytes}
@@ -30,4 +30,4 @@ pub returns : goal.returns
 returns c =
     let args = c.args in
     let small : Bytes args.ty.now = λ i. omega (arith, c.shared_slice_known-1.given i) in
-    deliver-as args.result.now c.write_parts.ensures (keep_bytes args.ty.now small c.requires c.scalar_at-start.ensures (shape_for args.row))
+    deliver-as args.res.now c.write_parts.ensures (keep_bytes args.ty.now small c.requires c.scalar_at-start.ensures (shape_for args.row))

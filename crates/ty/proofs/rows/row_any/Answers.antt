@@ -1,7 +1,7 @@
 use mathlib.Core.Path.{sym, ◌∙◌}
 use native.Mathlib.Omega.{arith}
 use Rattle.format.specs.Reader.{Bytes}
-use Rattle.known.specs.WholeLaws.{whole-shape}
+use Rattle.known.proofs.WholeLaws.{whole-shape}
 use Rattle.lent.specs.Delivers.{deliver-as}
 use Rattle.ty.proofs.PartLaws.{type-known, scalar-known, inside, the_def}
 use Rattle.ty.proofs.RowLaws.{row_ranked, row_kept, row-taken}
@@ -19,7 +19,7 @@ returns-then-ranked-ne1 c =
     let args = c.args in
     let small : Bytes args.ty.now = λ i. omega (arith, c.shared_slice_known-1.given i) in
     let shaped = whole-shape args.ty.now small c.requires c.shape_at-shape.result c.shape_at-shape.ensures in
-    deliver-as args.result.now c.keep_scalar.ensures
+    deliver-as args.res.now c.keep_scalar.ensures
     (row_ranked args.ty.now shaped c.into_row-row.ensures args.which (λ e. c.if-ranked-ne1.true (c.rank-ranked.ensures.0 ∙ e)))
 
 pub scalar_at-requires : goal.scalar_at-requires
@@ -47,7 +47,7 @@ returns-in-Plain c =
     let small : Bytes args.ty.now = λ i. omega (arith, c.shared_slice_known-1.given i) in
     let held = inside args.ty.now small c.requires c.scalar_at.ensures c.look-held.ensures c.in-Plain.is in
     let shaped = whole-shape args.ty.now small c.requires c.shape_at-shape.result c.shape_at-shape.ensures in
-    deliver-as args.result.now c.keep_scalar-in-Plain.ensures (row_kept args.ty.now shaped c.into_row-row.ensures args.which held tt)
+    deliver-as args.res.now c.keep_scalar-in-Plain.ensures (row_kept args.ty.now shaped c.into_row-row.ensures args.which held tt)
 
 pub returns-in-BoxAny : goal.returns-in-BoxAny
 returns-in-BoxAny c =
@@ -55,7 +55,7 @@ returns-in-BoxAny c =
     let small : Bytes args.ty.now = λ i. omega (arith, c.shared_slice_known-1.given i) in
     let held = inside args.ty.now small c.requires c.scalar_at.ensures c.look-held.ensures c.in-BoxAny.is in
     let shaped = whole-shape args.ty.now small c.requires c.shape_at-shape.result c.shape_at-shape.ensures in
-    deliver-as args.result.now c.keep_scalar-in-BoxAny.ensures (row_kept args.ty.now shaped c.into_row-row.ensures args.which held tt)
+    deliver-as args.res.now c.keep_scalar-in-BoxAny.ensures (row_kept args.ty.now shaped c.into_row-row.ensures args.which held tt)
 
 pub returns-in-BoxAll : goal.returns-in-BoxAll
 returns-in-BoxAll c =
@@ -63,7 +63,7 @@ returns-in-BoxAll c =
     let small : Bytes args.ty.now = λ i. omega (arith, c.shared_slice_known-1.given i) in
     let held = inside args.ty.now small c.requires c.scalar_at.ensures c.look-held.ensures c.in-BoxAll.is in
     let shaped = whole-shape args.ty.now small c.requires c.shape_at-shape.result c.shape_at-shape.ensures in
-    deliver-as args.result.now c.keep_scalar-in-BoxAll.ensures (row_kept args.ty.now shaped c.into_row-row.ensures args.which held tt)
+    deliver-as args.res.now c.keep_scalar-in-BoxAll.ensures (row_kept args.ty.now shaped c.into_row-row.ensures args.which held tt)
 
 pub returns-in-BoxDef : goal.returns-in-BoxDef
 returns-in-BoxDef c =
@@ -71,5 +71,5 @@ returns-in-BoxDef c =
     let small : Bytes args.ty.now = λ i. omega (arith, c.shared_slice_known-1.given i) in
     let held = inside args.ty.now small c.requires c.scalar_at.ensures c.look-held.ensures c.in-BoxDef.is in
     let shaped = whole-shape args.ty.now small c.requires c.shape_at-shape.result c.shape_at-shape.ensures in
-    deliver-as args.result.now c.take_field.ensures
+    deliver-as args.res.now c.take_field.ensures
     (row-taken args.ty.now shaped c.into_row-row.ensures args.which (the_def held) (sym c.rank-ranked.ensures.0 ∙ c.if-ranked-ne1.false))

@@ -29,7 +29,7 @@ returns-in-At c =
     let args = c.args in
     let small : Bytes args.ty.now = λ i. omega (arith, c.shared_slice_known-1.given i) in
     let found = c.find_field-part.ensures ∙ ap (λ p. accepted (part_of p)) c.in-At.is in
-    deliver-as args.result.now c.write_parts.ensures
+    deliver-as args.res.now c.write_parts.ensures
     (take_found args.ty.now small c.requires (shape_for args.row) args.which c.index_of-n.ensures found)
 
 pub returns-in-Nothing : goal.returns-in-Nothing
@@ -37,5 +37,5 @@ returns-in-Nothing c =
     let args = c.args in
     let small : Bytes args.ty.now = λ i. omega (arith, c.shared_slice_known-1.given i) in
     let lacks = c.find_field-part.ensures ∙ ap (λ p. accepted (part_of p)) c.in-Nothing.is in
-    deliver-as args.result.now c.write_parts-in-Nothing.ensures
+    deliver-as args.res.now c.write_parts-in-Nothing.ensures
     (take_none args.ty.now small c.requires (shape_for args.row) args.which c.index_of-n.ensures lacks)

@@ -1,6 +1,6 @@
 use native.Mathlib.Omega.{arith}
 use Rattle.model.specs.Limits.{max_depth}
-use Rattle.known.specs.WholeLaws.{has-type, whole-shape}
+use Rattle.known.proofs.WholeLaws.{has-type, whole-shape}
 use mathlib.Core.Path.{sym, ap, ◌∙◌}
 use Rattle.format.specs.Outcome.{accepted, lone}
 use Rattle.record.specs.Answers.{lone_of}

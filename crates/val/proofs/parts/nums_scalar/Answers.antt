@@ -13,4 +13,4 @@ overflow_cast-kind_of c =
 pub returns : goal.returns
 returns c =
     let args = c.args in
-    c.write_kind.ensures ∙ ap (λ w. deliver (accepted w) args.result.now) (scalar_of-kind args.list.now c.kind_of.ensures)
+    c.write_kind.ensures ∙ ap (λ w. deliver (accepted w) args.res.now) (scalar_of-kind args.list.now c.kind_of.ensures)

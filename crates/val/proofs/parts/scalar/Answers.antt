@@ -14,14 +14,14 @@ overflow_cast-kind_of_number c =
 pub returns-in-Num : goal.returns-in-Num
 returns-in-Num c =
     let args = c.args in
-    c.write_kind.ensures ∙ ap (λ o. deliver o args.result.now) (sym (scalar-number args.list.now args.bytes.now c.in-Num.is c.kind_of_number.ensures))
+    c.write_kind.ensures ∙ ap (λ o. deliver o args.res.now) (sym (scalar-number args.list.now args.bytes.now c.in-Num.is c.kind_of_number.ensures))
 
 pub returns-in-List : goal.returns-in-List
 returns-in-List c =
     let args = c.args in
-    c.nums_scalar.ensures ∙ ap (λ o. deliver o args.result.now) (sym (scalar_list args.list.now args.bytes.now c.in-List.is))
+    c.nums_scalar.ensures ∙ ap (λ o. deliver o args.res.now) (sym (scalar_list args.list.now args.bytes.now c.in-List.is))
 
 pub returns-in-Of : goal.returns-in-Of
 returns-in-Of c =
     let args = c.args in
-    c.scalar_record.ensures ∙ ap (λ o. deliver o args.result.now) (sym (scalar-type args.list.now args.bytes.now c.in-Of.is))
+    c.scalar_record.ensures ∙ ap (λ o. deliver o args.res.now) (sym (scalar-type args.list.now args.bytes.now c.in-Of.is))

@@ -9,11 +9,11 @@ use Rattle.val.proofs.rows.row_of_list.Goals as goal
 pub returns-then-list-eq1 : goal.returns-then-list-eq1
 returns-then-list-eq1 c =
     let args = c.args in
-    deliver-number args.result.now (row_one args.list.now c.if-list-eq1.true)
+    deliver-number args.res.now (row_one args.list.now c.if-list-eq1.true)
 
 pub returns : goal.returns
 returns c =
     let args = c.args in
-    c.as_row.ensures c.write_closed.new.1.1.0
-    ∙ ap written (c.write_closed.ensures ∙ ap (λ w. deliver (accepted w) args.result.now) (sym (write_num c.no_dims.result c.no_dims.ensures)))
-    ∙ deliver-typed args.result.now (row_other args.list.now c.if-list-eq1.false)
+    c.as_row.ensures c.write_closed.new.res
+    ∙ ap written (c.write_closed.ensures ∙ ap (λ w. deliver (accepted w) args.res.now) (sym (write_num c.no_dims.result c.no_dims.ensures)))
+    ∙ deliver-typed args.res.now (row_other args.list.now c.if-list-eq1.false)

@@ -17,6 +17,6 @@ returns-in_default c =
 pub returns : goal.returns
 returns c =
     let args = c.args in
-    c.hand_over.ensures ∙ ap (λ o. deliver o args.result.now)
+    c.hand_over.ensures ∙ ap (λ o. deliver o args.res.now)
     (sym (write_same args.ty.now (λ i. omega (arith, c.shared_slice_known-1.given i))
     (sym c.read_lone-read.ensures ∙ ap lone_of c.in-Accepted.is)))

@@ -7,7 +7,7 @@ use Rattle.validate.proofs.calls.check_scalar.Goals as goal
 pub returns-in_default : goal.returns-in_default
 returns-in_default c =
     let args = c.args in
-    c.refuse_reading.ensures _ ∙ tells_input check_scalar_only args.spec.now args.ty.now c.read_two-read.result c.read_two-read.ensures c.in_default.in_default-own.keys2 args.result.now
+    c.refuse_reading.ensures _ ∙ tells_input check_scalar_only args.spec.now args.ty.now c.read_two-read.result c.read_two-read.ensures c.in_default.not-Accepted args.res.now
 
 pub deliver_scalar-requires : goal.deliver_scalar-requires
 deliver_scalar-requires c =
@@ -19,4 +19,4 @@ returns c =
     let args = c.args in
     c.after_reading.ensures _
     ∙ tells_neither check_scalar_only args.spec.now args.ty.now c.read_two-read.result c.read_two-read.ensures
-    c.in-Accepted.is args.result.now c.deliver_scalar.ensures
+    c.in-Accepted.is args.res.now c.deliver_scalar.ensures

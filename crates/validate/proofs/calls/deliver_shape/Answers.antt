@@ -2,7 +2,7 @@ use native.Mathlib.Omega.{arith}
 use mathlib.Core.Path.{sym, ap, ◌∙◌}
 use Rattle.lent.specs.Delivers.{deliver-refused}
 use Rattle.validate.specs.Answers.{side_of}
-use Rattle.known.specs.WholeLaws.{scalar-inside, second_good}
+use Rattle.known.proofs.WholeLaws.{scalar-inside, second_good}
 use Rattle.format.specs.Outcome.{deliver}
 use Rattle.model.specs.Limits.{max_depth}
 use Rattle.validate.proofs.CallLaws.{shape-clash, shape-merged}
@@ -16,51 +16,51 @@ pub shape_at-requires : goal.shape_at-requires
 shape_at-requires c =
     let args = c.args in
     let pre = c.requires in
-    let both = lones args.spec.now args.ty.now (λ i. omega (arith, c.shared_slice_known-1.given i)) (λ i. omega (arith, c.shared_slice_known-2-1.given i)) pre in
+    let both = lones args.spec.now args.ty.now (λ i. omega (arith, c.type_inv.spec i)) (λ i. omega (arith, c.type_inv.ty i)) pre in
     (max_depth, has both.pair.spec-there)
 
 pub shape_at-requires-2 : goal.shape_at-requires-2
 shape_at-requires-2 c =
     let args = c.args in
     let pre = c.requires in
-    let both = lones args.spec.now args.ty.now (λ i. omega (arith, c.shared_slice_known-1.given i)) (λ i. omega (arith, c.shared_slice_known-2-1.given i)) pre in
+    let both = lones args.spec.now args.ty.now (λ i. omega (arith, c.type_inv.spec i)) (λ i. omega (arith, c.type_inv.ty i)) pre in
     (max_depth, has both.pair.type-there)
 
 pub scalar_at-start-requires : goal.scalar_at-start-requires
 scalar_at-start-requires c =
     let args = c.args in
     let pre = c.requires in
-    let both = lones args.spec.now args.ty.now (λ i. omega (arith, c.shared_slice_known-1.given i)) (λ i. omega (arith, c.shared_slice_known-2-1.given i)) pre in
+    let both = lones args.spec.now args.ty.now (λ i. omega (arith, c.type_inv.spec i)) (λ i. omega (arith, c.type_inv.ty i)) pre in
     (max_depth, has both.pair.type-there)
 
 pub slice_bounds-write_parts-count : goal.slice_bounds-write_parts-count
 slice_bounds-write_parts-count c =
     let args = c.args in
     let pre = c.requires in
-    scalar-inside args.ty.now (λ i. omega (arith, c.shared_slice_known-2-1.given i)) c.scalar_at-start.ensures (second_good args.spec.now args.ty.now pre)
+    scalar-inside args.ty.now (λ i. omega (arith, c.type_inv.ty i)) c.scalar_at-start.ensures (second_good args.spec.now args.ty.now pre)
 
 pub slice_bounds-write_parts-start : goal.slice_bounds-write_parts-start
 slice_bounds-write_parts-start c =
     let args = c.args in
     let pre = c.requires in
-    scalar-inside args.ty.now (λ i. omega (arith, c.shared_slice_known-2-1.given i)) c.scalar_at-start.ensures (second_good args.spec.now args.ty.now pre)
+    scalar-inside args.ty.now (λ i. omega (arith, c.type_inv.ty i)) c.scalar_at-start.ensures (second_good args.spec.now args.ty.now pre)
 
 pub returns-in-Clear : goal.returns-in-Clear
 returns-in-Clear c =
     let args = c.args in
     let pre = c.requires in
-    let both = lones args.spec.now args.ty.now (λ i. omega (arith, c.shared_slice_known-1.given i)) (λ i. omega (arith, c.shared_slice_known-2-1.given i)) pre in
+    let both = lones args.spec.now args.ty.now (λ i. omega (arith, c.type_inv.spec i)) (λ i. omega (arith, c.type_inv.ty i)) pre in
     let checked = shapes-checked both.pair (side_of args.side) c.shape_at.result c.shape_at-2.result c.check_shapes-checked.result
     c.check_shapes-checked.ensures c.shape_at.ensures c.shape_at-2.ensures in
     let is = shape-merged both (side_of args.side) c.check_shapes-checked.result checked
-    (λ i. omega (arith, c.shared_slice_known-2-1.given i)) c.scalar_at-start.ensures c.in-Clear.is in
-    c.write_parts.ensures ∙ ap (λ o. deliver o args.result.now) (sym is)
+    (λ i. omega (arith, c.type_inv.ty i)) c.scalar_at-start.ensures c.in-Clear.is in
+    c.write_parts.ensures ∙ ap (λ o. deliver o args.res.now) (sym is)
 
 pub returns-in-Numbered : goal.returns-in-Numbered
 returns-in-Numbered c =
     let args = c.args in
     let pre = c.requires in
-    let both = lones args.spec.now args.ty.now (λ i. omega (arith, c.shared_slice_known-1.given i)) (λ i. omega (arith, c.shared_slice_known-2-1.given i)) pre in
+    let both = lones args.spec.now args.ty.now (λ i. omega (arith, c.type_inv.spec i)) (λ i. omega (arith, c.type_inv.ty i)) pre in
     let checked = shapes-checked both.pair (side_of args.side) c.shape_at.result c.shape_at-2.result c.check_shapes-checked.result
     c.check_shapes-checked.ensures c.shape_at.ensures c.shape_at-2.ensures in
     sym (deliver-refused _ (shape-clash both (side_of args.side) c.check_shapes-checked.result checked c.in-Numbered.is))

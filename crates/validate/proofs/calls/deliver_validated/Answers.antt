@@ -19,35 +19,35 @@ validate_known-w-requires c = c.requires
 pub slice_bounds-out-end : goal.slice_bounds-out-end
 slice_bounds-out-end c =
     let args = c.args in
-    let out = c.validate_known-w.new.1.1.1.0 in
+    let out = c.validate_known-w.new.out in
     let is = both (λ s t. mapped write_ty (validate (side_of args.side) s t)) (lone args.spec.now) (lone args.ty.now) in
-    let room : max_bytes ≤ length out = omega (arith, c.validate_known-w.auto.1.1.1.0, length-replicate {A = ℕ} max_bytes 0) in
+    let room : max_bytes ≤ length out = omega (arith, c.validate_known-w.auto.out, length-replicate {A = ℕ} max_bytes 0) in
     let puts = subst (λ r. Puts r out is) c.in-Wrote.is (roomy_puts _ out is room c.validate_known-w.ensures) in
     omega (arith, puts.1)
 
 pub slice_bounds-hand_over-end : goal.slice_bounds-hand_over-end
 slice_bounds-hand_over-end c =
     let args = c.args in
-    let out = c.validate_known-w.new.1.1.1.0 in
+    let out = c.validate_known-w.new.out in
     let is = both (λ s t. mapped write_ty (validate (side_of args.side) s t)) (lone args.spec.now) (lone args.ty.now) in
-    let room : max_bytes ≤ length out = omega (arith, c.validate_known-w.auto.1.1.1.0, length-replicate {A = ℕ} max_bytes 0) in
+    let room : max_bytes ≤ length out = omega (arith, c.validate_known-w.auto.out, length-replicate {A = ℕ} max_bytes 0) in
     let puts = subst (λ r. Puts r out is) c.in-Wrote.is (roomy_puts _ out is room c.validate_known-w.ensures) in
     sym (length-take-le _ _ puts.1)
 
 pub returns-in-Wrote : goal.returns-in-Wrote
 returns-in-Wrote c =
     let args = c.args in
-    let out = c.validate_known-w.new.1.1.1.0 in
+    let out = c.validate_known-w.new.out in
     let is = both (λ s t. mapped write_ty (validate (side_of args.side) s t)) (lone args.spec.now) (lone args.ty.now) in
-    let room : max_bytes ≤ length out = omega (arith, c.validate_known-w.auto.1.1.1.0, length-replicate {A = ℕ} max_bytes 0) in
+    let room : max_bytes ≤ length out = omega (arith, c.validate_known-w.auto.out, length-replicate {A = ℕ} max_bytes 0) in
     let puts = subst (λ r. Puts r out is) c.in-Wrote.is (roomy_puts _ out is room c.validate_known-w.ensures) in
-    c.hand_over.ensures ∙ sym (ap (λ o. deliver o args.result.now) puts.0)
+    c.hand_over.ensures ∙ sym (ap (λ o. deliver o args.res.now) puts.0)
 
 pub returns-in-Refused : goal.returns-in-Refused
 returns-in-Refused c =
     let args = c.args in
-    let out = c.validate_known-w.new.1.1.1.0 in
+    let out = c.validate_known-w.new.out in
     let is = both (λ s t. mapped write_ty (validate (side_of args.side) s t)) (lone args.spec.now) (lone args.ty.now) in
-    let room : max_bytes ≤ length out = omega (arith, c.validate_known-w.auto.1.1.1.0, length-replicate {A = ℕ} max_bytes 0) in
+    let room : max_bytes ≤ length out = omega (arith, c.validate_known-w.auto.out, length-replicate {A = ℕ} max_bytes 0) in
     let puts = subst (λ r. Puts r out is) c.in-Refused.is (roomy_puts _ out is room c.validate_known-w.ensures) in
     sym (deliver-refused _ puts)

@@ -12,21 +12,21 @@ returns-then-out-lt-MAX_BYTES c = inr (refl, c.if-out-lt-MAX_BYTES.true)
 pub check_type-w-requires : goal.check_type-w-requires
 check_type-w-requires c =
     let args = c.args in
-    let both = lones args.spec.now args.ty.now (λ i. omega (arith, c.shared_slice_known-1.given i)) (λ i. omega (arith, c.shared_slice_known-2-1.given i)) c.requires in
+    let both = lones args.spec.now args.ty.now (λ i. omega (arith, c.type_inv.spec i)) (λ i. omega (arith, c.type_inv.ty i)) c.requires in
     (both.pair, omega (arith, c.if-out-lt-MAX_BYTES.false))
 
 pub returns-in-Done : goal.returns-in-Done
 returns-in-Done c =
     let args = c.args in
-    let both = lones args.spec.now args.ty.now (λ i. omega (arith, c.shared_slice_known-1.given i)) (λ i. omega (arith, c.shared_slice_known-2-1.given i)) c.requires in
-    let room = validate-ends both (side_of args.side) c.check_type-w.result args.out.now c.check_type-w.new.1.1.1.1.1.1.1.0 (c.check_type-w.ensures both.pair) c.in-Done.is in
+    let both = lones args.spec.now args.ty.now (λ i. omega (arith, c.type_inv.spec i)) (λ i. omega (arith, c.type_inv.ty i)) c.requires in
+    let room = validate-ends both (side_of args.side) c.check_type-w.result args.out.now c.check_type-w.new.out (c.check_type-w.ensures both.pair) c.in-Done.is in
     inl (
-      validate-done both (side_of args.side) c.check_type-w.result args.out.now c.check_type-w.new.1.1.1.1.1.1.1.0 (c.check_type-w.ensures both.pair) c.in-Done.is,
-      omega (arith, room, c.if-out-lt-MAX_BYTES.false, c.check_type-w.auto.1.1.1.1.1.1.1.0),
+      validate-done both (side_of args.side) c.check_type-w.result args.out.now c.check_type-w.new.out (c.check_type-w.ensures both.pair) c.in-Done.is,
+      omega (arith, room, c.if-out-lt-MAX_BYTES.false, c.check_type-w.auto.out),
     )
 
 pub returns-in-Refused : goal.returns-in-Refused
 returns-in-Refused c =
     let args = c.args in
-    let both = lones args.spec.now args.ty.now (λ i. omega (arith, c.shared_slice_known-1.given i)) (λ i. omega (arith, c.shared_slice_known-2-1.given i)) c.requires in
-    inl (validate-not both (side_of args.side) c.check_type-w.result args.out.now c.check_type-w.new.1.1.1.1.1.1.1.0 (c.check_type-w.ensures both.pair) c.in-Refused.is)
+    let both = lones args.spec.now args.ty.now (λ i. omega (arith, c.type_inv.spec i)) (λ i. omega (arith, c.type_inv.ty i)) c.requires in
+    inl (validate-not both (side_of args.side) c.check_type-w.result args.out.now c.check_type-w.new.out (c.check_type-w.ensures both.pair) c.in-Refused.is)

@@ -24,15 +24,14 @@ next_type-at-requires c =
 pub overflow_add-types : goal.overflow_add-types
 overflow_add-types c =
     let few = going-few (c.loop-left.invariant.1 c.requires.fields c.requires.there c.requires.counted) c.loop-left-test.true
-    c.copy_type-w.new.1.1.0 c.copy_type-w.result c.copy_type-w.ensures c.requires.few in
+    c.copy_type-w.new.out c.copy_type-w.result c.copy_type-w.ensures c.requires.few in
     omega (arith, few)
 
 pub loop-left-preserved : goal.loop-left-preserved
-loop-left-preserved c =
-    (
-      c.copy_type-w.auto.1.1.0 ∙ c.loop-left.invariant.0,
-      λ f h n. going_next (c.loop-left.invariant.1 f h n) c.loop-left-test.true c.copy_type-w.new.1.1.0 c.copy_type-w.result c.copy_type-w.ensures c.next_type-at.ensures,
-    )
+loop-left-preserved c = (
+  c.copy_type-w.auto.out ∙ c.loop-left.invariant.0,
+  λ f h n. going_next (c.loop-left.invariant.1 f h n) c.loop-left-test.true c.copy_type-w.new.out c.copy_type-w.result c.copy_type-w.ensures c.next_type-at.ensures,
+)
 
 pub shape_of-out : goal.shape_of-out
 shape_of-out c = c.loop-left.invariant.0

@@ -6,7 +6,7 @@ use borrow.Author.Rules.{rules}
 use Rattle.record.specs.Answers.{dims_of}
 use Rattle.rules.specs.Sizes.{compatible}
 use Rattle.validation.specs.CheckShape.{agree}
-use Rattle.validation.specs.CheckShapeSteps.{agree-end, agree_end'}
+use Rattle.validation.proofs.CheckShapeSteps.{agree-end, agree_end'}
 use Rattle.validate.proofs.DimsLaws.{sizes-more, sizes-stop}
 use Rattle.validate.proofs.dims.agree.Goals as goal
 
@@ -16,23 +16,23 @@ loop-i-init c = (search rules, refl)
 pub returns-then-n-i : goal.returns-then-n-i
 returns-then-n-i c =
     let args = c.args in
-    sym (c.loop-i.invariant.1 ∙ agree_end' compatible c.loop-i.i (dims_of args.t1) (dims_of args.t2) (omega (arith, c.size_count-n.ensures.0)))
+    sym (c.loop-i.invariant.1 ∙ agree_end' compatible c.loop-i.i (dims_of args.a) (dims_of args.b) (omega (arith, c.size_count-n.ensures.0)))
 
 pub returns-then-not-compatible : goal.returns-then-not-compatible
 returns-then-not-compatible c =
     let args = c.args in
-    sym (c.loop-i.invariant.1 ∙ sizes-stop args.t1 args.t2 c.loop-i.i c.size_count-m.ensures.0 c.size_count-n.ensures.0
+    sym (c.loop-i.invariant.1 ∙ sizes-stop args.a args.b c.loop-i.i c.size_count-m.ensures.0 c.size_count-n.ensures.0
     (omega arith) (omega arith) c.compatible.ensures c.if-not-compatible.true)
 
 pub loop-i-preserved : goal.loop-i-preserved
 loop-i-preserved c =
     let args = c.args in (
       omega arith,
-      c.loop-i.invariant.1 ∙ sizes-more args.t1 args.t2 c.loop-i.i c.size_count-m.ensures.0 c.size_count-n.ensures.0
+      c.loop-i.invariant.1 ∙ sizes-more args.a args.b c.loop-i.i c.size_count-m.ensures.0 c.size_count-n.ensures.0
           (omega arith) (omega arith) c.compatible.ensures c.if-not-compatible.false,
     )
 
 pub returns : goal.returns
 returns c =
     let args = c.args in
-    sym (c.loop-i.invariant.1 ∙ agree-end compatible c.loop-i.i (dims_of args.t1) (dims_of args.t2) (omega (arith, c.size_count-m.ensures.0)))
+    sym (c.loop-i.invariant.1 ∙ agree-end compatible c.loop-i.i (dims_of args.a) (dims_of args.b) (omega (arith, c.size_count-m.ensures.0)))

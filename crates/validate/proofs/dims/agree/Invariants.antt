@@ -6,7 +6,7 @@ use borrow.Author.Rules.{rules}
 use Rattle.record.specs.Answers.{dims_of}
 use Rattle.rules.specs.Sizes.{compatible}
 use Rattle.validation.specs.CheckShape.{agree}
-use Rattle.validation.specs.CheckShapeSteps.{agree-end, agree_end'}
+use Rattle.validation.proofs.CheckShapeSteps.{agree-end, agree_end'}
 use Rattle.validate.proofs.DimsLaws.{sizes-more, sizes-stop}
 use Rattle.validate.proofs.dims.agree.Given as goal
 

@@ -7,7 +7,7 @@ use borrow.Author.Rules.{rules}
 use Rattle.record.specs.Answers.{dims_of}
 use Rattle.rules.specs.Sizes.{compatible}
 use Rattle.validation.specs.CheckShape.{agree}
-use Rattle.validation.specs.CheckShapeSteps.{agree_ends_end, agree_ends_end'}
+use Rattle.validation.proofs.CheckShapeSteps.{agree_ends_end, agree_ends_end'}
 use Rattle.validate.proofs.DimsLaws.{ends_more, ends-stop}
 use Rattle.validate.proofs.dims.agree_ends.Goals as goal
 
@@ -17,23 +17,23 @@ loop-i-init c = (search rules, refl)
 pub returns-then-n-i : goal.returns-then-n-i
 returns-then-n-i c =
     let args = c.args in
-    sym (c.loop-i.invariant.1 ∙ agree_ends_end' compatible c.loop-i.i (dims_of args.t1) (dims_of args.t2) (omega (arith, c.size_count-n.ensures.0)))
+    sym (c.loop-i.invariant.1 ∙ agree_ends_end' compatible c.loop-i.i (dims_of args.a) (dims_of args.b) (omega (arith, c.size_count-n.ensures.0)))
 
 pub returns-then-not-compatible : goal.returns-then-not-compatible
 returns-then-not-compatible c =
     let args = c.args in
-    sym (c.loop-i.invariant.1 ∙ ends-stop args.t1 args.t2 c.loop-i.i c.size_count-m.ensures.0 c.size_count-n.ensures.0
+    sym (c.loop-i.invariant.1 ∙ ends-stop args.a args.b c.loop-i.i c.size_count-m.ensures.0 c.size_count-n.ensures.0
     (omega arith) (omega arith) c.compatible.ensures c.if-not-compatible.true)
 
 pub loop-i-preserved : goal.loop-i-preserved
 loop-i-preserved c =
     let args = c.args in (
       omega arith,
-      c.loop-i.invariant.1 ∙ ends_more args.t1 args.t2 c.loop-i.i c.size_count-m.ensures.0 c.size_count-n.ensures.0
+      c.loop-i.invariant.1 ∙ ends_more args.a args.b c.loop-i.i c.size_count-m.ensures.0 c.size_count-n.ensures.0
           (omega arith) (omega arith) c.compatible.ensures c.if-not-compatible.false,
     )
 
 pub returns : goal.returns
 returns c =
     let args = c.args in
-    sym (c.loop-i.invariant.1 ∙ agree_ends_end compatible c.loop-i.i (dims_of args.t1) (dims_of args.t2) (omega (arith, c.size_count-m.ensures.0)))
+    sym (c.loop-i.invariant.1 ∙ agree_ends_end compatible c.loop-i.i (dims_of args.a) (dims_of args.b) (omega (arith, c.size_count-m.ensures.0)))

@@ -7,7 +7,7 @@ use borrow.Author.Rules.{rules}
 use Rattle.record.specs.Answers.{dims_of}
 use Rattle.rules.specs.Sizes.{compatible}
 use Rattle.validation.specs.CheckShape.{agree}
-use Rattle.validation.specs.CheckShapeSteps.{agree_ends_end, agree_ends_end'}
+use Rattle.validation.proofs.CheckShapeSteps.{agree_ends_end, agree_ends_end'}
 use Rattle.validate.proofs.DimsLaws.{ends_more, ends-stop}
 use Rattle.validate.proofs.dims.agree_ends.Given as goal
 

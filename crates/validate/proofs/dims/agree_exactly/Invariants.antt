@@ -5,7 +5,7 @@ use lib.ListN.{drop}
 use borrow.Author.Rules.{rules}
 use Rattle.record.specs.Answers.{dims_of}
 use Rattle.validation.specs.CheckShape.{agree, equal_dim}
-use Rattle.validation.specs.CheckShapeSteps.{agree-end, agree_end'}
+use Rattle.validation.proofs.CheckShapeSteps.{agree-end, agree_end'}
 use Rattle.validate.proofs.DimsLaws.{equal-more, equal-stop}
 use Rattle.validate.proofs.dims.agree_exactly.Given as goal
 

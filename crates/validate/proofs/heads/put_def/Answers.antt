@@ -33,7 +33,7 @@ lay-requires c =
     args.out.now args.to c.requires.1 (box-laid 2 c.put_box-start.ensures) in
     let inside = name-inside c.requires.0.name c.requires.0.there (c.name_at-title.ensures c.requires.0.name c.requires.0.there).ends in
     let long = part-long args.s.now args.name (c.name_at-title.result.end - args.name) (omega (arith, ends, inside)) in
-    omega (arith, room, long, c.put_box-start.auto.0, c.requires.1)
+    omega (arith, room, long, c.put_box-start.auto.out, c.requires.1)
 
 pub overflow_sub-last : goal.overflow_sub-last
 overflow_sub-last c =
@@ -53,7 +53,7 @@ bounds-out-last c =
     let args = c.args in
     let room = name-room c.requires.0.name c.requires.0.there (c.name_at-title.ensures c.requires.0.name c.requires.0.there).ends
     args.out.now args.to c.requires.1 (box-laid 2 c.put_box-start.ensures) in
-    let kept = c.lay.auto.1.0 ∙ c.put_box-start.auto.0 in
+    let kept = c.lay.auto.dst ∙ c.put_box-start.auto.out in
     omega (arith, room, kept, c.requires.1)
 
 pub overflow_add-result : goal.overflow_add-result
@@ -66,7 +66,7 @@ overflow_add-result c =
 
 pub shape_of-out : goal.shape_of-out
 shape_of-out c =
-    simp length-set (c.lay.auto.1.0 ∙ c.put_box-start.auto.0)
+    simp length-set (c.lay.auto.dst ∙ c.put_box-start.auto.out)
 
 pub returns : goal.returns
 returns c =

@@ -7,9 +7,9 @@ use Rattle.validate.proofs.lists.next_type.Goals as goal
 pub returns-then-not-moves : goal.returns-then-not-moves
 returns-then-not-moves c =
     let args = c.args in
-    λ t h. ap (λ b. next_place b args.at t) (sym (not-true args.moves c.if-not-moves.true))
+    λ t h. ap (λ b. next_place b args.at t) (sym c.if-not-moves.true)
 
 pub returns : goal.returns
 returns c =
     let args = c.args in
-    λ t h. (c.span_at-span.ensures t h).ends ∙ ap (λ b. next_place b args.at t) (sym (not-false args.moves c.if-not-moves.false))
+    λ t h. (c.span_at-span.ensures t h).ends ∙ ap (λ b. next_place b args.at t) (sym c.if-not-moves.false)

@@ -4,7 +4,7 @@ use mathlib.Core.Path.{sym, subst}
 use borrow.Author.Rules.{rules}
 use Rattle.validate.specs.Plans.{Planned}
 use Rattle.validate.proofs.PlanLaws.{too_many-fields, too_many-types, too_deep, no_copies, some-copies, product_small}
-use Rattle.validate.proofs.plans.plan_copies.Goals.{else-n-gt0, then-n-gt0}
+use Rattle.validate.proofs.plans.plan_copies.Goals.{else-n-gt0, then-n-gt0+else-above-deep-gt-MAX_DEPTH}
 use Rattle.validate.proofs.plans.plan_copies.Goals as goal
 
 pub returns-then-n-gt-MAX_FIELDS : goal.returns-then-n-gt-MAX_FIELDS
@@ -32,4 +32,7 @@ returns-then-above-deep-gt-MAX_DEPTH c =
 pub returns : goal.returns
 returns c =
     λ s t i j w x.
-    subst (Planned w) (sym c.pair_up.ensures) (elim c.if-n-gt0.branch [ then-n-gt0 q ↦ some-copies w x c.if-n-gt-MAX_FIELDS.false c.if-others-n-gt-MAX_TYPES.false q.0.taken q.1.left | else-n-gt0 q ↦ no_copies w x c.if-n-gt-MAX_FIELDS.false c.if-others-n-gt-MAX_TYPES.false (omega (arith, q.left)) ])
+    subst (Planned w) (sym c.pair_up.ensures) (elim c.if-n-gt0.branch [
+      | then-n-gt0+else-above-deep-gt-MAX_DEPTH q ↦ some-copies w x c.if-n-gt-MAX_FIELDS.false c.if-others-n-gt-MAX_TYPES.false q.if-n-gt0.true q.if-above-deep-gt-MAX_DEPTH.false
+      | else-n-gt0 q ↦ no_copies w x c.if-n-gt-MAX_FIELDS.false c.if-others-n-gt-MAX_TYPES.false (omega (arith, q.if-n-gt0.false))
+    ])

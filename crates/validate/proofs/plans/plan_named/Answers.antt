@@ -3,7 +3,7 @@ use native.Mathlib.Omega.{arith}
 use borrow.Author.Rules.{rules}
 use Rattle.validation.specs.AsFields.{fields_for}
 use Rattle.validate.specs.Plans.{scalar_after, Planned}
-use Rattle.rules.specs.KindTableLaws.{coded-below}
+use Rattle.rules.proofs.KindTableLaws.{coded-below}
 use Rattle.validate.proofs.PlanLaws.{code-plain, tested, any-coded, not-coded, view-content, content-span, named-plain, named-own, named-given, copies_plain, copies-any, copies-all}
 use Rattle.validate.proofs.plans.plan_named.Goals as goal
 

@@ -2,10 +2,10 @@ use Prim.Native.Nat.{◌-◌}
 use mathlib.Core.Path.{◌∙◌}
 use native.Mathlib.Omega.{arith}
 use borrow.Author.Rules.{rules}
-use Rattle.known.specs.KnownLaws.{has-scalar}
+use Rattle.known.proofs.KnownLaws.{has-scalar}
 use Rattle.model.specs.Limits.{max_depth}
 use Rattle.validate.specs.Plans.{scalar_after}
-use Rattle.rules.specs.KindTableLaws.{coded-below}
+use Rattle.rules.proofs.KindTableLaws.{coded-below}
 use Rattle.validate.proofs.PlanLaws.{some-view, code-plain, tested, within, view_of, as_plain, as_box-any, plan_any, plan_plain, plan_box_any, spec_ty, type_ty, pair-bounds, wholly, all_against, def_against}
 use Rattle.validate.proofs.ListLaws.{has}
 use Rattle.validate.proofs.plans.plan_scalar.Goals as goal

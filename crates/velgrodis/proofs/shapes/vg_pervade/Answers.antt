@@ -13,10 +13,10 @@ use Rattle.velgrodis.proofs.shapes.vg_pervade.Goals as goal
 pub returns-then-flag : goal.returns-then-flag
 returns-then-flag c =
     let args = c.args in
-    unsaid-written c.refuse.ensures args.result.now (flag_unsaid args.flag args.a.now args.b.now c.if-flag.true)
+    unsaid-written c.refuse.ensures args.res.now (flag_unsaid args.flag args.a.now args.b.now c.if-flag.true)
 
 pub returns : goal.returns
 returns c =
     let s = c.args in
     let said = le-leb s.flag max_flag c.if-flag.false in
-    c.of_written.ensures _ ∙ ap written (c.pervade.ensures ∙ sym (ap (λ t. deliver (cond t (pervade_call (fills_top s.flag) (fills_below s.flag) s.a.now s.b.now) unsaid) s.result.now) said))
+    c.of_written.ensures _ ∙ ap written (c.pervade.ensures ∙ sym (ap (λ t. deliver (cond t (pervade_call (fills_top s.flag) (fills_below s.flag) s.a.now s.b.now) unsaid) s.res.now) said))

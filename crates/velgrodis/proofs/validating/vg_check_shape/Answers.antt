@@ -8,10 +8,10 @@ use Rattle.velgrodis.proofs.validating.vg_check_shape.Goals as goal
 pub returns-in_default : goal.returns-in_default
 returns-in_default c =
     let args = c.args in
-    for_none check_shape_only args.side c.choose_side.ensures args.spec.now args.ty.now args.result.now c.in_default.is c.reading_neither.ensures c.refuse.ensures
+    for_none check_shape_only args.side c.choose_side.ensures args.spec.now args.ty.now args.res.now c.in_default.is c.reading_neither.ensures c.refuse.ensures
 
 pub returns : goal.returns
 returns c =
     let args = c.args in
     c.of_separate.ensures _ ∙ ap validation_of c.check_shape.ensures
-    ∙ for-side check_shape_only args.side c.choose_side.ensures args.spec.now args.ty.now args.result.now c.in-For.is
+    ∙ for-side check_shape_only args.side c.choose_side.ensures args.spec.now args.ty.now args.res.now c.in-For.is

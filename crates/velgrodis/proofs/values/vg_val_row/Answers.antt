@@ -9,10 +9,10 @@ use Rattle.velgrodis.proofs.values.vg_val_row.Goals as goal
 pub returns-in_default : goal.returns-in_default
 returns-in_default c =
     let s = c.args in
-    unsaid-row c.refuse.ensures s.result.now s.number.now (ap (λ o. mapped value_row o) (value-unsaid s.kind s.x c.choose_value.ensures s.list.now s.ty.now c.in_default.is))
+    unsaid-row c.refuse.ensures s.res.now s.number.now (ap (λ o. mapped value_row o) (value-unsaid s.kind s.x c.choose_value.ensures s.list.now s.ty.now c.in_default.is))
 
 pub returns : goal.returns
 returns c =
     let s = c.args in
     let chosen = value-said s.kind s.x c.choose_value.ensures s.list.now s.ty.now c.in-Is.is in
-    c.of_row.ensures _ ∙ ap (rowed s.number.now) (c.into_row.ensures ∙ ap (λ o. deliver_row (mapped value_row o) s.result.now) chosen)
+    c.of_row.ensures _ ∙ ap (rowed s.number.now) (c.into_row.ensures ∙ ap (λ o. deliver_row (mapped value_row o) s.res.now) chosen)

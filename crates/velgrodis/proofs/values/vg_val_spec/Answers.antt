@@ -10,10 +10,10 @@ use Rattle.velgrodis.proofs.values.vg_val_spec.Goals as goal
 pub returns-in_default : goal.returns-in_default
 returns-in_default c =
     let s = c.args in
-    unsaid-written c.refuse.ensures s.result.now (ap (λ o. mapped write_ty (bound value_spec o)) (value-unsaid s.kind s.x c.choose_value.ensures s.list.now s.ty.now c.in_default.is))
+    unsaid-written c.refuse.ensures s.res.now (ap (λ o. mapped write_ty (bound value_spec o)) (value-unsaid s.kind s.x c.choose_value.ensures s.list.now s.ty.now c.in_default.is))
 
 pub returns : goal.returns
 returns c =
     let s = c.args in
     let chosen = value-said s.kind s.x c.choose_value.ensures s.list.now s.ty.now c.in-Is.is in
-    c.of_written.ensures _ ∙ ap written (c.spec.ensures ∙ ap (λ o. deliver (mapped write_ty (bound value_spec o)) s.result.now) chosen)
+    c.of_written.ensures _ ∙ ap written (c.spec.ensures ∙ ap (λ o. deliver (mapped write_ty (bound value_spec o)) s.res.now) chosen)

@@ -1,0 +1,15 @@
+pub mod CallLaws
+pub mod Examples
+pub mod NameExamples
+pub mod NamesLaws
+pub mod Opcodes
+pub mod RealLaws
+pub mod RuleOn
+pub mod RunLaws
+pub mod SheetSteps
+pub mod SheetWorked
+pub mod Sheets
+pub mod StepsReads
+pub mod StepsTook
+pub mod StepsWithin
+pub mod WrittenOut

@@ -1,0 +1,4 @@
+pub mod Examples
+pub mod PlacesLaws
+pub mod ReadersStay
+pub mod RefusedStep

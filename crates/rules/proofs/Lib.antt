@@ -1,0 +1,17 @@
+pub mod Examples
+pub mod FieldsLaws
+pub mod OrderSteps
+pub mod PervadeInSheetsLaws
+pub mod PervadeLaws
+pub mod PervadeSteps
+pub mod RowsLaws
+pub mod ShapesLaws
+pub mod TypesLaws
+pub mod Lists
+pub mod CompatibleLaws
+pub mod OrderLaws
+pub mod ScalarsLaws
+pub mod SizesLaws
+pub mod KindTableLaws
+pub mod ShapesSteps
+pub mod ViewsLaws

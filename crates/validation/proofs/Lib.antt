@@ -1,0 +1,14 @@
+pub mod CheckScalarSteps
+pub mod CheckShapeLaws
+pub mod CheckShapeSteps
+pub mod Claims
+pub mod Examples
+pub mod LimitsLaws
+pub mod MismatchLaws
+pub mod RecordsLaws
+pub mod RefusalsLaws
+pub mod SeparateLaws
+pub mod ValidateLaws
+pub mod KeepsLaws
+pub mod OutcomeLaws
+pub mod MeasureLaws

@@ -1,7 +1,5 @@
-// A cursor over a sheet's bytes, and the steps that are read through it. The borrow checker covers no function over a struct
-// that holds a slice, so those here are few and thin, and proved by hand: a step's cursor is made at the place reached, and taken
-// apart for a covered function on slice and place, whose answer is handed on with the place after the step. What a step is made
-// of is thus no matter of the proofs by hand.
+// A cursor over a sheet's bytes, and the steps that are read through it. A step's cursor is made at the place reached, and taken apart for
+// a function on slice and place, whose answer is handed on with the place after the step.
 #![tactic(auto)]
 
 mod flags;

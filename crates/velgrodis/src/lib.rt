@@ -1,5 +1,5 @@
-// The library for desks written in other languages: every public call of the checker by C's calling convention. A slice crosses
-// as a pointer and a length, an answer as a struct of numbers. Nothing is decided here.
+// The library for desks written in other languages: every public call of the checker, over slices and numbers, with an answer as a
+// struct of numbers. Nothing is decided here. `velgrodis_c` exports each by C's calling convention.
 #![tactic(auto)]
 
 mod answers;

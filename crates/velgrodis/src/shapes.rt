@@ -11,30 +11,26 @@ use limits::MAX_FLAG;
 use limits::refusal::OUT_OF_RANGE;
 
 // The first merges from the second.
-#[unsafe(no_mangle)]
-pub extern "C" fn vg_merge(a: &[u8], b: &[u8], res: &mut [u8]) -> Answer
+pub fn vg_merge(a: &[u8], b: &[u8], res: &mut [u8]) -> Answer
     ensures { handed result res.new ≡ written (deliver (merge_call a.now b.now) res.old) }
 {
     of_written(shape_calls::merge(a, b, &mut *res))
 }
 
-#[unsafe(no_mangle)]
-pub extern "C" fn vg_join_shapes(a: &[u8], b: &[u8], res: &mut [u8]) -> Answer
+pub fn vg_join_shapes(a: &[u8], b: &[u8], res: &mut [u8]) -> Answer
     ensures { handed result res.new ≡ written (deliver (join_shapes_call a.now b.now) res.old) }
 {
     of_written(shape_calls::join_shapes(a, b, &mut *res))
 }
 
-#[unsafe(no_mangle)]
-pub extern "C" fn vg_row_shape(ty: &[u8], res: &mut [u8]) -> Answer
+pub fn vg_row_shape(ty: &[u8], res: &mut [u8]) -> Answer
     ensures { handed result res.new ≡ written (deliver (row_call ty.now) res.old) }
 {
     of_written(shape_calls::row_shape(ty, &mut *res))
 }
 
 // Bit 0 of the flag fills the first, bit 1 the second.
-#[unsafe(no_mangle)]
-pub extern "C" fn vg_pervade(flag: u64, a: &[u8], b: &[u8], res: &mut [u8]) -> Answer
+pub fn vg_pervade(flag: u64, a: &[u8], b: &[u8], res: &mut [u8]) -> Answer
     ensures { handed result res.new ≡ written (deliver (pervade_flagged flag a.now b.now) res.old) }
 {
     if (MAX_FLAG as u64) < flag {
@@ -46,36 +42,31 @@ pub extern "C" fn vg_pervade(flag: u64, a: &[u8], b: &[u8], res: &mut [u8]) -> A
 }
 
 // With a no, `second` is the greatest index that fails, or NO_INDEX.
-#[unsafe(no_mangle)]
-pub extern "C" fn vg_compatible_shapes(a: &[u8], b: &[u8]) -> Answer
+pub fn vg_compatible_shapes(a: &[u8], b: &[u8]) -> Answer
     ensures { result ≡ shapes_tested (compatible_shapes_call a.now b.now) }
 {
     of_shapes_tested(shape_calls::compatible_shapes(a, b))
 }
 
-#[unsafe(no_mangle)]
-pub extern "C" fn vg_shape_is_any(ty: &[u8]) -> Answer
+pub fn vg_shape_is_any(ty: &[u8]) -> Answer
     ensures { result ≡ tested (is_any_call ty.now) }
 {
     of_tested(shape_calls::shape_is_any(ty))
 }
 
-#[unsafe(no_mangle)]
-pub extern "C" fn vg_shape_is_scalar(ty: &[u8]) -> Answer
+pub fn vg_shape_is_scalar(ty: &[u8]) -> Answer
     ensures { result ≡ tested (is_scalar_call ty.now) }
 {
     of_tested(shape_calls::shape_is_scalar(ty))
 }
 
-#[unsafe(no_mangle)]
-pub extern "C" fn vg_row_count(ty: &[u8]) -> Answer
+pub fn vg_row_count(ty: &[u8]) -> Answer
     ensures { result ≡ sized (row_count_call ty.now) }
 {
     of_size(shape_calls::count_rows(ty))
 }
 
-#[unsafe(no_mangle)]
-pub extern "C" fn vg_rank(ty: &[u8]) -> Answer
+pub fn vg_rank(ty: &[u8]) -> Answer
     ensures { result ≡ counted (rank_call ty.now) }
 {
     of_count(shape_calls::shape_rank(ty))

@@ -19,8 +19,7 @@ pub enum Sided {
 }
 
 // Side 0 is none, 1 left, 2 right.
-#[unsafe(no_mangle)]
-pub extern "C" fn vg_validate(side: u64, spec: &[u8], ty: &[u8], res: &mut [u8]) -> Validation
+pub fn vg_validate(side: u64, spec: &[u8], ty: &[u8], res: &mut [u8]) -> Validation
     ensures { validation_handed result res.new ≡ validation_of (sided validate side spec.now ty.now res.old) }
 {
     let Sided::For(s) = choose_side(side) else {
@@ -29,8 +28,7 @@ pub extern "C" fn vg_validate(side: u64, spec: &[u8], ty: &[u8], res: &mut [u8])
     of_separate(validate::validate(s, spec, ty, &mut *res))
 }
 
-#[unsafe(no_mangle)]
-pub extern "C" fn vg_check_shape(side: u64, spec: &[u8], ty: &[u8], res: &mut [u8]) -> Validation
+pub fn vg_check_shape(side: u64, spec: &[u8], ty: &[u8], res: &mut [u8]) -> Validation
     ensures { validation_handed result res.new ≡ validation_of (sided check_shape_only side spec.now ty.now res.old) }
 {
     let Sided::For(s) = choose_side(side) else {
@@ -39,8 +37,7 @@ pub extern "C" fn vg_check_shape(side: u64, spec: &[u8], ty: &[u8], res: &mut [u
     of_separate(validate::check_shape(s, spec, ty, &mut *res))
 }
 
-#[unsafe(no_mangle)]
-pub extern "C" fn vg_check_scalar(spec: &[u8], ty: &[u8], res: &mut [u8]) -> Validation
+pub fn vg_check_scalar(spec: &[u8], ty: &[u8], res: &mut [u8]) -> Validation
     ensures { validation_handed result res.new ≡ validation_of (separately check_scalar_only spec.now ty.now res.old) }
 {
     of_separate(validate::check_scalar(spec, ty, &mut *res))

@@ -20,8 +20,7 @@ pub enum Chosen {
     Unsaid,
 }
 
-#[unsafe(no_mangle)]
-pub extern "C" fn vg_val_ty(kind: u64, x: f64, list: &[f64], ty: &[u8], res: &mut [u8]) -> Answer
+pub fn vg_val_ty(kind: u64, x: f64, list: &[f64], ty: &[u8], res: &mut [u8]) -> Answer
     ensures { handed result res.new ≡ written (deliver (mapped write_ty (bound value_ty (handed_in kind x list.now ty.now))) res.old) }
 {
     let Chosen::Is(v) = choose_value(kind, x) else {
@@ -30,8 +29,7 @@ pub extern "C" fn vg_val_ty(kind: u64, x: f64, list: &[f64], ty: &[u8], res: &mu
     of_written(val::ty(v, list, ty, &mut *res))
 }
 
-#[unsafe(no_mangle)]
-pub extern "C" fn vg_val_spec(kind: u64, x: f64, list: &[f64], ty: &[u8], res: &mut [u8]) -> Answer
+pub fn vg_val_spec(kind: u64, x: f64, list: &[f64], ty: &[u8], res: &mut [u8]) -> Answer
     ensures { handed result res.new ≡ written (deliver (mapped write_ty (bound value_spec (handed_in kind x list.now ty.now))) res.old) }
 {
     let Chosen::Is(v) = choose_value(kind, x) else {
@@ -40,14 +38,7 @@ pub extern "C" fn vg_val_spec(kind: u64, x: f64, list: &[f64], ty: &[u8], res: &
     of_written(val::spec(v, list, ty, &mut *res))
 }
 
-#[unsafe(no_mangle)]
-pub extern "C" fn vg_val_scalar(
-    kind: u64,
-    x: f64,
-    list: &[f64],
-    ty: &[u8],
-    res: &mut [u8],
-) -> Answer
+pub fn vg_val_scalar(kind: u64, x: f64, list: &[f64], ty: &[u8], res: &mut [u8]) -> Answer
     ensures { handed result res.new ≡ written (deliver (mapped write_scalar (mapped value_scalar (handed_in kind x list.now ty.now))) res.old) }
 {
     let Chosen::Is(v) = choose_value(kind, x) else {
@@ -56,15 +47,13 @@ pub extern "C" fn vg_val_scalar(
     of_written(val::scalar(v, list, ty, &mut *res))
 }
 
-#[unsafe(no_mangle)]
-pub extern "C" fn vg_nums_scalar(list: &[f64], res: &mut [u8]) -> Answer
+pub fn vg_nums_scalar(list: &[f64], res: &mut [u8]) -> Answer
     ensures { handed result res.new ≡ written (deliver (accepted (write_scalar (nums_scalar list.now))) res.old) }
 {
     of_written(val::nums_scalar(list, &mut *res))
 }
 
-#[unsafe(no_mangle)]
-pub extern "C" fn vg_val_row_count(kind: u64, x: f64, list: &[f64], ty: &[u8]) -> Answer
+pub fn vg_val_row_count(kind: u64, x: f64, list: &[f64], ty: &[u8]) -> Answer
     ensures { result ≡ sized (bound value_row_count (handed_in kind x list.now ty.now)) }
 {
     let Chosen::Is(v) = choose_value(kind, x) else {
@@ -73,8 +62,7 @@ pub extern "C" fn vg_val_row_count(kind: u64, x: f64, list: &[f64], ty: &[u8]) -
     of_size(val::row_count(v, list, ty))
 }
 
-#[unsafe(no_mangle)]
-pub extern "C" fn vg_val_rank(kind: u64, x: f64, list: &[f64], ty: &[u8]) -> Answer
+pub fn vg_val_rank(kind: u64, x: f64, list: &[f64], ty: &[u8]) -> Answer
     ensures { result ≡ counted (mapped value_rank (handed_in kind x list.now ty.now)) }
 {
     let Chosen::Is(v) = choose_value(kind, x) else {
@@ -84,8 +72,7 @@ pub extern "C" fn vg_val_rank(kind: u64, x: f64, list: &[f64], ty: &[u8]) -> Ans
 }
 
 // A row that is a number goes to `number`, one that is a type to the result.
-#[unsafe(no_mangle)]
-pub extern "C" fn vg_val_row(
+pub fn vg_val_row(
     kind: u64,
     x: f64,
     list: &[f64],
@@ -101,8 +88,7 @@ pub extern "C" fn vg_val_row(
     of_row(val::into_row(v, list, ty, &mut *res), &mut *number)
 }
 
-#[unsafe(no_mangle)]
-pub extern "C" fn vg_val_first_row(
+pub fn vg_val_first_row(
     kind: u64,
     x: f64,
     list: &[f64],
@@ -118,8 +104,7 @@ pub extern "C" fn vg_val_first_row(
     of_row(val::into_first_row(v, list, ty, &mut *res), &mut *number)
 }
 
-#[unsafe(no_mangle)]
-pub extern "C" fn vg_val_last_row(
+pub fn vg_val_last_row(
     kind: u64,
     x: f64,
     list: &[f64],
@@ -136,8 +121,7 @@ pub extern "C" fn vg_val_last_row(
 }
 
 // The size that a number stands for, all ones for unknown; none for what is no number.
-#[unsafe(no_mangle)]
-pub extern "C" fn vg_as_dim(kind: u64, x: f64, list: &[f64], ty: &[u8]) -> Answer
+pub fn vg_as_dim(kind: u64, x: f64, list: &[f64], ty: &[u8]) -> Answer
     ensures { result ≡ sized_or_none (bound value_as_dim (handed_in kind x list.now ty.now)) }
 {
     let Chosen::Is(v) = choose_value(kind, x) else {
@@ -147,14 +131,7 @@ pub extern "C" fn vg_as_dim(kind: u64, x: f64, list: &[f64], ty: &[u8]) -> Answe
 }
 
 // The sizes that a list stands for go to `sizes`; none for what is no list.
-#[unsafe(no_mangle)]
-pub extern "C" fn vg_as_dims(
-    kind: u64,
-    x: f64,
-    list: &[f64],
-    ty: &[u8],
-    sizes: &mut [u64],
-) -> Answer
+pub fn vg_as_dims(kind: u64, x: f64, list: &[f64], ty: &[u8], sizes: &mut [u64]) -> Answer
     ensures { handed result sizes.new ≡ listed (deliver_sizes (bound value_as_dims (handed_in kind x list.now ty.now)) sizes.old) }
 {
     let Chosen::Is(v) = choose_value(kind, x) else {

@@ -4,8 +4,7 @@ ghost use Rattle.velgrodis.specs.Answers.{version};
 
 use limits::VERSION;
 
-#[unsafe(no_mangle)]
-pub extern "C" fn vg_version() -> u64
+pub fn vg_version() -> u64
     ensures { result ≡ version }
 {
     VERSION

@@ -1,0 +1,23 @@
+// The sheet check, and the step that a place of a sheet belongs to.
+ghost use Rattle.std.specs.Prelude.{◌≡◌};
+ghost use Rattle.machine.specs.Call.{sheet_call};
+ghost use Rattle.places.specs.Places.{step_of};
+ghost use Rattle.velgrodis.specs.Answers.{returned, checked, located};
+
+use velgrodis::Answer;
+
+// How many types are left, and how many bytes they take in all. The bytes stand in the result, bottom first.
+#[unsafe(no_mangle)]
+pub extern "C" fn vg_check_sheet(sheet: &[u8], res: &mut [u8], scratch: &mut [u8]) -> Answer
+    ensures { returned result res.new scratch.new ≡ checked (sheet_call sheet.now res.old scratch.old) }
+{
+    velgrodis::vg_check_sheet(sheet, res, scratch)
+}
+
+// The step's number, counted from 1, and its mark; or none, where the place belongs to no step.
+#[unsafe(no_mangle)]
+pub extern "C" fn vg_find_step(sheet: &[u8], place: u64) -> Answer
+    ensures { result ≡ located (step_of sheet.now place) }
+{
+    velgrodis::vg_find_step(sheet, place)
+}

@@ -1,6 +1,7 @@
 // Answers, rendered as lines into the output, which is written in large pieces and has room for each.
 use crate::words::{nth, part};
 use limits::UNKNOWN;
+use std::io::Write;
 use streams::write_out;
 use text::{Rendered, put_bytes, put_decimal, put_hex};
 use velgrodis::{
@@ -155,9 +156,9 @@ pub(crate) fn say(answer: Reply, res: &[u8], out: &mut [u8], at: usize) -> usize
 }
 
 // Writes what stands in `out` up to `end`. Answers whether all of it could be written.
-pub(crate) fn flush(out: &[u8], end: usize) -> bool {
+pub(crate) fn flush<W: Write>(to: &mut W, out: &[u8], end: usize) -> bool {
     let text = part(out, 0, end);
-    let written = write_out(text);
+    let written = write_out(to, text);
     written.count == text.len()
 }
 

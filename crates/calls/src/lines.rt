@@ -4,6 +4,7 @@ ghost use Rattle.std.specs.Prelude.{◌≤◌, ◌<◌, length};
 use crate::answers::{flush, say};
 use crate::requests::answered;
 use crate::words::part;
+use std::io::Write;
 
 // Answers wait until they have so many bytes or more is to be read.
 pub const PIECE: usize = 65536;
@@ -24,7 +25,8 @@ pub struct Taken {
 }
 
 // Answers the lines that end in a piece, as long as the answers can be written, and holds the rest of it.
-pub(crate) fn feed(
+pub(crate) fn feed<W: Write>(
+    to: &mut W,
     piece: &[u8],
     line: &mut [u8],
     held: usize,
@@ -43,7 +45,7 @@ pub(crate) fn feed(
             end = answer(part(&*line, 0, n), &mut *input, &mut *res, &mut *out, end);
             n = 0;
             if PIECE <= end {
-                if !flush(&*out, end) {
+                if !flush(&mut *to, &*out, end) {
                     return Progress {
                         held: 0,
                         heard: false,
@@ -55,12 +57,13 @@ pub(crate) fn feed(
     }
     Progress {
         held: n,
-        heard: flush(&*out, end),
+        heard: flush(to, &*out, end),
     }
 }
 
 // The last line may lack its line feed. Answers whether its answer could be written.
-pub(crate) fn last_line(
+pub(crate) fn last_line<W: Write>(
+    to: &mut W,
     line: &[u8],
     held: usize,
     input: &mut [u8],
@@ -71,7 +74,7 @@ pub(crate) fn last_line(
         return true;
     }
     let end = answer(part(line, 0, held), input, res, &mut *out, 0);
-    flush(&*out, end)
+    flush(to, &*out, end)
 }
 
 fn answer(line: &[u8], input: &mut [u8], res: &mut [u8], out: &mut [u8], end: usize) -> usize {

@@ -23,6 +23,7 @@ mod values;
 mod words;
 
 use lines::{PIECE, feed, last_line};
+use std::io::{Read, Write};
 use streams::{Answered, Asked, complain, read_argument, read_some, say_version};
 use words::part;
 
@@ -36,54 +37,82 @@ const RESULT: usize = 163840;
 const ANSWER: usize = 2 * RESULT + 64;
 
 // With an argument nothing is read, so that nobody takes its answers for those to a file named there.
-fn main() {
-    let asked = read_argument();
+fn main(rt: HostRuntime) {
+    let mut err = rt.stderr();
+    let asked = read_argument(&rt);
     match asked {
-        Asked::Work => answer_input(),
-        Asked::Help => explain(),
-        Asked::Version => say_version(),
+        Asked::Work => answer_input(&mut rt.stdin(), &mut rt.stdout(), &mut err),
+        Asked::Help => explain(&mut err),
+        Asked::Version => say_version(&mut err),
         Asked::Unknown => {
-            complain(b"calls: this argument is not known, and nothing was read.\n");
-            explain();
+            complain(
+                &mut err,
+                b"calls: this argument is not known, and nothing was read.\n",
+            );
+            explain(&mut err);
         }
     }
 }
 
-fn explain() {
+fn explain<E: Write>(err: &mut E) {
     complain(
+        &mut *err,
         b"calls takes no argument. It reads requests from standard input, one to a line, and prints an answer to each.\n",
     );
     complain(
+        &mut *err,
         b"An answer is `ok` and what was asked for; `no`, the refusal's number and its place, for a validation also the input that was being read; or `bad` and why.\n",
     );
-    complain(b"docs/FORMAT.md describes the requests, the bytes and the refusals.\n");
+    complain(
+        err,
+        b"docs/FORMAT.md describes the requests, the bytes and the refusals.\n",
+    );
 }
 
 // A line is held with one byte more than it may have, so that a longer one is told. The bytes that its arguments stand
 // for take two digits each. Behind what waits to be written there is room for one answer more.
-fn answer_input() {
+fn answer_input<R: Read, W: Write, E: Write>(from: &mut R, to: &mut W, err: &mut E) {
     let mut chunk = [0u8; 65536];
     let mut line = [0u8; MAX_LINE + 1];
     let mut input = [0u8; MAX_LINE / 2];
     let mut result = [0u8; RESULT];
     let mut out = [0u8; PIECE + ANSWER];
-    serve(&mut chunk, &mut line, &mut input, &mut result, &mut out);
+    serve(
+        from,
+        to,
+        err,
+        &mut chunk,
+        &mut line,
+        &mut input,
+        &mut result,
+        &mut out,
+    );
 }
 
 // Answers line by line until the input ends or nobody takes the answers. What was answered is written before more is read,
 // so that whoever asks by hand is answered at once. The loop has to be proved to end, and that the input ends cannot be: so
 // the turns are counted down from a number that no input uses up.
-fn serve(chunk: &mut [u8], line: &mut [u8], input: &mut [u8], res: &mut [u8], out: &mut [u8]) {
+fn serve<R: Read, W: Write, E: Write>(
+    from: &mut R,
+    to: &mut W,
+    err: &mut E,
+    chunk: &mut [u8],
+    line: &mut [u8],
+    input: &mut [u8],
+    res: &mut [u8],
+    out: &mut [u8],
+) {
     let mut held = 0usize;
     let mut turns = u64::MAX;
     while turns > 0 {
         turns -= 1;
-        let read = read_some(&mut *chunk);
+        let read = read_some(&mut *from, &mut *chunk);
         let Answered::Bytes(n) = read else {
-            finish(read, &*line, held, input, res, out);
+            finish(to, err, read, &*line, held, input, res, out);
             return;
         };
         let done = feed(
+            &mut *to,
             part(&*chunk, 0, n),
             &mut *line,
             held,
@@ -92,7 +121,7 @@ fn serve(chunk: &mut [u8], line: &mut [u8], input: &mut [u8], res: &mut [u8], ou
             &mut *out,
         );
         if !done.heard {
-            complain_unheard();
+            complain_unheard(err);
             return;
         }
         held = done.held;
@@ -101,7 +130,9 @@ fn serve(chunk: &mut [u8], line: &mut [u8], input: &mut [u8], res: &mut [u8], ou
 
 // After the last piece: at the input's end the last line may lack its line feed, but one that a failed read cut off is not
 // answered.
-fn finish(
+fn finish<W: Write, E: Write>(
+    to: &mut W,
+    err: &mut E,
     read: Answered,
     line: &[u8],
     held: usize,
@@ -111,16 +142,20 @@ fn finish(
 ) {
     match read {
         Answered::Failed => complain(
+            err,
             b"calls: standard input could not be read any further; a line that was not read whole gets no answer.\n",
         ),
         _ => {
-            if !last_line(line, held, input, res, out) {
-                complain_unheard();
+            if !last_line(to, line, held, input, res, out) {
+                complain_unheard(err);
             }
         }
     }
 }
 
-fn complain_unheard() {
-    complain(b"calls: answers could not be written to standard output, so no more is read.\n");
+fn complain_unheard<E: Write>(err: &mut E) {
+    complain(
+        err,
+        b"calls: answers could not be written to standard output, so no more is read.\n",
+    );
 }

@@ -2,21 +2,18 @@
 use Prim.Native.Nat.{ℕ, ◌≤◌, ◌<◌}
 use native.Mathlib.Omega.{arith}
 use mathlib.Core.Bool.{Bool, true, false}
-use mathlib.Core.List.{List, [], ◌∷◌, ◌++◌}
+use mathlib.Core.List.{List, ◌++◌}
 use mathlib.Core.Path.{◌≡◌, refl, sym, ◌∙◌, ap, subst}
 use lib.ListN.{length, take}
 use lib.Seq.{take_all, length-take-le}
 use lib.Dec.{ltb}
 use borrow.Author.Tests.{ltb-true, ltb-false}
-use denote.Enum.Declared.{tag_of}
-use types.Run.{OneOf, miss}
 use Rattle.machine.specs.SheetLimits.{program_bytes}
 use Rattle.report.specs.Laid.{Laid}
 use Rattle.report.specs.Report.{line_feed, reported, buffers, buffers_of, program_call, printed}
 use Rattle.streams.specs.Streams.{ToTheEnd}
 use Rattle.streams.specs.declared.Answered.{Answered}
 use Rattle.streams.specs.declared.Answered.TheVariants.{Bytes, Nothing, Failed}
-use Rattle.streams.specs.contracts.Answered.{the_type}
 use Rattle.printer.specs.Input.{ReadFrom, TextOf, Prints}
 use Rattle.printer.specs.declared.Printed.TheVariants.{Text, Unread}
 use Rattle.printer.proofs.ProgramLaws.{outcome-long, call_long}
@@ -57,10 +54,8 @@ read_alike input buf count (Bytes n) ok wide t h = by (ltb count (length buf)) r
 -- ---- what is printed
 
 module _ (buf : List ℕ) (count : ℕ) (result scratch out : List ℕ) where
-  pub prints_nothing : (last : Answered) → OneOf (2 ∷ []) (tag_of the_type last) → Prints last buf count Unread result result scratch scratch out out
-  prints_nothing (Bytes n) h = absurd (miss (2 ∷ []) 0 tt h)
-  prints_nothing Nothing h = absurd (miss (2 ∷ []) 1 tt h)
-  prints_nothing Failed h = (refl, refl, refl)
+  pub prints_nothing : (last : Answered) → last ≡ Failed → Prints last buf count Unread result result scratch scratch out out
+  prints_nothing last h = rw h (refl, refl, refl)
 
   module _ (result₁ scratch₁ out₁ : List ℕ) {r : ℕ} (wide : program_bytes < length buf)
       (laid : Laid r 0 out out₁ (printed (take count buf))) (left : buffers result₁ scratch₁ ≡ buffers_of (program_call (take count buf) result scratch)) where
@@ -73,7 +68,7 @@ module _ (buf : List ℕ) (count : ℕ) (result scratch out : List ℕ) where
           left = left ∙ alike-left result scratch a;
         }
 
-    pub prints_text : (last : Answered) → OneOf (0 ∷ 1 ∷ []) (tag_of the_type last) → ToTheEnd count last (length buf) → Prints last buf count (Text r) result result₁ scratch scratch₁ out out₁
-    prints_text (Bytes n) h t = λ input f. text_of (read_alike input buf count (Bytes n) (λ e. let z : ◌≡◌ {A = ℕ} 0 1 = cc in omega arith) wide t f)
-    prints_text Nothing h t = λ input f. text_of (read_alike input buf count Nothing (λ e. let z : ◌≡◌ {A = ℕ} 0 1 = cc in omega arith) wide t f)
-    prints_text Failed h t = absurd (miss (0 ∷ 1 ∷ []) 2 tt h)
+    pub prints_text : (last : Answered) → (last ≡ Failed → ⊥) → ToTheEnd count last (length buf) → Prints last buf count (Text r) result result₁ scratch scratch₁ out out₁
+    prints_text (Bytes n) h t = λ input f. text_of (read_alike input buf count (Bytes n) h wide t f)
+    prints_text Nothing h t = λ input f. text_of (read_alike input buf count Nothing h wide t f)
+    prints_text Failed h t = absurd (h refl)

@@ -1,6 +1,6 @@
 // The sheet program, run with document 01's example.
 #![tactic(auto)]
 
-fn main() {
-    sheet_program::run();
+fn main(rt: HostRuntime) {
+    sheet_program::run(&rt, &mut rt.stdin(), &mut rt.stdout(), &mut rt.stderr());
 }

@@ -1,14 +1,11 @@
 use Prim.Native.Nat.{◌-◌}
 use native.Mathlib.Omega.{arith}
 use mathlib.Core.List.{◌∷◌}
-use mathlib.Core.Logic.{inl, inr, ⊎_elim}
+use mathlib.Core.Logic.{inl, inr}
 use mathlib.Core.Path.{sym}
-use lib.ListN.{length, drop}
+use lib.ListN.{drop}
 use lib.Seq.{length-take-le}
-use borrow.Author.Tests.{ltb-true, ltb-false}
-use Rattle.model.specs.Limits.{max_bytes}
 use Rattle.step.proofs.StepLaws.{rule_wrote, rule_refused}
-use borrow.Author.Rules.{rules}
 use Rattle.step.proofs.steps.lay_down.Goals.{else-number-eq-TOO_SHORT-via-else-number-eq-TOO_SHORT, else-number-eq-TOO_SHORT-via-then-number-eq-TOO_SHORT+else-out-lt-MAX_BYTES}
 use Rattle.step.proofs.steps.lay_down.Goals as goal
 

@@ -1,5 +1,4 @@
 pub mod Fitting
 pub mod Bare
-pub mod PervadeHolds
 pub mod RulesHold
-pub mod StepsHold
+pub mod FitAgainst

@@ -11,7 +11,7 @@ use Rattle.rules.specs.Types.{Boxes, write_boxes}
 use Rattle.validation.specs.Separate.{Input, separate}
 use Rattle.machine.specs.Call.{tally, Called, called}
 use Rattle.demand.specs.Numbers.{RefusedWith, answer_in}
-use Rattle.demand.specs.Numbered.{among-more, accepted_with, refused_with}
+use Rattle.demand.proofs.Numbered.{among-more, accepted_with, refused_with}
 use Rattle.ty.specs.Calls.{offered, deliver_boxes}
 use Rattle.val.specs.Values.{Row, row_number, row_typed, written as row_written, deliver_row}
 use Rattle.velgrodis.specs.declared.Answer.{Answer}

@@ -36,7 +36,7 @@ use Rattle.velgrodis.specs.declared.Answer.{Answer}
 use Rattle.velgrodis.specs.Answers.{or_nothing, numbered, counted, told, tested, yes_or_no, shapes_tested, dimmed, sized, sized_or_none, ordered, compared, step_told, stretched, found, validation_of}
 use Rattle.velgrodis.specs.Codes.{pervade_flagged, sided, handed_in}
 use Rattle.demand.specs.Numbers.{of_records, of_lone, of_sheet_call, RefusedWith}
-use Rattle.demand.specs.Numbered.{among-more, accepted_with, refused_with, stops_type, lone-numbered, mapped-numbered, call-numbered}
+use Rattle.demand.proofs.Numbered.{among-more, accepted_with, refused_with, stops_type, lone-numbered, mapped-numbered, call-numbered}
 use Rattle.numbered.specs.Calls.{Call, beside_validation, reply_to, of_sizes, of_written, of_pervaded, of_shape_checked, of_validated, of_size, of_sizes_written, of_result, numbers_of, RefusesOnly}
 use Rattle.numbered.specs.Calls.{vg_dim_cmp, vg_dim_cmp_defined, vg_dim_max, vg_dim_join, vg_dim_compatible, vg_dim_row_compatible, vg_merge, vg_join_shapes, vg_compatible_shapes, vg_row_shape, vg_shape_is-any}
 use Rattle.numbered.specs.Calls.{vg_shape_is-scalar, vg_row_count, vg_rank, vg_pervade, vg_union, vg_unrefine, vg_superset, vg_compatible_scalars, vg_compatible_with_boxes, vg_compare, vg_kinds, vg_read, vg_type_length, vg_shape_record}

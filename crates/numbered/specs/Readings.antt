@@ -14,7 +14,7 @@ use Rattle.validation.specs.Validate.{validate, check_scalar_only, check_shape_o
 use Rattle.validation.specs.Separate.{neither, being_read, separate, separately}
 use Rattle.validation.proofs.RefusalsLaws.{validate-listed, check_scalar_only-listed}
 use Rattle.demand.specs.Numbers.{of_lone, RefusedWith}
-use Rattle.demand.specs.Numbered.{lone-numbered}
+use Rattle.demand.proofs.Numbered.{lone-numbered}
 use Rattle.velgrodis.specs.declared.Validation.{Validation}
 use Rattle.velgrodis.specs.Answers.{validation_of}
 use Rattle.velgrodis.specs.Codes.{sided}

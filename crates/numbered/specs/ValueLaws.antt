@@ -10,7 +10,7 @@ use Rattle.number.specs.Size.{SizeOutcome, size, unknown, refused as no_size_giv
 use Rattle.number.specs.Sizes.{SizesOutcome, sizes, refused_at, before, at_index, sizes_from, listed_dims}
 use Rattle.val.specs.Values.{Value, number, numbers, typed, length_dim, numbers_ty, value_ty, dim_alone, dims_listed, any_sized, any_of_size, value_spec, value_row_count, value_as_dim, value_as_dims}
 use Rattle.demand.specs.Numbers.{of_lone, RefusedWith}
-use Rattle.demand.specs.Numbered.{among-more, accepted_with, refused_with, mapped-numbered, lone-numbered}
+use Rattle.demand.proofs.Numbered.{among-more, accepted_with, refused_with, mapped-numbered, lone-numbered}
 use Rattle.velgrodis.specs.Codes.{handed_in}
 use Rattle.numbered.specs.CallLaws.{more-numbered, either-numbered}
 

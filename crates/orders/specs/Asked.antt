@@ -9,7 +9,7 @@ use Rattle.rules.specs.Pervade.{Pervaded, sizes, clash, pervade_dims, pervade_cl
 use Rattle.machine.specs.Steps.{Step, a_join, is_a, put_by}
 use Rattle.machine.specs.Real.{RealShape, fits, real_pervade, FeedOf, Feeds, FitsFeed, FitsPuts}
 use Rattle.holding.specs.Fitting.{Fits, fits-of}
-use Rattle.holding.specs.PervadeHolds.{closed_by-some}
+use Rattle.holding.proofs.PervadeHolds.{closed_by-some}
 use Rattle.orders.specs.Cells.{Named, unnamed, differ, Cell, cell, named_in, join_named, join_cell, cell_of, named_by, join_named_idem, join_named-comm, join_named-assoc}
 use Rattle.orders.specs.Cells.{join_cell-comm, join_cell-assoc, named-join}
 use Rattle.orders.specs.CellsPervade.{cell-pervade, differ-pervade, named-real_pervade, differ-real_pervade}

@@ -5,7 +5,7 @@ use Rattle.std.proofs.Common.{arith, sym, ◌∙◌, ap}
 use Rattle.std.proofs.Math.Option.{some}
 use Rattle.model.specs.Types.{Shape, shape}
 use Rattle.rules.specs.Pervade.{pervade_dims, pervade_closing, pervade}
-use Rattle.holding.specs.PervadeHolds.{closed_by-some}
+use Rattle.holding.proofs.PervadeHolds.{closed_by-some}
 use Rattle.orders.specs.Play.{Move, lay, mix, laid_down, mixed-some, play, gather, past_first}
 use Rattle.orders.specs.Asked.{closing_of}
 use Rattle.orders.specs.Endings.{Ending, add_ending, no_ending, ending_of, close, ending_commutes, endings, endings_add, close_add, close_of}

@@ -24,10 +24,10 @@ use Rattle.machine.specs.Real.{fits, real_pervade, Feeds, real_step, real_run, T
 use Rattle.machine.specs.Conditions.{RowsNoOpenDef, JoinsAlike, puts, count_closing}
 use Rattle.machine.proofs.WrittenOut.{sheet-of-out}
 use Rattle.demand.specs.Claims.{answer_to, Leaves, Mismatched, verdict_of, MakesAccepted, FirstConditions, EachHolds, SecondConditions, Regrouped}
-use Rattle.demand.specs.Calls.{run-leaves}
-use Rattle.demand.specs.Demand.{first-half, mismatch_exactly, same_verdict, same_shape}
-use Rattle.demand.specs.WorkedWith.{nums, one_size, any_size, within3, within4, are-bytes, long-enough, as-worked}
-use Rattle.demand.specs.WorkedSecond.{put3, put?, pervade0, putting, pervading0, unlike_steps, turned_steps, turned_bytes, check_with, within?, conditions, turned-conditions, unlike-turned, unlike-none, mismatch_verdicts}
+use Rattle.demand.proofs.Calls.{run-leaves}
+use Rattle.demand.proofs.Demand.{first-half, mismatch_exactly, same_verdict, same_shape}
+use Rattle.demand.proofs.WorkedWith.{nums, one_size, any_size, within3, within4, are-bytes, long-enough, as-worked}
+use Rattle.demand.proofs.WorkedSecond.{put3, put?, pervade0, putting, pervading0, unlike_steps, turned_steps, turned_bytes, check_with, within?, conditions, turned-conditions, unlike-turned, unlike-none, mismatch_verdicts}
 
 -- ---- how they are written
 

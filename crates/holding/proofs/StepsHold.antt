@@ -18,7 +18,7 @@ use Rattle.machine.specs.Run.{Ruling, gives, or_refuses, aside, Stack, onto, per
 use Rattle.machine.specs.Real.{RealShape, fits, Holds, real_pervade, JoinSide, Feed, Feeds, real_row, keeps, onto_real, real_rule, real_rule_on, real_step, real_run, FitsPut, FitsPuts}
 use Rattle.machine.specs.Conditions.{names_closing, NamesNoClosing, Alike, JoinsAlike, Along}
 use Rattle.holding.specs.Bare.{Bare}
-use Rattle.holding.specs.PervadeHolds.{pervade_holds}
+use Rattle.holding.proofs.PervadeHolds.{pervade_holds}
 use Rattle.holding.specs.RulesHold.{row_holds, join_holds, merge_holds}
 use Rattle.machine.proofs.RunLaws.{following-gives, or_refuses-gives, aside-gives}
 use Rattle.machine.proofs.RealLaws.{cond-some, onto_real-some, goes_on-some}

@@ -28,9 +28,9 @@ use Rattle.machine.specs.Real.{fits, real_pervade, the_one_below, Feeds, real_st
 use Rattle.machine.specs.Conditions.{RowsNoOpenDef, JoinsAlike}
 use Rattle.machine.proofs.WrittenOut.{sheet-of-out}
 use Rattle.demand.specs.Claims.{Check, check_of, Leaves, MakesAccepted, FirstConditions, EachHolds}
-use Rattle.demand.specs.Calls.{run-leaves}
-use Rattle.demand.specs.WorkedWith.{nums, one_size, nums-within, within3, within4, zeroes, long-enough, as-worked}
-use Rattle.demand.specs.Demand.{first-half}
+use Rattle.demand.proofs.Calls.{run-leaves}
+use Rattle.demand.proofs.WorkedWith.{nums, one_size, nums-within, within3, within4, zeroes, long-enough, as-worked}
+use Rattle.demand.proofs.Demand.{first-half}
 
 -- ---- the sheet
 

@@ -15,7 +15,7 @@ use Rattle.machine.proofs.StepsTook.{well_formed-took}
 use Rattle.orders.specs.Verdicts.{Pervadings, Decided, passes, fails, decided}
 use Rattle.orders.specs.Orders.{order-mismatch, order-shape}
 use Rattle.demand.specs.Claims.{Check, answer_to, Leaves, Mismatched, verdict_of, SecondConditions, SecondHalf, accepts, mismatches, Regrouped}
-use Rattle.demand.specs.Calls.{leaves_run, call-leaves, call-mismatch}
+use Rattle.demand.proofs.Calls.{leaves_run, call-leaves, call-mismatch}
 
 -- Accepted and refused are two.
 pub not-both : {C : Type 0} (c : Check) (ts : List Ty) → Leaves c ts → Mismatched c → C

@@ -24,9 +24,9 @@ use Rattle.machine.specs.Real.{RealShape, fits, the_top, Feeds, real_step, real_
 use Rattle.machine.specs.Conditions.{RowsNoOpenDef, JoinsAlike}
 use Rattle.machine.proofs.WrittenOut.{sheet-of-out}
 use Rattle.demand.specs.Claims.{Check, check_of, Leaves, MakesAccepted, FirstConditions, EachHolds}
-use Rattle.demand.specs.Calls.{run-leaves}
-use Rattle.demand.specs.Demand.{first-half}
-use Rattle.demand.specs.WorkedWith.{num_of, num-within, zeroes, long-enough, as-worked}
+use Rattle.demand.proofs.Calls.{run-leaves}
+use Rattle.demand.proofs.Demand.{first-half}
+use Rattle.demand.proofs.WorkedWith.{num_of, num-within, zeroes, long-enough, as-worked}
 
 -- ---- the sheet
 

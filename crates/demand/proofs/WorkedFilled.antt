@@ -25,9 +25,9 @@ use Rattle.machine.specs.Real.{RealShape, fits, Holds, real_pervade, Feeds, real
 use Rattle.machine.specs.Conditions.{RowsNoOpenDef, JoinsAlike}
 use Rattle.machine.proofs.WrittenOut.{sheet-of-out}
 use Rattle.demand.specs.Claims.{Check, check_of, Leaves, MakesAccepted, FirstConditions, EachHolds}
-use Rattle.demand.specs.Calls.{run-leaves}
-use Rattle.demand.specs.Demand.{first-half}
-use Rattle.demand.specs.WorkedWith.{num_of, nums, one_size, any_size, num-within, nums-within, zeroes, long-enough, as-worked}
+use Rattle.demand.proofs.Calls.{run-leaves}
+use Rattle.demand.proofs.Demand.{first-half}
+use Rattle.demand.proofs.WorkedWith.{num_of, nums, one_size, any_size, num-within, nums-within, zeroes, long-enough, as-worked}
 
 -- ---- the sheet
 

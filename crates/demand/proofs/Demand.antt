@@ -10,9 +10,9 @@ use Rattle.machine.specs.Real.{RealShape, Feeds, Through}
 use Rattle.machine.specs.Conditions.{puts, count_closing}
 use Rattle.demand.specs.Claims.{Check, answer_to, IsAccepted, Leaves, Mismatched, verdict_of, MakesAccepted, FirstConditions, EachHolds}
 use Rattle.demand.specs.Claims.{SecondConditions, NoneThrough, SecondHalf, accepts, mismatches, Regrouped}
-use Rattle.demand.specs.Words.{accepted-sheet}
-use Rattle.demand.specs.FirstCalls.{types_hold}
-use Rattle.demand.specs.SecondCalls.{not-both, one_of_two, verdict_same, shape_same}
+use Rattle.demand.proofs.Words.{accepted-sheet}
+use Rattle.demand.proofs.FirstCalls.{types_hold}
+use Rattle.demand.proofs.SecondCalls.{not-both, one_of_two, verdict_same, shape_same}
 
 -- ---- the first half
 
@@ -30,14 +30,6 @@ pub first-half : (c : Check) (xs : List Step) (ts : List Ty)
     → (f : Feeds xs) (left : List RealShape) → Through xs f left
     → EachHolds ts left
 first-half c xs ts m k f left t = types_hold c xs ts m k f left t
-
--- The same of any bytes that the call accepts: they are those of such a list.
-pub first-half-of-bytes : (c : Check) → Bytes c.sheet → IsAccepted c
-    → (xs : List Step) × (ts : List Ty) × MakesAccepted c xs ts
-    × (FirstConditions xs → (f : Feeds xs) (left : List RealShape) → Through xs f left → EachHolds ts left)
-first-half-of-bytes c small a =
-    let (xs, ts, m, worked) = accepted-sheet c small a in
-    (xs, ts, m, first-half c xs ts m)
 
 -- ---- the second half
 

@@ -14,6 +14,7 @@ use Rattle.machine.specs.Real.{RealShape, fits, grown, real_dim, real_pervade}
 use Rattle.machine.proofs.RealLaws.{cons_both-some}
 use Rattle.holding.specs.Fitting.{Fit}
 use Rattle.holding.specs.Bare.{BareClosing, Bare, Rest, StartsWith, begins_of, of_begins}
+use Rattle.holding.specs.FitAgainst.{fit_against}
 
 -- ---- real pervading
 
@@ -53,22 +54,6 @@ fit_unless false c x z e k = k refl e
 or_false-second : (t u : Bool) → t || u ≡ false → u ≡ false
 or_false-second true u h = let w : ◌≡◌ {A = ℕ} 0 1 = cc in absurd (omega arith)
 or_false-second false u h = h
-
--- a size that the other shape leaves open or does not have, against a real one, where it does not grow
-fit_against : (f g : Bool) (e : Dim) (m n z : ℕ) → may_grow g true (some e) none ≡ false → Fit e n → real_dim f g m n ≡ some z → Fit (against_absent e) z
-unfolding against_absent
-fit_against f g unknown m n z s k y = tt
-fit_against f g (static b) m n z s k y = go f g (eqb m 1) (eqb b 1) (eqb m b) (ltb m b) refl s (rw (← k) at y)
-  where
-    go : (f g p t r l : Bool) → eqb m b ≡ r → g && not t && true ≡ false
-        → cond p (some b) (cond t (some m) (cond r (some m) (cond l (grown f b) (grown g m)))) ≡ some z → Fit (cond t unknown (static b)) z
-    go f g p true r l h s y = tt
-    go f g true false r l h s y = cc
-    go f g false false true l h s y = let w = eqb-true m b h in cc
-    go true g false false false true h s y = cc
-    go false g false false false true h s y = let w : ◌≡◌ {A = ℕ} 0 1 = cc in absurd (omega arith)
-    go f true false false false false h s y = let w : ◌≡◌ {A = ℕ} 0 1 = cc in absurd (omega arith)
-    go f false false false false false h s y = let w : ◌≡◌ {A = ℕ} 0 1 = cc in absurd (omega arith)
 
 -- against no real one
 fit-alone : (e : Dim) (n : ℕ) → Fit e n → Fit (against_absent e) n

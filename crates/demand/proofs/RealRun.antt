@@ -18,7 +18,7 @@ use Rattle.machine.proofs.SheetWorked.{step_height, step-takes}
 use Rattle.machine.proofs.RuleOn.{arity, real_takes, lays_one, real_rule_on_height}
 use Rattle.machine.proofs.Sheets.{left-within, left-many}
 use Rattle.demand.specs.Claims.{Check, MakesAccepted, TopsStop, TopUnfit, StopsBecause, RunStopsBecause}
-use Rattle.demand.specs.Calls.{leaves_run}
+use Rattle.demand.proofs.Calls.{leaves_run}
 
 -- ---- one step
 

@@ -14,7 +14,7 @@ use Rattle.machine.specs.Call.{Called, write_types, sheet_call}
 use Rattle.machine.proofs.CallLaws.{Ways, short_scratch, run_refused, short_result, types_written, call_ways}
 use Rattle.places.proofs.RefusedStep.{RefusedStep, refused-step, accepted-past}
 use Rattle.demand.specs.Numbers.{answer_in}
-use Rattle.demand.specs.Numbered.{run-numbered}
+use Rattle.demand.proofs.Numbered.{run-numbered}
 
 module _ (s result scratch : List ℕ) (k p : ℕ) (refusal : answer_in (sheet_call s result scratch) ≡ refused k p) where
   -- What the call said, whichever way it went.

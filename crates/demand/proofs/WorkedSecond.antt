@@ -28,10 +28,10 @@ use Rattle.machine.specs.Real.{fits, real_pervade, Feeds, real_step, real_run, T
 use Rattle.machine.specs.Conditions.{PutOrPervade, puts, SamePuts, count_closing}
 use Rattle.machine.proofs.WrittenOut.{sheet-of-out}
 use Rattle.demand.specs.Claims.{Check, check_of, answer_to, Leaves, Mismatched, verdict_of, SecondConditions, NoneThrough, SecondHalf, Regrouped}
-use Rattle.demand.specs.Calls.{run-leaves, run_mismatched}
-use Rattle.demand.specs.Words.{steps_well_formed}
-use Rattle.demand.specs.Demand.{second-half, mismatch_exactly, same_verdict, same_shape}
-use Rattle.demand.specs.WorkedWith.{num_of, nums, one_size, any_size, last_size, num-within, nums-within, within3, within4, are-bytes, are_heights, are-heights, zeroes, long-enough}
+use Rattle.demand.proofs.Calls.{run-leaves, run_mismatched}
+use Rattle.demand.proofs.Words.{steps_well_formed}
+use Rattle.demand.proofs.Demand.{second-half, mismatch_exactly, same_verdict, same_shape}
+use Rattle.demand.proofs.WorkedWith.{num_of, nums, one_size, any_size, last_size, num-within, nums-within, within3, within4, are-bytes, are_heights, are-heights, zeroes, long-enough}
 
 -- ---- how they are written
 

@@ -14,7 +14,7 @@ use Rattle.machine.proofs.StepsTook.{well_formed-took}
 use Rattle.machine.proofs.StepsReads.{write_steps-same}
 use Rattle.machine.proofs.Sheets.{sheet-steps, accepted-steps, skim-steps, left-within}
 use Rattle.demand.specs.Claims.{Check, IsAccepted, MakesAccepted}
-use Rattle.demand.specs.Calls.{call-accepted}
+use Rattle.demand.proofs.Calls.{call-accepted}
 
 -- ---- accepted
 

@@ -9,9 +9,9 @@ use Rattle.machine.specs.Steps.{Step}
 use Rattle.machine.specs.Run.{Stack}
 use Rattle.machine.specs.Real.{RealShape, Holds, Feeds, Through}
 use Rattle.machine.proofs.Sheets.{left-within}
-use Rattle.holding.specs.StepsHold.{AllHold, steps_hold}
+use Rattle.holding.proofs.StepsHold.{AllHold, steps_hold}
 use Rattle.demand.specs.Claims.{Check, MakesAccepted, FirstConditions, EachHolds}
-use Rattle.demand.specs.Calls.{leaves_run}
+use Rattle.demand.proofs.Calls.{leaves_run}
 
 -- ---- from the bottom
 

@@ -1,0 +1,17 @@
+pub mod Buffers
+pub mod Calls
+pub mod FirstCalls
+pub mod SecondCalls
+pub mod Words
+pub mod Demand
+pub mod Numbered
+pub mod RealRun
+pub mod RefusedPlace
+pub mod Unfolding
+pub mod Worked
+pub mod WorkedFilled
+pub mod WorkedNames
+pub mod WorkedOpen
+pub mod WorkedSecond
+pub mod WorkedWith
+pub mod DemandOfBytes

@@ -1,0 +1,2 @@
+pub mod StepsHold
+pub mod PervadeHolds

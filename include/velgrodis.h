@@ -74,7 +74,7 @@ uint64_t vg_version(void);
 #define VG_PACKED_BYTES 4288
 #define VG_SCRATCH_BYTES (VG_MAX_STACK * VG_PACKED_BYTES)
 
-/* Bytes of stack that a thread has left when it makes a call. Measured, and not proved: examples/c/stack_use.c makes every call on types as
+/* Bytes of stack that a thread has left when it makes a call. Measured, with the older kit, and not proved: examples/c/stack_use.c makes every call on types as
  * large and as deep as the limits allow, and on full sheets of them. On x86-64 the greatest was vg_check_sheet with 32,328 bytes; no other
  * call took more than 20,000. */
 #define VG_STACK_BYTES 36864

@@ -10,7 +10,7 @@ use Rattle.model.specs.Types.{Scalar, Fields, no_fields, field, Ty, ty, shape_of
 use Rattle.format.specs.Records.{list_of, write_shape, write_scalar, write_fields, write_ty}
 use Rattle.rules.specs.Types.{field_in, stretch_in}
 use Rattle.known.specs.Known.{TypeAt, ScalarAt, FieldsAt, HasType, HasScalar, HasFields, SpanIs, ScalarSpan, FieldsSpan, FieldIs, Seen}
-use Rattle.known.proofs.KnownLaws.{scalar-behind, behind-ends, deep, first_field, rest-fields}
+use Rattle.known.proofs.KnownLaws.{scalar-behind, behind-ends, first_field, rest-fields}
 use Rattle.known.specs.declared.Span.{Span}
 use Rattle.known.specs.declared.View.{View}
 use Rattle.known.specs.declared.View.TheVariants.{Plain, BoxAny, BoxAll, BoxDef}

@@ -10,7 +10,7 @@ use lib.Ieee.{Float}
 use Rattle.number.specs.declared.Class as declared
 use Rattle.number.specs.declared.Class.TheVariants.{NotANumber, Infinite, Fraction, Whole, Larger}
 use Rattle.model.specs.Refusals.{not_a_size}
-use Rattle.number.specs.Class.{Class, infinite, class_of, magnitude}
+use Rattle.number.specs.Class.{infinite, class_of, magnitude}
 use Rattle.number.specs.Size.{SizeOutcome, unknown, refused, size_of, as_dim, listed_dim}
 use Rattle.number.specs.Kind.{unwhole, not_whole}
 use Rattle.number.specs.Answers.{class_outcome}

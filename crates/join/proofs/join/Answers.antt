@@ -5,7 +5,6 @@ use Rattle.rules.specs.Types.{join_types}
 use Rattle.lent.specs.Delivers.{deliver-handed}
 use Rattle.record.specs.Answers.{lone_of}
 use Rattle.record.proofs.LoneLaws.{both-refused, both_read}
-use borrow.Author.Rules.{rules}
 use Rattle.join.proofs.join.Goals as goal
 
 pub returns-in_default : goal.returns-in_default

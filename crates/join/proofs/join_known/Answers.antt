@@ -5,7 +5,6 @@ use Rattle.record.specs.Answers.{shape_for}
 use Rattle.lent.specs.Delivers.{deliver-as}
 use Rattle.scalar.proofs.CallLaws.{first-type, second_type}
 use Rattle.join.proofs.Laws.{Closed, is-closed, joined, joined-closed}
-use borrow.Author.Rules.{rules}
 use Rattle.join.proofs.join_known.Goals.{then-closed_at-via-then-closed_at, then-closed_at-via-else-closed_at+then-closed_at-2}
 use Rattle.join.proofs.join_known.Goals as goal
 

@@ -4,7 +4,6 @@ use Rattle.rules.specs.Order.{code_of, kind_place}
 use Rattle.rules.specs.Scalars.{superset_codes, compatible_codes, superset_of, compatible_scalars, union}
 use Rattle.rules.specs.KindTable.{squares}
 use Rattle.kind_table.proofs.TableLaws.{compatible-found}
-use borrow.Author.Rules.{rules}
 use Rattle.kind_table.proofs.compatible_codes.Goals as goal
 
 pub returns : goal.returns

@@ -9,7 +9,6 @@ use Rattle.rules.specs.Scalars.{superset_codes, compatible_codes, superset_of, c
 use Rattle.rules.specs.KindTable.{squares, kind_table}
 use Rattle.rules.proofs.KindTableLaws.{table_length}
 use Rattle.kind_table.proofs.TableLaws.{table_laid}
-use borrow.Author.Rules.{rules}
 use Rattle.kind_table.proofs.kinds.Goals as goal
 
 pub returns-then-res-lt-KIND_NUMBERS : goal.returns-then-res-lt-KIND_NUMBERS

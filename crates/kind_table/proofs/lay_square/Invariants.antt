@@ -1,11 +1,8 @@
 use Prim.Native.Nat.{◌-◌, ◌≤◌}
 use mathlib.Core.Path.{◌≡◌}
-use native.Mathlib.Omega.{arith}
 use lib.ListN.{take}
-use borrow.Author.Rules.{rules}
 use Rattle.lent.specs.Over.{over}
 use Rattle.rules.specs.KindTable.{kind_count, in_a_row}
-use Rattle.kind_table.proofs.RowLaws.{none-laid, row_is, row_room, row_laid, all_laid, all-length}
 use Rattle.kind_table.proofs.lay_square.Given as goal
 
 abbrev pub invariant-loop-i : goal.invariant-loop-i

@@ -4,7 +4,6 @@ use Rattle.rules.specs.Order.{code_of, kind_place}
 use Rattle.rules.specs.Scalars.{superset_codes, compatible_codes, superset_of, compatible_scalars, union}
 use Rattle.rules.specs.KindTable.{squares}
 use Rattle.kind_table.proofs.TableLaws.{superset_itself, superset-found}
-use borrow.Author.Rules.{rules}
 use Rattle.kind_table.proofs.superset_codes.Goals as goal
 
 pub returns-then-k-l : goal.returns-then-k-l

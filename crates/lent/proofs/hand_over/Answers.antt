@@ -2,7 +2,6 @@ use mathlib.Core.Path.{refl, sym, ap, ◌∙◌}
 use lib.ListN.{length}
 use Rattle.format.specs.Outcome.{accepted, delivery}
 use Rattle.lent.specs.Delivers.{deliver-short, deliver-whole}
-use borrow.Author.Rules.{rules}
 use Rattle.lent.proofs.hand_over.Goals as goal
 
 pub returns-then-res-n : goal.returns-then-res-n

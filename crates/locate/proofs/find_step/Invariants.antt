@@ -1,10 +1,7 @@
 use Prim.Native.Nat.{◌-◌, ◌≤◌}
-use native.Mathlib.Omega.{arith}
 use mathlib.Core.Path.{◌≡◌}
 use lib.ListN.{length}
 use Rattle.places.specs.Places.{step_on, step_of}
-use Rattle.locate.proofs.LocateLaws.{from_the_first, end-at, end-unread, no_more, in_this, in_a-later, past_all}
-use borrow.Author.Rules.{rules}
 use Rattle.locate.proofs.find_step.Given as goal
 
 abbrev pub invariant-loop-at : goal.invariant-loop-at

@@ -1,5 +1,4 @@
 use Rattle.locate.proofs.LocateLaws.{marked_so}
-use borrow.Author.Rules.{rules}
 use Rattle.locate.proofs.name_step.Goals as goal
 
 pub returns-in-Got : goal.returns-in-Got

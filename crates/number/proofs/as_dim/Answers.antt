@@ -1,7 +1,6 @@
 -- `number::as_dim` meets its contract: past the infinities its reading of a size is that of a list. Assumes nothing.
 use mathlib.Core.Path.{◌∙◌}
 use borrow.Enum.Refused.{opened}
-use borrow.Author.Rules.{rules}
 use Rattle.number.proofs.Arms.{arm_finite, infinite-unknown}
 use Rattle.number.proofs.as_dim.Goals as goal
 

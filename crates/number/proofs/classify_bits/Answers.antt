@@ -1,6 +1,5 @@
 -- `number::classify_bits` meets its contract: a law of `Fields` for each way out. Assumes nothing.
 use mathlib.Core.Path.{◌∙◌}
-use borrow.Author.Rules.{rules}
 use Rattle.number.proofs.Fields.{bits-infinite, bits-nan, bits-zero, bits_tiny, bits_normal}
 use Rattle.number.proofs.classify_bits.Goals as goal
 

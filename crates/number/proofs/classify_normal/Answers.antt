@@ -2,7 +2,6 @@
 use mathlib.Core.Path.{sym}
 use Prim.Native.Nat.{◌-◌}
 use native.Mathlib.Omega.{arith}
-use borrow.Author.Rules.{rules}
 use lib.Pow.{pow_pos}
 use Rattle.number.proofs.Ratio.{normal_below, normal_whole, normal_fraction, normal_limit, normal_larger, shifted}
 use Rattle.number.proofs.classify_normal.Goals as goal

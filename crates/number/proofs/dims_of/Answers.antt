@@ -1,12 +1,11 @@
 -- `number::dims_of` meets its contract. The loop's invariant: what the list gives is the sizes put down up to `i`, before what its numbers
 -- from `i` on give. Assumes nothing.
-use mathlib.Core.Path.{◌≡◌, sym, ◌∙◌}
+use mathlib.Core.Path.{sym, ◌∙◌}
 use mathlib.Core.List.{[]}
-use Prim.Native.Nat.{◌-◌, ◌≤◌}
 use native.Mathlib.Omega.{arith}
 use borrow.Author.Rules.{rules, scaled_Fits}
 use lib.ListN.{length, length-set}
-use Rattle.number.proofs.Walk.{listed-many, listed-few, Walked, walk-starts, walk-puts, walk-refuses, walk_ends}
+use Rattle.number.proofs.Walk.{listed-many, listed-few, walk-starts, walk-puts, walk-refuses, walk_ends}
 use Rattle.number.proofs.dims_of.Goals as goal
 
 pub returns-then-xs-gt-MAX_SIZES : goal.returns-then-xs-gt-MAX_SIZES

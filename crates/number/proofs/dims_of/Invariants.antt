@@ -1,10 +1,7 @@
-use mathlib.Core.Path.{◌≡◌, sym, ◌∙◌}
-use mathlib.Core.List.{[]}
+use mathlib.Core.Path.{◌≡◌}
 use Prim.Native.Nat.{◌-◌, ◌≤◌}
-use native.Mathlib.Omega.{arith}
-use borrow.Author.Rules.{rules, scaled_Fits}
-use lib.ListN.{length, length-set}
-use Rattle.number.proofs.Walk.{listed-many, listed-few, Walked, walk-starts, walk-puts, walk-refuses, walk_ends}
+use lib.ListN.{length}
+use Rattle.number.proofs.Walk.{Walked}
 use Rattle.number.proofs.dims_of.Given as goal
 
 abbrev pub invariant-loop-i : goal.invariant-loop-i

@@ -1,13 +1,8 @@
 -- `number::kind_of` meets its contract. The loop's invariant: the list's kind is the greater of what was found up to `i` and the kind of
 -- the numbers from `i` on. Assumes nothing.
-use mathlib.Core.Path.{◌≡◌}
-use mathlib.Core.Logic.{⊎_elim}
-use Prim.Native.Nat.{◌-◌, ◌≤◌, max}
 use native.Mathlib.Omega.{arith}
 use borrow.Author.Rules.{rules, scaled_Fits}
-use lib.ListN.{length, drop}
-use Rattle.format.specs.Records.{code}
-use Rattle.number.specs.Kind.{kind_of_numbers}
+use lib.ListN.{length}
 use Rattle.number.proofs.Greatest.{greatest-next, greatest-ends}
 use Rattle.number.proofs.kind_of.Goals as goal
 use Rattle.number.proofs.kind_of.Goals.{then-kind-k, else-kind-k}

@@ -1,12 +1,8 @@
 use mathlib.Core.Path.{◌≡◌}
-use mathlib.Core.Logic.{⊎_elim}
 use Prim.Native.Nat.{◌-◌, ◌≤◌, max}
-use native.Mathlib.Omega.{arith}
-use borrow.Author.Rules.{rules, scaled_Fits}
 use lib.ListN.{length, drop}
 use Rattle.format.specs.Records.{code}
 use Rattle.number.specs.Kind.{kind_of_numbers}
-use Rattle.number.proofs.Greatest.{greatest-next, greatest-ends}
 use Rattle.number.proofs.kind_of.Given as goal
 
 abbrev pub invariant-loop-i : goal.invariant-loop-i

@@ -2,7 +2,6 @@
 use mathlib.Core.Path.{refl, sym}
 use mathlib.Core.Bool.{true, false}
 use borrow.Enum.Refused.{opened}
-use borrow.Author.Rules.{rules}
 use lib.Ieee.{of_bits}
 use Rattle.format.specs.Records.{code}
 use Rattle.number.proofs.Arms.{arm_whole, arm_unwhole}

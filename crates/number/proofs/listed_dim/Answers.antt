@@ -1,6 +1,5 @@
 -- `number::listed_dim` meets its contract: one class or two for each arm. Assumes nothing.
 use mathlib.Core.Path.{◌≡◌, sym}
-use borrow.Author.Rules.{rules}
 use Rattle.number.specs.Class.{infinite, whole, larger, class_of}
 use Rattle.number.proofs.Arms.{arm_refused}
 use Rattle.number.proofs.listed_dim.Goals as goal

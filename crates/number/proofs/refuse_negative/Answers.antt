@@ -1,5 +1,4 @@
 -- `number::refuse_negative` meets its contract. Assumes nothing.
-use borrow.Author.Rules.{rules}
 use Rattle.number.proofs.refuse_negative.Goals as goal
 
 pub returns-then-negative : goal.returns-then-negative

@@ -1,7 +1,6 @@
 use mathlib.Core.Path.{sym}
 use lib.Seq.{length-take-le}
 use Rattle.printer.proofs.InputLaws.{prints_nothing, prints_text}
-use borrow.Author.Rules.{rules}
 use Rattle.printer.proofs.print_input.Goals as goal
 
 pub slice_bounds-print_sheet-end : goal.slice_bounds-print_sheet-end

@@ -1,6 +1,5 @@
 use native.Mathlib.Omega.{arith}
 use Rattle.printer.proofs.ProgramLaws.{feed_room, line_ended}
-use borrow.Author.Rules.{rules}
 use Rattle.printer.proofs.print_sheet.Goals as goal
 
 pub put-requires : goal.put-requires

@@ -4,7 +4,6 @@ use lib.ListN.{length}
 use lib.Seq.{length-take-le}
 use Rattle.report.specs.Report.{buffers_of}
 use Rattle.printer.proofs.CallLaws.{answered-called, refused-called, types-left, left_is, left_there, left-inside, left-room, laid-left, laid-refused}
-use borrow.Author.Rules.{rules}
 use Rattle.printer.proofs.put_call.Goals as goal
 
 pub slice_bounds-put_left-end-in-Accepted : goal.slice_bounds-put_left-end-in-Accepted

@@ -1,7 +1,6 @@
 use native.Mathlib.Omega.{arith}
 use Rattle.report.specs.Report.{line_feed}
 use Rattle.printer.proofs.ProgramLaws.{done-long, done-run}
-use borrow.Author.Rules.{rules}
 use Rattle.printer.proofs.put_outcome.Goals as goal
 
 pub returns-then-sheet-gt-MAX_SHEET : goal.returns-then-sheet-gt-MAX_SHEET

@@ -1,7 +1,4 @@
-use Prim.Native.Nat.{◌+◌, ◌-◌, ◌≤◌}
 use native.Mathlib.Omega.{arith}
-use mathlib.Core.Path.{◌≡◌}
-use lib.ListN.{length, get_or}
 use Rattle.stack.specs.Stack.{memory}
 use Rattle.stack.proofs.LyingLaws.{tray_ends, tray_part, sheet_begins, sheet-ends, sheet-bytes}
 use borrow.Author.Rules.{rules}

@@ -2,7 +2,6 @@ use Prim.Native.Nat.{◌-◌}
 use native.Mathlib.Omega.{arith}
 use mathlib.Core.Path.{refl}
 use Rattle.stack.proofs.KeepsLaws.{put-takes}
-use borrow.Author.Rules.{rules}
 use Rattle.stack.proofs.put.Goals as goal
 
 pub returns : goal.returns

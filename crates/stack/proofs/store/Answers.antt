@@ -1,11 +1,9 @@
-use Prim.Native.Nat.{◌-◌}
 use native.Mathlib.Omega.{arith}
 use mathlib.Core.Path.{refl, ap}
 use lib.ListN.{length}
 use Rattle.stack.specs.Stack.{packed_end, tray_end}
 use Rattle.stack.proofs.ApartLaws.{slot_inside, tray_inside}
 use Rattle.stack.proofs.KeepsLaws.{packed_takes, in_tray_takes}
-use borrow.Author.Rules.{rules}
 use Rattle.stack.proofs.store.Goals as goal
 
 pub pack-requires : goal.pack-requires

@@ -8,7 +8,6 @@ use Rattle.stack.specs.Stack.{memory}
 use Rattle.stack.proofs.StackLaws.{stacked_top, stacked-below}
 use Rattle.tops.proofs.RuleLaws.{delivered-puts}
 use Rattle.tops.proofs.TopLaws.{record_there, top_lone, below-lone, good_two, join-within}
-use borrow.Author.Rules.{rules}
 use Rattle.tops.proofs.join_top.Goals as goal
 
 pub bytes_of-top-requires : goal.bytes_of-top-requires

@@ -7,7 +7,6 @@ use Rattle.record.specs.Answers.{shape_for}
 use Rattle.known.proofs.WholeLaws.{first_good, second_good, has-types, whole-shape}
 use Rattle.shape.specs.Answers.{shape_beside}
 use Rattle.tops.proofs.RuleLaws.{types-clash, types-pervade}
-use borrow.Author.Rules.{rules}
 use Rattle.tops.proofs.pervade_any.Goals as goal
 
 pub shape_at-requires : goal.shape_at-requires

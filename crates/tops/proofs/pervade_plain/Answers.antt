@@ -5,7 +5,6 @@ use Rattle.lent.specs.Delivers.{deliver-refused, deliver-as}
 use Rattle.record.specs.Answers.{dims_of}
 use Rattle.shape.specs.Answers.{shape_beside}
 use Rattle.tops.specs.Plain.{plainly}
-use borrow.Author.Rules.{rules}
 use Rattle.tops.proofs.pervade_plain.Goals as goal
 
 pub returns-in-Stopped : goal.returns-in-Stopped

@@ -4,7 +4,6 @@ use Rattle.format.specs.Reader.{Bytes}
 use Rattle.lent.specs.Delivers.{deliver-as}
 use Rattle.known.proofs.WholeLaws.{first_good, second_good, has-types}
 use Rattle.tops.proofs.PlainLaws.{whole-closed, types-plain}
-use borrow.Author.Rules.{rules}
 use Rattle.tops.proofs.pervade_types.Goals as goal
 
 pub closed_at-requires : goal.closed_at-requires

@@ -7,7 +7,6 @@ use Rattle.stack.specs.Stack.{memory}
 use Rattle.stack.proofs.StackLaws.{stacked_top}
 use Rattle.tops.proofs.RuleLaws.{delivered-puts}
 use Rattle.tops.proofs.TopLaws.{record_there, top_lone, good_top, row_within}
-use borrow.Author.Rules.{rules}
 use Rattle.tops.proofs.row_top.Goals as goal
 
 pub bytes_of-top-requires : goal.bytes_of-top-requires

@@ -5,7 +5,6 @@ use mathlib.Core.Path.{subst}
 use Rattle.lent.specs.Written.{Puts, Short}
 use Rattle.stack.specs.Stack.{memory}
 use Rattle.tops.proofs.TopLaws.{record_there, top_lone, good_by}
-use borrow.Author.Rules.{rules}
 use Rattle.tops.proofs.validate_top.Goals as goal
 
 pub bytes_of-top-requires : goal.bytes_of-top-requires

@@ -1,12 +1,10 @@
 use Prim.Native.Nat.{◌-◌}
 use native.Mathlib.Omega.{arith}
-use borrow.Author.Tests.{eqb-false, not-true}
 use Rattle.model.specs.Limits.{max_depth}
 use Rattle.format.specs.Reader.{Bytes}
 use Rattle.known.proofs.KnownLaws.{has-scalar}
 use Rattle.known.proofs.WholeLaws.{has-types}
 use Rattle.tops.proofs.ValidateLaws.{of-kind, both_below, plain-validated}
-use borrow.Author.Rules.{rules}
 use Rattle.tops.proofs.validate_types.Goals as goal
 
 pub closed_at-requires : goal.closed_at-requires

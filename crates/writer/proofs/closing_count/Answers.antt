@@ -1,7 +1,6 @@
 use mathlib.Core.Path.{sym, ap, ◌∙◌}
 use Rattle.format.specs.Records.{count_of}
 use Rattle.record.proofs.ByValue.{open_is}
-use borrow.Author.Rules.{rules}
 use Rattle.writer.proofs.closing_count.Goals as goal
 
 pub returns : goal.returns

@@ -2,7 +2,6 @@ use native.Mathlib.Omega.{arith}
 use mathlib.Core.Path.{refl}
 use lib.ListN.{length-set}
 use Rattle.writer.proofs.Records.{six_stores}
-use borrow.Author.Rules.{rules}
 use Rattle.writer.proofs.put_box.Goals as goal
 
 pub bounds-out-at-2 : goal.bounds-out-at-2

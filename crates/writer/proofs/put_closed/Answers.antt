@@ -2,7 +2,6 @@ use native.Mathlib.Omega.{arith}
 use mathlib.Core.Path.{refl}
 use Rattle.record.specs.Answers.{dims_of}
 use Rattle.writer.proofs.PlainLaws.{length-closed, lay-closed-type}
-use borrow.Author.Rules.{rules}
 use Rattle.writer.proofs.put_closed.Goals as goal
 
 pub put_head-requires : goal.put_head-requires

@@ -1,12 +1,12 @@
 use mathlib.Core.Path.{◌≡◌, ◌∙◌, ap}
-use Prim.Native.Nat.{◌+◌, ◌*◌, ◌-◌, ◌≤◌, ◌<◌}
+use Prim.Native.Nat.{◌<◌}
 use native.Mathlib.Omega.{arith}
 use borrow.Author.Rules.{rules}
 use lib.ListN.{length, get_or}
 use Rattle.format.specs.Reader.{bytes_of}
 use Rattle.lent.specs.Over.{over}
 use Rattle.record.specs.Answers.{dims_of}
-use Rattle.writer.proofs.Laws.{Laid, lay-none, lay-more, lay-all}
+use Rattle.writer.proofs.Laws.{lay-none, lay-more, lay-all}
 use Rattle.writer.proofs.put_dims.Goals as goal
 
 pub loop-i-init : goal.loop-i-init

@@ -1,12 +1,7 @@
-use mathlib.Core.Path.{◌≡◌, ◌∙◌, ap}
-use Prim.Native.Nat.{◌+◌, ◌*◌, ◌-◌, ◌≤◌, ◌<◌}
-use native.Mathlib.Omega.{arith}
-use borrow.Author.Rules.{rules}
-use lib.ListN.{length, get_or}
-use Rattle.format.specs.Reader.{bytes_of}
-use Rattle.lent.specs.Over.{over}
-use Rattle.record.specs.Answers.{dims_of}
-use Rattle.writer.proofs.Laws.{Laid, lay-none, lay-more, lay-all}
+use mathlib.Core.Path.{◌≡◌}
+use Prim.Native.Nat.{◌+◌, ◌*◌, ◌-◌, ◌≤◌}
+use lib.ListN.{length}
+use Rattle.writer.proofs.Laws.{Laid}
 use Rattle.writer.proofs.put_dims.Given as goal
 
 abbrev pub invariant-loop-i : goal.invariant-loop-i

@@ -2,7 +2,6 @@ use native.Mathlib.Omega.{arith}
 use lib.ListN.{length-set}
 use Rattle.format.specs.Reader.{bytes_of}
 use Rattle.writer.proofs.Laws.{eight-stores}
-use borrow.Author.Rules.{rules}
 use Rattle.writer.proofs.put_number.Goals as goal
 
 pub bounds-out-at-2 : goal.bounds-out-at-2

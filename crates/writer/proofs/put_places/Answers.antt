@@ -1,12 +1,9 @@
 use native.Mathlib.Omega.{arith}
-use Prim.Native.Nat.{◌-◌, ◌≤◌}
-use mathlib.Core.Logic.{⊎_elim}
 use mathlib.Core.Path.{◌≡◌, ◌∙◌}
 use lib.ListN.{length}
 use borrow.Author.Rules.{rules}
-use Rattle.model.specs.Limits.{max_sizes}
 use Rattle.record.specs.Answers.{dims_of}
-use Rattle.writer.proofs.Laws.{Laid, lay-none, lay-more, lay-past, lay-all}
+use Rattle.writer.proofs.Laws.{lay-none, lay-more, lay-past, lay-all}
 use Rattle.writer.proofs.put_places.Goals.{else-i-n, then-i-n}
 use Rattle.writer.proofs.put_places.Goals as goal
 

@@ -1,12 +1,8 @@
-use native.Mathlib.Omega.{arith}
 use Prim.Native.Nat.{◌-◌, ◌≤◌}
-use mathlib.Core.Logic.{⊎_elim}
-use mathlib.Core.Path.{◌≡◌, ◌∙◌}
+use mathlib.Core.Path.{◌≡◌}
 use lib.ListN.{length}
-use borrow.Author.Rules.{rules}
 use Rattle.model.specs.Limits.{max_sizes}
-use Rattle.record.specs.Answers.{dims_of}
-use Rattle.writer.proofs.Laws.{Laid, lay-none, lay-more, lay-past, lay-all}
+use Rattle.writer.proofs.Laws.{Laid}
 use Rattle.writer.proofs.put_places.Given as goal
 
 abbrev pub invariant-loop-i : goal.invariant-loop-i

@@ -2,7 +2,6 @@ use mathlib.Core.Path.{refl}
 use native.Mathlib.Omega.{arith}
 use lib.ListN.{length-set}
 use Rattle.writer.proofs.Records.{three-stores}
-use borrow.Author.Rules.{rules}
 use Rattle.writer.proofs.put_plain.Goals as goal
 
 pub bounds-out-at-2 : goal.bounds-out-at-2

@@ -5,7 +5,6 @@ use Rattle.format.specs.Records.{list_of}
 use Rattle.record.specs.Answers.{dims_of, closing_for}
 use Rattle.record.proofs.ByValue.{closed_is, open_is}
 use Rattle.writer.proofs.Records.{length_record, lay-closed, lay_open}
-use borrow.Author.Rules.{rules}
 use Rattle.writer.proofs.put_shape.Goals as goal
 
 pub put_head-requires : goal.put_head-requires

@@ -5,7 +5,6 @@ use Rattle.format.specs.Records.{list_of}
 use Rattle.record.specs.Answers.{dims_of, closing_for}
 use Rattle.record.proofs.ByValue.{closed_is, open_is}
 use Rattle.writer.proofs.Records.{length_record}
-use borrow.Author.Rules.{rules}
 use Rattle.writer.proofs.shape_length.Goals as goal
 
 pub returns-then-shape : goal.returns-then-shape

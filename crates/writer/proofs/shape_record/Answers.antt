@@ -7,7 +7,6 @@ use Rattle.lent.specs.Delivers.{deliver-handed}
 use Rattle.record.specs.Answers.{lone_of}
 use Rattle.record.proofs.LoneLaws.{passed-refused, mapped-refused}
 use Rattle.writer.proofs.Records.{shape_record-is}
-use borrow.Author.Rules.{rules}
 use Rattle.writer.proofs.shape_record.Goals as goal
 
 pub returns-in_default : goal.returns-in_default

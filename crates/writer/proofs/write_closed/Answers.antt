@@ -4,7 +4,6 @@ use mathlib.Core.Path.{refl, sym, ◌∙◌}
 use Rattle.lent.specs.Delivers.{deliver-short, deliver-wrote}
 use Rattle.record.specs.Answers.{dims_of}
 use Rattle.writer.proofs.PlainLaws.{length-closed}
-use borrow.Author.Rules.{rules}
 use Rattle.writer.proofs.write_closed.Goals as goal
 
 pub returns-then-res-size_count : goal.returns-then-res-size_count

@@ -1,6 +1,5 @@
 use mathlib.Core.Path.{refl, sym}
 use Rattle.lent.specs.Delivers.{deliver-short, deliver-wrote}
-use borrow.Author.Rules.{rules}
 use Rattle.writer.proofs.write_kind.Goals as goal
 
 pub returns-then-res-lt-PLAIN_BYTES : goal.returns-then-res-lt-PLAIN_BYTES

@@ -3,7 +3,6 @@ use native.Mathlib.Omega.{arith}
 use Rattle.lent.specs.Delivers.{deliver-short, deliver-wrote}
 use Rattle.record.specs.Answers.{shape_for}
 use Rattle.writer.proofs.PlainLaws.{length-plain, lay-plain}
-use borrow.Author.Rules.{rules}
 use Rattle.writer.proofs.write_plain.Goals as goal
 
 pub returns-then-res-n : goal.returns-then-res-n

@@ -1,7 +1,6 @@
 use mathlib.Core.Path.{refl, sym}
 use native.Mathlib.Omega.{arith}
 use Rattle.lent.specs.Delivers.{deliver-short, deliver-wrote}
-use borrow.Author.Rules.{rules}
 use Rattle.writer.proofs.write_shape.Goals as goal
 
 pub returns-then-res-n : goal.returns-then-res-n

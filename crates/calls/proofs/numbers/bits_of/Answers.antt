@@ -1,5 +1,4 @@
 use Rattle.number.proofs.Casts.{no_nan}
-use borrow.Author.Rules.{rules}
 use Rattle.calls.proofs.numbers.bits_of.Goals as goal
 
 pub float_to_bits-result : goal.float_to_bits-result

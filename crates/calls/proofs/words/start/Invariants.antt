@@ -1,6 +1,5 @@
 use Prim.Native.Nat.{◌+◌, ◌≤◌, ◌-◌}
 use lib.ListN.{length}
-use borrow.Author.Rules.{rules}
 use Rattle.calls.proofs.words.start.Given as goal
 
 abbrev pub invariant-loop-at : goal.invariant-loop-at

@@ -1,6 +1,5 @@
 use mathlib.Core.Path.{sym}
 use Rattle.cursor.proofs.ReadLaws.{flag_ended, flag_large, flag_read}
-use borrow.Author.Rules.{rules}
 use Rattle.cursor.proofs.flags.read_flag.Goals as goal
 
 pub returns-then-s-at : goal.returns-then-s-at

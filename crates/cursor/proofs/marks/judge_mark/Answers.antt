@@ -1,4 +1,3 @@
-use borrow.Author.Rules.{rules}
 use Rattle.cursor.proofs.marks.judge_mark.Goals as goal
 
 pub returns-then-is_mark : goal.returns-then-is_mark

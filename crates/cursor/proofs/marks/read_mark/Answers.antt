@@ -1,7 +1,6 @@
 use mathlib.Core.Path.{sym, ◌∙◌}
 use native.Mathlib.Omega.{arith}
 use Rattle.cursor.proofs.ReadLaws.{mark-ended, mark-read}
-use borrow.Author.Rules.{rules}
 use Rattle.cursor.proofs.marks.read_mark.Goals as goal
 
 pub returns-then-bytes_left-lt2 : goal.returns-then-bytes_left-lt2

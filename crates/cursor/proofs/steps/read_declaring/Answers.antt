@@ -1,5 +1,4 @@
 use Rattle.cursor.proofs.StepLaws.{declaring-unnamed, declaring-is, declaring-ends}
-use borrow.Author.Rules.{rules}
 use Rattle.cursor.proofs.steps.read_declaring.Goals as goal
 
 pub returns-in_default : goal.returns-in_default

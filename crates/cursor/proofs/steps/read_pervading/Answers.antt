@@ -1,5 +1,4 @@
 use Rattle.cursor.proofs.StepLaws.{flag_is, flag_ends}
-use borrow.Author.Rules.{rules}
 use Rattle.cursor.proofs.steps.read_pervading.Goals as goal
 
 pub returns-in_default : goal.returns-in_default

@@ -1,5 +1,4 @@
 use Rattle.cursor.proofs.StepLaws.{put_is, put-ends}
-use borrow.Author.Rules.{rules}
 use Rattle.cursor.proofs.steps.read_put.Goals as goal
 
 pub returns-in_default : goal.returns-in_default

@@ -1,7 +1,6 @@
 use Rattle.cursor.proofs.StepLaws.{row_is, join_is, mark-ends, step-low, step-high, step_is}
 use Rattle.cursor.specs.declared.marks.Operation.TheVariants.{Put, Row, Pervading, Join, Validating, Declaration, Use}
 use Rattle.cursor.specs.declared.StepRead.TheVariants.{Row as ARow, Join as AJoin}
-use borrow.Author.Rules.{rules}
 use Rattle.cursor.proofs.steps.read_step.Goals as goal
 
 pub returns-in_default : goal.returns-in_default

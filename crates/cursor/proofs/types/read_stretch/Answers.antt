@@ -1,6 +1,5 @@
 use native.Mathlib.Omega.{arith}
 use Rattle.cursor.proofs.ReadLaws.{type-read, type-unread}
-use borrow.Author.Rules.{rules}
 use Rattle.cursor.proofs.types.read_stretch.Goals as goal
 
 pub returns-in-Got : goal.returns-in-Got

@@ -1,6 +1,5 @@
 use mathlib.Core.Path.{◌∙◌}
 use Rattle.kinds.proofs.PrintLaws.{superset-at, compatible-at, union-at}
-use borrow.Author.Rules.{rules}
 use Rattle.kinds.proofs.printing.number_at.Goals as goal
 
 pub returns-then-i-lt-KIND_PAIRS : goal.returns-then-i-lt-KIND_PAIRS

@@ -1,7 +1,6 @@
 use native.Mathlib.Omega.{arith}
 use Rattle.text.specs.Digits.{decimal_of}
 use Rattle.report.proofs.TextLaws.{laid_then, length-decimal}
-use borrow.Author.Rules.{rules}
 use Rattle.kinds.proofs.printing.put_line.Goals as goal
 
 pub put-requires : goal.put-requires

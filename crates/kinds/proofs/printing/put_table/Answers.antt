@@ -1,8 +1,7 @@
-use Prim.Native.Nat.{◌-◌, ◌≤◌}
+use Prim.Native.Nat.{◌≤◌}
 use native.Mathlib.Omega.{arith}
-use borrow.Author.Rules.{rules}
 use Rattle.rules.specs.KindTable.{number_count}
-use Rattle.kinds.proofs.PrintLaws.{Put, none-put, more, line-room, line_put, all-put, all-inside, all-length}
+use Rattle.kinds.proofs.PrintLaws.{none-put, more, line-room, line_put, all-put, all-inside, all-length}
 use Rattle.kinds.proofs.printing.put_table.Goals as goal
 
 pub loop-i-init : goal.loop-i-init

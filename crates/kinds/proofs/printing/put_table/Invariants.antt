@@ -1,8 +1,6 @@
-use Prim.Native.Nat.{◌-◌, ◌≤◌}
-use native.Mathlib.Omega.{arith}
-use borrow.Author.Rules.{rules}
+use Prim.Native.Nat.{◌-◌}
 use Rattle.rules.specs.KindTable.{number_count}
-use Rattle.kinds.proofs.PrintLaws.{Put, none-put, more, line-room, line_put, all-put, all-inside, all-length}
+use Rattle.kinds.proofs.PrintLaws.{Put}
 use Rattle.kinds.proofs.printing.put_table.Given as goal
 
 abbrev pub invariant-loop-i : goal.invariant-loop-i

@@ -1,6 +1,5 @@
 use mathlib.Core.Path.{sym, ◌∙◌}
 use Rattle.kinds.proofs.KindLaws.{compatible-over, compatible_under, compatible-both, compatible-apart}
-use borrow.Author.Rules.{rules}
 use Rattle.kinds.proofs.two_kinds.compatible_with.Goals as goal
 
 pub returns-then-superset_of : goal.returns-then-superset_of

@@ -1,5 +1,4 @@
 use mathlib.Core.Path.{sym}
-use borrow.Author.Rules.{rules}
 use Rattle.format.specs.Records.{code}
 use Rattle.kinds.proofs.KindLaws.{superset-any, superset_numeric, superset-char, superset-other}
 use Rattle.kinds.proofs.two_kinds.superset_of.Goals.{else-k-eq-CHAR, then-k-eq-CHAR+else-l-eq-ASCII}

@@ -1,6 +1,5 @@
 use Rattle.format.specs.Records.{code}
 use Rattle.kinds.proofs.KindLaws.{union-boxes, union-first, union-second, union-neither, of-scalars}
-use borrow.Author.Rules.{rules}
 use Rattle.kinds.proofs.two_kinds.union.Goals.{else-k-eq-BOX, then-k-eq-BOX+else-l-eq-BOX}
 use Rattle.kinds.proofs.two_kinds.union.Goals as goal
 

@@ -1,7 +1,6 @@
 use native.Mathlib.Omega.{arith}
 use mathlib.Core.Path.{refl}
 use Rattle.known.proofs.KnownLaws.{name-within, unnamed-is, named-within, named-is}
-use borrow.Author.Rules.{rules}
 use Rattle.known.proofs.names.name_at.Goals as goal
 
 pub bounds-s-at : goal.bounds-s-at

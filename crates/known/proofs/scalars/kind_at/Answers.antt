@@ -1,7 +1,6 @@
 use native.Mathlib.Omega.{arith}
 use mathlib.Core.Path.{◌∙◌}
 use Rattle.known.proofs.KnownLaws.{scalar-kind, coded}
-use borrow.Author.Rules.{rules}
 use Rattle.known.proofs.scalars.kind_at.Goals as goal
 
 pub overflow_add-at : goal.overflow_add-at

@@ -1,7 +1,6 @@
 use native.Mathlib.Omega.{arith}
 use Rattle.known.proofs.KnownLaws.{scalar-kind, seen_plain, seen-any, seen_all, seen-def}
 use Rattle.known.proofs.LookLaws.{has-box, box-inside, has-name, count-inside}
-use borrow.Author.Rules.{rules}
 use Rattle.known.proofs.scalars.look.Goals as goal
 
 pub overflow_add-result : goal.overflow_add-result

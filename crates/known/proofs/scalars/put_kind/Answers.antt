@@ -1,7 +1,6 @@
 use native.Mathlib.Omega.{arith}
 use Rattle.known.proofs.KnownLaws.{scalar-kind}
 use Rattle.known.proofs.KindLaws.{kind_changed}
-use borrow.Author.Rules.{rules}
 use Rattle.known.proofs.scalars.put_kind.Goals as goal
 
 pub overflow_add-out : goal.overflow_add-out

@@ -1,14 +1,8 @@
 use native.Mathlib.Omega.{arith}
-use Prim.Native.Nat.{◌-◌, ◌≤◌, ◌<◌}
-use mathlib.Core.List.{List}
-use mathlib.Core.Logic.{⊎_elim}
-use mathlib.Core.Path.{◌≡◌}
+use Prim.Native.Nat.{◌<◌}
 use lib.ListN.{length, length-set}
 use borrow.Author.Rules.{rules}
-use Rattle.model.specs.Limits.{max_sizes}
-use Rattle.model.specs.Types.{Dim}
-use Rattle.known.specs.Known.{DimsAt}
-use Rattle.known.proofs.ShapeLaws.{Gathering, gathering_none, next-there, gathering_more, gathering_past}
+use Rattle.known.proofs.ShapeLaws.{gathering_none, next-there, gathering_more, gathering_past}
 use Rattle.known.proofs.shapes.dims_at.Goals.{else-i-count, then-i-count}
 use Rattle.known.proofs.shapes.dims_at.Goals as goal
 

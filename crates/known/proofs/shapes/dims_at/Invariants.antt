@@ -1,14 +1,11 @@
-use native.Mathlib.Omega.{arith}
-use Prim.Native.Nat.{◌-◌, ◌≤◌, ◌<◌}
+use Prim.Native.Nat.{◌-◌, ◌≤◌}
 use mathlib.Core.List.{List}
-use mathlib.Core.Logic.{⊎_elim}
 use mathlib.Core.Path.{◌≡◌}
-use lib.ListN.{length, length-set}
-use borrow.Author.Rules.{rules}
+use lib.ListN.{length}
 use Rattle.model.specs.Limits.{max_sizes}
 use Rattle.model.specs.Types.{Dim}
 use Rattle.known.specs.Known.{DimsAt}
-use Rattle.known.proofs.ShapeLaws.{Gathering, gathering_none, next-there, gathering_more, gathering_past}
+use Rattle.known.proofs.ShapeLaws.{Gathering}
 use Rattle.known.proofs.shapes.dims_at.Given as goal
 
 abbrev pub invariant-loop-i : goal.invariant-loop-i

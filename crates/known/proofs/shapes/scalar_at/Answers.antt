@@ -1,7 +1,6 @@
 use native.Mathlib.Omega.{arith}
 use Prim.Native.Nat.{◌+◌}
 use Rattle.known.proofs.ShapeLaws.{counts-inside, few-opening, sizes-inside, scalar-place}
-use borrow.Author.Rules.{rules}
 use Rattle.known.proofs.shapes.scalar_at.Goals as goal
 
 pub overflow_add-opening : goal.overflow_add-opening

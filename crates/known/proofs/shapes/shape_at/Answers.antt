@@ -1,10 +1,8 @@
 use native.Mathlib.Omega.{arith}
 use Prim.Native.Nat.{◌+◌}
 use mathlib.Core.Path.{sym}
-use borrow.Author.Rules.{rules}
 use Rattle.known.proofs.KnownLaws.{closed-shape}
 use Rattle.known.proofs.ShapeLaws.{counts-inside, few-opening, counted_open, open_inside, closing-there, shape_opened}
-use borrow.Author.Rules.{rules}
 use Rattle.known.proofs.shapes.shape_at.Goals as goal
 
 pub returns-then-closed_at : goal.returns-then-closed_at

@@ -1,12 +1,7 @@
-use mathlib.Core.Path.{◌≡◌, refl}
+use mathlib.Core.Path.{refl}
 use native.Mathlib.Omega.{arith}
-use borrow.Author.Rules.{rules}
-use Prim.Native.Nat.{◌+◌, ◌*◌}
-use Rattle.model.specs.Types.{Fields, field_count}
-use Rattle.known.specs.Known.{FieldsAt}
 use Rattle.known.proofs.KnownLaws.{has-scalar, deep}
-use Rattle.known.proofs.SpanLaws.{span-plain, span-any, span-all, span-def, has-content, has-fields, few-inside, shallow-inside, span-type, Skipping, skip_start, skip_has, skip_few, skip_next, skip_end}
-use Prim.Native.Nat.{ℕ, ◌<◌}
+use Rattle.known.proofs.SpanLaws.{span-plain, span-any, span-all, span-def, has-content, has-fields, few-inside, shallow-inside, span-type, skip_start, skip_has, skip_few, skip_next, skip_end}
 use Rattle.known.proofs.spans.+skip_fields_skip_scalar_skip_type.Goals as goal
 
 pub skip_fields-loop-left-init : goal.skip_fields-loop-left-init

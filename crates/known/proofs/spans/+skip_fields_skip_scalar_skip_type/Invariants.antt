@@ -1,12 +1,8 @@
-use mathlib.Core.Path.{◌≡◌, refl}
-use native.Mathlib.Omega.{arith}
-use borrow.Author.Rules.{rules}
+use mathlib.Core.Path.{◌≡◌}
 use Prim.Native.Nat.{◌+◌, ◌*◌}
 use Rattle.model.specs.Types.{Fields, field_count}
 use Rattle.known.specs.Known.{FieldsAt}
-use Rattle.known.proofs.KnownLaws.{has-scalar, deep}
-use Rattle.known.proofs.SpanLaws.{span-plain, span-any, span-all, span-def, has-content, has-fields, few-inside, shallow-inside, span-type, Skipping, skip_start, skip_has, skip_few, skip_next, skip_end}
-use Prim.Native.Nat.{ℕ, ◌<◌}
+use Rattle.known.proofs.SpanLaws.{Skipping}
 use Rattle.known.proofs.spans.+skip_fields_skip_scalar_skip_type.Given as goal
 
 abbrev pub decreases-skip_fields : goal.decreases-skip_fields

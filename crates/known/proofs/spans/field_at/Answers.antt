@@ -1,10 +1,5 @@
 use native.Mathlib.Omega.{arith}
-use borrow.Author.Rules.{rules}
-use Prim.Native.Nat.{◌<◌}
-use Rattle.model.specs.Limits.{max_depth}
-use Rattle.model.specs.Types.{Fields, field_count}
-use Rattle.known.specs.Known.{FieldsAt}
-use Rattle.known.proofs.SpanLaws.{Reaching, reach_start, reach_has, reach_next, reach_end}
+use Rattle.known.proofs.SpanLaws.{reach_start, reach_has, reach_next, reach_end}
 use Rattle.known.proofs.spans.field_at.Goals as goal
 
 pub loop-left-init : goal.loop-left-init

@@ -1,5 +1,4 @@
 use Rattle.locate.proofs.LocateLaws.{declaration_unnamed, declaration_end}
-use borrow.Author.Rules.{rules}
 use Rattle.locate.proofs.ends.declaration_end.Goals as goal
 
 pub returns-in_default : goal.returns-in_default

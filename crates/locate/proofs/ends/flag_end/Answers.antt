@@ -1,5 +1,4 @@
 use Rattle.locate.proofs.LocateLaws.{flag_got, flag_refused}
-use borrow.Author.Rules.{rules}
 use Rattle.locate.proofs.ends.flag_end.Goals as goal
 
 pub returns-in-Got : goal.returns-in-Got

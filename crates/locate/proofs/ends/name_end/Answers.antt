@@ -1,5 +1,4 @@
 use Rattle.locate.proofs.LocateLaws.{name-got, name-refused}
-use borrow.Author.Rules.{rules}
 use Rattle.locate.proofs.ends.name_end.Goals as goal
 
 pub returns-in-Got : goal.returns-in-Got

@@ -1,7 +1,6 @@
 use Rattle.locate.proofs.LocateLaws.{put-end, row-end, join-end, validating-end, use_end, unmarked-end, marked-end}
 use Rattle.cursor.specs.declared.marks.Operation.TheVariants.{Put, Row, Pervading, Join, Validating, Declaration, Use}
 use Rattle.locate.specs.declared.ends.StepEnd.TheVariants.{At}
-use borrow.Author.Rules.{rules}
 use Rattle.locate.proofs.ends.step_end.Goals as goal
 
 pub returns-in_default : goal.returns-in_default

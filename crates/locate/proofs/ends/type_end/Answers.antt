@@ -1,5 +1,4 @@
 use Rattle.locate.proofs.LocateLaws.{type-got, type-refused}
-use borrow.Author.Rules.{rules}
 use Rattle.locate.proofs.ends.type_end.Goals as goal
 
 pub returns-in-Got : goal.returns-in-Got

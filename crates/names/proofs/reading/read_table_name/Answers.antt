@@ -1,6 +1,5 @@
 use native.Mathlib.Omega.{arith}
 use Rattle.names.proofs.NameLaws.{name-ended, name_empty, name-long, name-read, name-unread}
-use borrow.Author.Rules.{rules}
 use Rattle.names.proofs.reading.read_table_name.Goals as goal
 
 pub returns-then-s-at : goal.returns-then-s-at

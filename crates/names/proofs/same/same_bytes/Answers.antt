@@ -1,9 +1,5 @@
-use Prim.Native.Nat.{ℕ, ◌+◌, ◌-◌, ◌≤◌, ◌<◌}
 use native.Mathlib.Omega.{arith}
-use mathlib.Core.Path.{◌≡◌}
-use lib.ListN.{get_or}
 use Rattle.names.specs.TableLaws.{alike_next}
-use borrow.Author.Rules.{rules}
 use Rattle.names.proofs.same.same_bytes.Goals as goal
 
 pub loop-i-init : goal.loop-i-init

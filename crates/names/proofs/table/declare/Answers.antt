@@ -1,7 +1,6 @@
 use native.Mathlib.Omega.{arith}
 use mathlib.Core.Path.{refl, sym}
 use Rattle.names.specs.TableLaws.{found-low, no_room, left-again, left_new}
-use borrow.Author.Rules.{rules}
 use Rattle.names.proofs.table.declare.Goals as goal
 
 pub find-k-requires : goal.find-k-requires

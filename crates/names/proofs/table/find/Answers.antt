@@ -1,13 +1,6 @@
-use Prim.Native.Nat.{ℕ, ◌+◌, ◌-◌, ◌≤◌}
 use native.Mathlib.Omega.{arith}
-use mathlib.Core.List.{List}
 use mathlib.Core.Path.{◌≡◌, sym, ◌∙◌}
-use lib.ListN.{drop}
-use Rattle.machine.specs.Written.{TableName}
-use Rattle.machine.specs.Names.{Names}
-use Rattle.names.specs.Table.{NameStands, InForce, place_of}
 use Rattle.names.specs.TableLaws.{nth_in_force, place_here, place-later, place_none}
-use borrow.Author.Rules.{rules}
 use Rattle.names.proofs.table.find.Goals as goal
 
 pub loop-k-init : goal.loop-k-init

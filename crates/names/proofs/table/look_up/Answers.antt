@@ -1,6 +1,5 @@
 use native.Mathlib.Omega.{arith}
 use Rattle.names.specs.TableLaws.{name-length, name-inside, found-low, found_none, found-less, found-there, found-is}
-use borrow.Author.Rules.{rules}
 use Rattle.names.proofs.table.look_up.Goals as goal
 
 pub returns-then-k-count : goal.returns-then-k-count

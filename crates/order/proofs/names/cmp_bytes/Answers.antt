@@ -1,10 +1,7 @@
 use mathlib.Core.Path.{refl, sym}
 use borrow.Author.Rules.{rules}
 use native.Mathlib.Omega.{arith}
-use Prim.Native.Nat.{◌-◌, ◌≤◌}
-use lib.ListN.{take, drop}
-use Rattle.rules.specs.Sizes.{cmp_number}
-use Rattle.order.proofs.ListLaws.{AlikeUpTo, bytes-less, bytes-more, bytes-end, byte-less, byte_more, byte-same}
+use Rattle.order.proofs.ListLaws.{bytes-less, bytes-more, bytes-end, byte-less, byte_more, byte-same}
 use Rattle.order.proofs.names.cmp_bytes.Goals as goal
 
 pub loop-k-init : goal.loop-k-init

@@ -1,7 +1,6 @@
 use mathlib.Core.Path.{sym, ◌∙◌}
 use native.Mathlib.Omega.{arith}
 use Rattle.order.proofs.ListLaws.{names-none, names-less, names_more, names-both}
-use borrow.Author.Rules.{rules}
 use Rattle.order.proofs.names.cmp_names.Goals as goal
 
 pub overflow_sub-m : goal.overflow_sub-m

@@ -1,6 +1,5 @@
 use mathlib.Core.Path.{sym, ◌∙◌}
 use Rattle.order.proofs.ListLaws.{closing-none, closing-less, closing-more, closing-both}
-use borrow.Author.Rules.{rules}
 use Rattle.order.proofs.shapes.cmp_closing.Goals as goal
 
 pub returns-then-b : goal.returns-then-b

@@ -1,9 +1,8 @@
 use mathlib.Core.Path.{refl, sym, ap}
 use borrow.Author.Rules.{rules}
 use native.Mathlib.Omega.{arith}
-use Prim.Native.Nat.{◌-◌, ◌≤◌}
 use Rattle.shape.specs.Answers.{order_of}
-use Rattle.order.proofs.ListLaws.{SizesAlike, sizes-less, sizes-more, sizes-end, size_less, size-more, size_same}
+use Rattle.order.proofs.ListLaws.{sizes-less, sizes-more, sizes-end, size_less, size-more, size_same}
 use Rattle.order.proofs.shapes.cmp_dims.Goals as goal
 
 pub loop-i-init : goal.loop-i-init

@@ -1,7 +1,6 @@
 use mathlib.Core.Path.{sym, ap, ◌∙◌}
 use Rattle.shape.specs.Answers.{order_of}
 use Rattle.order.proofs.ListLaws.{shape-less, shape_same, shape-more}
-use borrow.Author.Rules.{rules}
 use Rattle.order.proofs.shapes.cmp_shape.Goals as goal
 
 pub returns-in-Less : goal.returns-in-Less

@@ -1,19 +1,11 @@
-use mathlib.Core.Path.{◌≡◌, sym, ap}
+use mathlib.Core.Path.{sym, ap}
 use native.Mathlib.Omega.{arith}
-use borrow.Author.Rules.{rules}
-use lib.ListN.{length}
-use Rattle.model.specs.Types.{Fields, field_count}
-use Rattle.format.specs.Records.{write_fields}
 use Rattle.shape.specs.Answers.{order_of}
-use Rattle.rules.specs.Order.{cmp_fields}
-use Rattle.known.specs.Known.{FieldsAt}
 use Rattle.known.proofs.KnownLaws.{deep, has-scalar}
-use Rattle.order.specs.Answers.{ranking_of}
 use Rattle.order.proofs.TypeLaws.{by_kinds, any-kind, any-any, any-all, any-def, all-kind, all_any, all-all, all-def}
 use Rattle.order.proofs.TypeLaws.{def-kind, def-any, def-all, def-less, def-same, def-more, all_there, name-there, fields-there}
 use Rattle.order.proofs.TypeLaws.{types-less, types_more, shapes-less, shapes-same, shapes-more}
-use Rattle.order.proofs.TypeLaws.{PairsLeft, left-start, left-types, left-more, left_less, left_end, next-less, next_more, next_place, next-left}
-use Prim.Native.Nat.{ℕ, ◌<◌, ◌+◌, ◌*◌}
+use Rattle.order.proofs.TypeLaws.{left-start, left-types, left-more, left_less, left_end, next-less, next_more, next_place, next-left}
 use Rattle.order.proofs.types.+compare_fields_compare_scalars_compare_types.Goals as goal
 
 pub compare_fields-loop-left-init : goal.compare_fields-loop-left-init

@@ -2,7 +2,6 @@ use mathlib.Core.Path.{sym, ap}
 use Rattle.format.specs.Outcome.{mapped}
 use Rattle.record.specs.Answers.{lone_of}
 use Rattle.rules.specs.Sizes.{same}
-use borrow.Author.Rules.{rules}
 use Rattle.order.proofs.types.as_comparison.Goals as goal
 
 pub returns-in-Refused : goal.returns-in-Refused

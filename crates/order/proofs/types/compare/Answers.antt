@@ -8,7 +8,6 @@ use Rattle.record.specs.Answers.{lone_of}
 use Rattle.record.proofs.LoneLaws.{both-refused, both_read}
 use Rattle.known.proofs.WholeLaws.{has-types}
 use Rattle.order.proofs.TypeLaws.{whole-less, whole_same, whole-more}
-use borrow.Author.Rules.{rules}
 use Rattle.order.proofs.types.compare.Goals as goal
 
 pub returns-in_default : goal.returns-in_default

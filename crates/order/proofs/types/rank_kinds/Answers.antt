@@ -1,5 +1,4 @@
 use Rattle.order.proofs.TypeLaws.{kinds_less, kinds_more, kinds_same}
-use borrow.Author.Rules.{rules}
 use Rattle.order.proofs.types.rank_kinds.Goals as goal
 
 pub returns-then-x-y : goal.returns-then-x-y

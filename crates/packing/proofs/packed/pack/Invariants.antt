@@ -1,9 +1,7 @@
 use Prim.Native.Nat.{◌-◌}
-use native.Mathlib.Omega.{arith}
 use lib.ListN.{length}
-use borrow.Author.Rules.{rules}
 use Rattle.packing.specs.Layouts.{as_record, as_packed}
-use Rattle.packing.proofs.TypeLaws.{TypesLeft, types-none, types-length, next-shape, next-head, next-left, next-few, next-falls, packable, packs}
+use Rattle.packing.proofs.TypeLaws.{TypesLeft}
 use Rattle.packing.proofs.packed.pack.Given as goal
 
 abbrev pub invariant-loop-left : goal.invariant-loop-left

@@ -1,7 +1,6 @@
 use native.Mathlib.Omega.{arith}
 use borrow.Author.Rules.{rules}
-use Rattle.packing.specs.Layouts.{as_record, as_packed}
-use Rattle.packing.proofs.SizeLaws.{size_packed, SizesLeft, sizes-none, sizes-length, next-reads, next-room, next-done, sizes-all}
+use Rattle.packing.proofs.SizeLaws.{size_packed, sizes-none, sizes-length, next-reads, next-room, next-done, sizes-all}
 use Rattle.packing.proofs.packed.pack_sizes.Goals as goal
 
 pub loop-left-init : goal.loop-left-init

@@ -1,6 +1,5 @@
 use native.Mathlib.Omega.{arith}
 use lib.ListN.{length-set}
-use borrow.Author.Rules.{rules}
 use Rattle.packing.proofs.Stores.{two-stores}
 use Rattle.packing.proofs.packed.put_form.Goals as goal
 

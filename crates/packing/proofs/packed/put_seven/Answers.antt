@@ -2,7 +2,6 @@ use native.Mathlib.Omega.{arith}
 use lib.ListN.{length-set}
 use Rattle.format.specs.Reader.{bytes_of}
 use Rattle.packing.proofs.Stores.{seven_stores}
-use borrow.Author.Rules.{rules}
 use Rattle.packing.proofs.packed.put_seven.Goals as goal
 
 pub bounds-out-at-2 : goal.bounds-out-at-2

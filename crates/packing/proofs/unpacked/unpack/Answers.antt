@@ -1,9 +1,6 @@
-use Prim.Native.Nat.{◌-◌}
 use native.Mathlib.Omega.{arith}
-use lib.ListN.{length}
 use borrow.Author.Rules.{rules}
-use Rattle.packing.specs.Layouts.{as_record, as_packed}
-use Rattle.packing.proofs.TypeLaws.{TypesLeft, types-none, types-length, next-shape, next-head, next-left, next-few, next-falls, unpackable, unpacks}
+use Rattle.packing.proofs.TypeLaws.{types-none, types-length, next-shape, next-head, next-left, next-few, next-falls, unpackable, unpacks}
 use Rattle.packing.proofs.unpacked.unpack.Goals as goal
 
 pub loop-left-init : goal.loop-left-init

@@ -1,7 +1,5 @@
-use native.Mathlib.Omega.{arith}
-use borrow.Author.Rules.{rules}
 use Rattle.packing.specs.Layouts.{as_record, as_packed}
-use Rattle.packing.proofs.SizeLaws.{size-unpacked, SizesLeft, sizes-none, sizes-length, next-reads, next-room, next-done, sizes-all}
+use Rattle.packing.proofs.SizeLaws.{SizesLeft}
 use Rattle.packing.proofs.unpacked.unpack_sizes.Given as goal
 
 abbrev pub invariant-loop-left : goal.invariant-loop-left

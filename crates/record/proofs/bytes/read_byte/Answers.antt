@@ -1,7 +1,6 @@
 use mathlib.Core.Path.{sym}
 use native.Mathlib.Numerals.{add-one}
 use Rattle.format.specs.ReaderLaws.{byte-there, byte-ended}
-use borrow.Author.Rules.{rules}
 use Rattle.record.proofs.bytes.read_byte.Goals as goal
 
 pub returns-then-at-s : goal.returns-then-at-s

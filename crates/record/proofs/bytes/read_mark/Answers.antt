@@ -1,7 +1,6 @@
 use mathlib.Core.Path.{◌∙◌, sym}
 use Rattle.record.proofs.ReadingLaws.{read-got, read-stopped}
 use Rattle.record.proofs.ByteLaws.{mark-first, mark-second, mark-is, mark-not-first, mark-not-second}
-use borrow.Author.Rules.{rules}
 use Rattle.record.proofs.bytes.read_mark.Goals as goal
 
 pub returns-in_default : goal.returns-in_default

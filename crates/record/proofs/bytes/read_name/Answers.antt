@@ -1,10 +1,6 @@
 use mathlib.Core.Path.{◌∙◌, sym}
 use native.Mathlib.Omega.{arith}
-use borrow.Author.Rules.{rules}
-use mathlib.Core.Path.{◌≡◌, refl}
-use Rattle.format.specs.Reader.{map_read}
-use Rattle.format.specs.Records.{read_name}
-use Rattle.record.specs.Answers.{nothing}
+use mathlib.Core.Path.{refl}
 use Rattle.record.proofs.ReadingLaws.{read-got, read-stopped}
 use Rattle.record.proofs.ByteLaws.{name-ends, name-more, name_stops}
 use Rattle.record.proofs.bytes.read_name.Goals as goal

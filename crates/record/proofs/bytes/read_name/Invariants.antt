@@ -1,12 +1,7 @@
-use mathlib.Core.Path.{◌∙◌, sym}
-use native.Mathlib.Omega.{arith}
-use borrow.Author.Rules.{rules}
-use mathlib.Core.Path.{◌≡◌, refl}
+use mathlib.Core.Path.{◌≡◌}
 use Rattle.format.specs.Reader.{map_read}
 use Rattle.format.specs.Records.{read_name}
 use Rattle.record.specs.Answers.{nothing}
-use Rattle.record.proofs.ReadingLaws.{read-got, read-stopped}
-use Rattle.record.proofs.ByteLaws.{name-ends, name-more, name_stops}
 use Rattle.record.proofs.bytes.read_name.Given as goal
 
 abbrev pub invariant-loop-left : goal.invariant-loop-left

@@ -2,7 +2,6 @@ use mathlib.Core.Path.{◌∙◌, sym}
 use borrow.Author.Tests.{le-leb, lt-leb, eq-eqb, ne_eqb}
 use Rattle.record.proofs.ReadingLaws.{read-got, read-stopped}
 use Rattle.record.proofs.ByteLaws.{judged_stops, judged_allowed, judged-not}
-use borrow.Author.Rules.{rules}
 use Rattle.record.proofs.bytes.read_optional.Goals as goal
 
 pub returns-in_default : goal.returns-in_default

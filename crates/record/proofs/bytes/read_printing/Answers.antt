@@ -2,7 +2,6 @@ use mathlib.Core.Path.{◌∙◌, sym}
 use borrow.Author.Tests.{le-leb, lt-leb}
 use Rattle.record.proofs.ReadingLaws.{read-got, read-stopped}
 use Rattle.record.proofs.ByteLaws.{judged_stops, judged_allowed, judged-not}
-use borrow.Author.Rules.{rules}
 use Rattle.record.proofs.bytes.read_printing.Goals as goal
 
 pub returns-in_default : goal.returns-in_default

@@ -1,7 +1,6 @@
 use mathlib.Core.Path.{sym}
 use native.Mathlib.Omega.{arith}
 use Rattle.record.proofs.ByteLaws.{size-ended, size-static, size-unknown, size-over}
-use borrow.Author.Rules.{rules}
 use Rattle.record.proofs.bytes.read_size.Goals as goal
 
 pub returns-then-s-lt8 : goal.returns-then-s-lt8

@@ -3,7 +3,6 @@ use native.Mathlib.Omega.{arith}
 use Rattle.record.specs.Answers.{reading_of}
 use Rattle.record.proofs.ReadingLaws.{read-got, read-stopped}
 use Rattle.record.proofs.ShapeLaws.{opening-few, closing-few, shape-unmarked, shape_uncounted, shape_unclosed, shape-sized}
-use borrow.Author.Rules.{rules}
 use Rattle.record.proofs.shapes.read_shape.Goals as goal
 
 pub returns-in_default : goal.returns-in_default

@@ -1,11 +1,7 @@
-use mathlib.Core.Path.{◌≡◌, refl, ◌∙◌, sym}
-use native.Mathlib.Omega.{arith}
+use mathlib.Core.Path.{◌≡◌}
 use Rattle.format.specs.Reader.{map_read}
 use Rattle.format.specs.Records.{read_dims}
 use Rattle.record.specs.Answers.{nothing}
-use Rattle.record.proofs.ReadingLaws.{read-got, read-stopped}
-use Rattle.record.proofs.ShapeLaws.{sizes-end, sizes-more, sizes-stop}
-use borrow.Author.Rules.{rules}
 use Rattle.record.proofs.shapes.read_sizes.Given as goal
 
 abbrev pub invariant-loop-left : goal.invariant-loop-left

@@ -1,14 +1,9 @@
-use mathlib.Core.Path.{◌≡◌, refl, ◌∙◌, sym, ap}
+use mathlib.Core.Path.{refl, ◌∙◌, sym, ap}
 use native.Mathlib.Omega.{arith}
-use borrow.Author.Rules.{rules}
-use Rattle.model.specs.Types.{among}
-use Rattle.format.specs.Reader.{map_read}
-use Rattle.format.specs.Records.{read_fields, read_ty}
 use Rattle.record.proofs.ReadingLaws.{read-got, read-stopped}
 use Rattle.record.proofs.TypeLaws.{type-deep, type-many, type_unshaped, type-shaped, scalar-unmarked, scalar-ended, scalar-boxed, scalar-kind, scalar-unknown, box-unmarked, box-ended}
 use Rattle.record.proofs.TypeLaws.{box-any, box-all, box-def, box-unformed, def-unnamed, def_misnamed, def_uncounted, def-counted, fields-end, fields-stop, fields-more}
 use Rattle.record.specs.Answers.{reading_of}
-use Prim.Native.Nat.{ℕ, ◌<◌, ◌+◌, ◌-◌, ◌*◌}
 use Rattle.record.proofs.types.+read_box_read_def_read_fields_read_scalar_read_type.Goals as goal
 
 pub read_box-returns-in_default : goal.read_box-returns-in_default

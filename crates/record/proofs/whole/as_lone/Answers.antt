@@ -1,6 +1,5 @@
 use mathlib.Core.Path.{sym, ap}
 use Rattle.record.specs.Answers.{reading_of, passed}
-use borrow.Author.Rules.{rules}
 use Rattle.record.proofs.whole.as_lone.Goals as goal
 
 pub returns-in-Refused : goal.returns-in-Refused

@@ -1,4 +1,3 @@
-use borrow.Author.Rules.{rules}
 use Rattle.record.proofs.whole.read_front.Goals as goal
 
 pub returns : goal.returns

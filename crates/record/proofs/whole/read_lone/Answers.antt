@@ -2,7 +2,6 @@ use Rattle.record.specs.Answers.{reading_of, passed}
 use mathlib.Core.Path.{sym, ap, ◌∙◌}
 use Rattle.record.proofs.ReadingLaws.{read-got, read-stopped}
 use Rattle.record.proofs.LoneLaws.{lone-trailing, lone-whole, lone-stopped}
-use borrow.Author.Rules.{rules}
 use Rattle.record.proofs.whole.read_lone.Goals as goal
 
 pub returns-in_default : goal.returns-in_default

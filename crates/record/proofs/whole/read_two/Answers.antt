@@ -2,7 +2,6 @@ use mathlib.Core.Path.{sym, ap, ◌∙◌}
 use Rattle.format.specs.Outcome.{lone}
 use Rattle.record.specs.Answers.{lone_of}
 use Rattle.record.proofs.LoneLaws.{refusal-first, refusal-second, refusal-unrefused}
-use borrow.Author.Rules.{rules}
 use Rattle.record.proofs.whole.read_two.Goals as goal
 
 pub returns-in-Refused : goal.returns-in-Refused

@@ -1,6 +1,5 @@
 use mathlib.Core.Path.{sym, ap}
 use Rattle.record.specs.Answers.{two_of, whichever_of}
-use borrow.Author.Rules.{rules}
 use Rattle.record.proofs.whole.whichever.Goals as goal
 
 pub returns-in-First : goal.returns-in-First

@@ -1,6 +1,5 @@
 use native.Mathlib.Omega.{arith}
 use Rattle.report.proofs.TextLaws.{length-decimal, head-laid}
-use borrow.Author.Rules.{rules}
 use Rattle.report.proofs.lines.put_head.Goals as goal
 
 pub put-second-requires : goal.put-second-requires

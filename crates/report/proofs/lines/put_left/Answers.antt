@@ -4,7 +4,6 @@ use Rattle.report.proofs.LineLaws.{left_laid}
 use mathlib.Core.Path.{refl}
 use lib.ListN.{length}
 use Rattle.report.specs.Report.{ok_word}
-use borrow.Author.Rules.{rules}
 use Rattle.report.proofs.lines.put_left.Goals as goal
 
 pub put_types-requires : goal.put_types-requires

@@ -1,12 +1,9 @@
 use native.Mathlib.Omega.{arith}
-use Prim.Native.Nat.{◌≤◌, ◌+◌, ◌-◌}
-use mathlib.Core.List.{List}
-use mathlib.Core.Path.{◌≡◌, refl, ◌∙◌}
+use Prim.Native.Nat.{◌≤◌, ◌+◌}
+use mathlib.Core.Path.{refl, ◌∙◌}
 use lib.ListN.{length, get_or}
 use borrow.Author.Rules.{rules, scaled_Fits}
-use Rattle.model.specs.Types.{Ty}
-use Rattle.report.specs.Left.{LeftIs}
-use Rattle.report.proofs.LineLaws.{Walked, walk-starts, walk_due, walk_ends}
+use Rattle.report.proofs.LineLaws.{walk-starts, walk_due, walk_ends}
 use Rattle.report.proofs.lines.put_types.Goals as goal
 
 pub loop-i-init : goal.loop-i-init

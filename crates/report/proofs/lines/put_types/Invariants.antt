@@ -1,12 +1,10 @@
-use native.Mathlib.Omega.{arith}
-use Prim.Native.Nat.{◌≤◌, ◌+◌, ◌-◌}
+use Prim.Native.Nat.{◌≤◌, ◌-◌}
 use mathlib.Core.List.{List}
-use mathlib.Core.Path.{◌≡◌, refl, ◌∙◌}
-use lib.ListN.{length, get_or}
-use borrow.Author.Rules.{rules, scaled_Fits}
+use mathlib.Core.Path.{◌≡◌}
+use lib.ListN.{length}
 use Rattle.model.specs.Types.{Ty}
 use Rattle.report.specs.Left.{LeftIs}
-use Rattle.report.proofs.LineLaws.{Walked, walk-starts, walk_due, walk_ends}
+use Rattle.report.proofs.LineLaws.{Walked}
 use Rattle.report.proofs.lines.put_types.Given as goal
 
 abbrev pub invariant-loop-i : goal.invariant-loop-i

@@ -1,7 +1,6 @@
 use native.Mathlib.Omega.{arith}
 use Rattle.text.specs.RoundTrips.{length-hex_of}
 use Rattle.report.proofs.TextLaws.{placed-laid, never_short}
-use borrow.Author.Rules.{rules}
 use Rattle.report.proofs.parts.put_hex.Goals as goal
 
 pub returns-in-To : goal.returns-in-To

@@ -1,6 +1,5 @@
 use native.Mathlib.Omega.{arith}
 use Rattle.report.proofs.TextLaws.{length-decimal, placed-laid, never_short}
-use borrow.Author.Rules.{rules}
 use Rattle.report.proofs.parts.put_number.Goals as goal
 
 pub returns-in-To : goal.returns-in-To

@@ -5,7 +5,6 @@ use Rattle.lent.specs.Written.{delivered}
 use Rattle.stack.specs.Stack.{memory}
 use Rattle.stack.proofs.StackLaws.{stacked-count}
 use Rattle.run.proofs.SheetLaws.{handed-count, not-handed, handed-sizes}
-use borrow.Author.Rules.{rules}
 use Rattle.run.proofs.sheet.hand_over.Goals as goal
 
 pub returns-in-Wrote : goal.returns-in-Wrote

@@ -4,7 +4,6 @@ use lib.ListN.{drop}
 use lib.Seq.{length-take-le, drop_at}
 use Rattle.machine.specs.SheetLimits.{scratch_bytes}
 use Rattle.run.proofs.SheetLaws.{call-short, call_runs, length-again, zeroed-same}
-use borrow.Author.Rules.{rules}
 use Rattle.run.proofs.sheet.measure_sheet.Goals as goal
 
 pub returns-then-scratch-lt-SCRATCH_BYTES : goal.returns-then-scratch-lt-SCRATCH_BYTES

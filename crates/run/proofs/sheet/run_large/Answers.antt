@@ -7,7 +7,6 @@ use Rattle.stack.specs.Stack.{full_trays}
 use Rattle.stack.proofs.KeepsLaws.{trays_keep}
 use Rattle.run.proofs.SheetLaws.{state-kept, some-here, stopped-has, run_finished, run-refused}
 use Rattle.step.proofs.StepLaws.{has_kept}
-use borrow.Author.Rules.{rules}
 use Rattle.run.proofs.sheet.run_large.Goals as goal
 
 pub run_steps-ran-requires : goal.run_steps-ran-requires

@@ -1,7 +1,6 @@
 use mathlib.Core.Path.{refl}
 use Rattle.run.proofs.SheetLaws.{state-kept, run-left}
 use Rattle.step.proofs.StepLaws.{has_kept}
-use borrow.Author.Rules.{rules}
 use Rattle.run.proofs.sheet.run_rest.Goals as goal
 
 pub returns-then-sheet-at : goal.returns-then-sheet-at

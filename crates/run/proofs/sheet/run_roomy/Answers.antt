@@ -4,7 +4,6 @@ use mathlib.Core.Path.{◌∙◌}
 use lib.ListN.{length, length-replicate}
 use Rattle.model.specs.Limits.{max_bytes}
 use Rattle.run.proofs.SheetLaws.{some-here, run-stopped, stopped-has, stopped-names, run-refused}
-use borrow.Author.Rules.{rules}
 use Rattle.run.proofs.sheet.run_roomy.Goals as goal
 
 pub run_rest-requires : goal.run_rest-requires

@@ -2,7 +2,6 @@ use mathlib.Core.List.{[]}
 use mathlib.Core.Path.{refl}
 use Rattle.machine.specs.Sheet.{fresh}
 use Rattle.run.proofs.SheetLaws.{state-has, state-names, state-fresh, run-left, run-stopped, stopped-has, stopped-names, run-refused}
-use borrow.Author.Rules.{rules}
 use Rattle.run.proofs.sheet.run_small.Goals as goal
 
 pub run_steps-ran-requires : goal.run_steps-ran-requires

@@ -1,15 +1,11 @@
-use Prim.Native.Nat.{◌-◌}
 use native.Mathlib.Omega.{arith}
-use mathlib.Core.Path.{◌≡◌, refl, ◌∙◌}
+use mathlib.Core.Path.{refl, ◌∙◌}
 use mathlib.Core.Logic.{inl, inr}
-use lib.ListN.{length}
 use Rattle.format.specs.Reader.{Bytes}
-use Rattle.machine.specs.SheetLimits.{max_steps}
 use Rattle.machine.specs.Sheet.{sheet_from}
 use Rattle.stack.specs.Stack.{memory}
 use Rattle.step.specs.Answers.{name_table}
-use Rattle.run.proofs.SheetLaws.{GoingFrom, going-over, going-ends, going_step, going-stop, going_waits, going-has, going-names}
-use borrow.Author.Rules.{rules}
+use Rattle.run.proofs.SheetLaws.{going-over, going-ends, going_step, going-stop, going_waits, going-has, going-names}
 use Rattle.run.proofs.sheet.run_steps.Goals as goal
 
 pub loop-at-init : goal.loop-at-init

@@ -1,15 +1,10 @@
 use Prim.Native.Nat.{◌-◌}
-use native.Mathlib.Omega.{arith}
-use mathlib.Core.Path.{◌≡◌, refl, ◌∙◌}
-use mathlib.Core.Logic.{inl, inr}
+use mathlib.Core.Path.{◌≡◌}
 use lib.ListN.{length}
-use Rattle.format.specs.Reader.{Bytes}
 use Rattle.machine.specs.SheetLimits.{max_steps}
-use Rattle.machine.specs.Sheet.{sheet_from}
 use Rattle.stack.specs.Stack.{memory}
 use Rattle.step.specs.Answers.{name_table}
-use Rattle.run.proofs.SheetLaws.{GoingFrom, going-over, going-ends, going_step, going-stop, going_waits, going-has, going-names}
-use borrow.Author.Rules.{rules}
+use Rattle.run.proofs.SheetLaws.{GoingFrom}
 use Rattle.run.proofs.sheet.run_steps.Given as goal
 
 abbrev pub invariant-loop-at : goal.invariant-loop-at

@@ -1,9 +1,7 @@
 use native.Mathlib.Omega.{arith}
-use borrow.Author.Rules.{rules}
 use Rattle.known.proofs.KnownLaws.{deep, has-scalar}
 use Rattle.scalar.proofs.CallLaws.{kind-below}
 use Rattle.scalar.proofs.BoxLaws.{content-there, code-there, kinds_compatible, box-compatible, all-compatible, contents-no, contents-shapes}
-use Prim.Native.Nat.{ℕ, ◌<◌, ◌+◌, ◌*◌}
 use Rattle.scalar.proofs.boxes.+compatible_boxes_compatible_contents.Goals as goal
 
 pub compatible_boxes-inner_at-requires : goal.compatible_boxes-inner_at-requires

@@ -1,9 +1,4 @@
-use native.Mathlib.Omega.{arith}
-use borrow.Author.Rules.{rules}
-use Rattle.known.proofs.KnownLaws.{deep, has-scalar}
-use Rattle.scalar.proofs.CallLaws.{kind-below}
-use Rattle.scalar.proofs.BoxLaws.{content-there, code-there, kinds_compatible, box-compatible, all-compatible, contents-no, contents-shapes}
-use Prim.Native.Nat.{ℕ, ◌<◌, ◌+◌, ◌*◌}
+use Prim.Native.Nat.{◌+◌, ◌*◌}
 use Rattle.scalar.proofs.boxes.+compatible_boxes_compatible_contents.Given as goal
 
 abbrev pub decreases-compatible_boxes : goal.decreases-compatible_boxes

@@ -1,5 +1,4 @@
 use Rattle.scalar.proofs.BoxLaws.{inner-plain, inner-any, inner-all, inner-def}
-use borrow.Author.Rules.{rules}
 use Rattle.scalar.proofs.boxes.inner_at.Goals as goal
 
 pub returns-in-Plain : goal.returns-in-Plain

@@ -1,16 +1,12 @@
-use mathlib.Core.Path.{◌≡◌, refl, ◌∙◌}
-use native.Mathlib.Omega.{arith}
-use borrow.Author.Rules.{rules}
+use mathlib.Core.Path.{◌≡◌}
 use lib.ListN.{length}
 use Rattle.model.specs.Types.{Fields, field_count}
 use Rattle.format.specs.Records.{write_fields}
 use Rattle.lent.specs.Over.{over}
 use Rattle.rules.specs.Scalars.{unrefine_fields}
 use Rattle.known.specs.Known.{FieldsAt}
-use Rattle.known.proofs.KnownLaws.{deep, has-scalar}
-use Rattle.scalar.proofs.UnrefineLaws.{kind-there, unrefine-plain, unrefine-any, all_there, unrefine-all, fields-there, unrefine-def, unrefine-behind}
-use Rattle.scalar.proofs.UnrefineLaws.{FieldsLeft, left-start, left-type, left-next, left_end}
-use Prim.Native.Nat.{ℕ, ◌<◌, ◌+◌, ◌*◌}
+use Rattle.scalar.proofs.UnrefineLaws.{FieldsLeft}
+use Prim.Native.Nat.{◌+◌, ◌*◌}
 use Rattle.scalar.proofs.refinement.+unrefine_at_unrefine_fields_unrefine_type.Given as goal
 
 abbrev pub decreases-unrefine_at : goal.decreases-unrefine_at

@@ -11,7 +11,6 @@ use Rattle.record.specs.Answers.{lone_of}
 use Rattle.record.proofs.LoneLaws.{passed-refused, mapped-refused}
 use Rattle.known.proofs.WholeLaws.{has-type, scalar-inside}
 use Rattle.scalar.proofs.UnrefineLaws.{whole-short, laid-scalar, whole-wrote}
-use borrow.Author.Rules.{rules}
 use Rattle.scalar.proofs.refinement.unrefine.Goals as goal
 
 pub returns-in_default : goal.returns-in_default

@@ -8,7 +8,6 @@ use Rattle.rules.specs.Scalars.{compatible_scalars}
 use Rattle.record.specs.Answers.{lone_of}
 use Rattle.record.proofs.LoneLaws.{both-refused, both_read}
 use Rattle.scalar.proofs.CallLaws.{first-type, second_type, first-scalar, second-scalar, kinds_below, compatible-is}
-use borrow.Author.Rules.{rules}
 use Rattle.scalar.proofs.tests.compatible_scalars.Goals as goal
 
 pub returns-in_default : goal.returns-in_default

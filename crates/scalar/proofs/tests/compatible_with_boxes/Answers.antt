@@ -9,7 +9,6 @@ use Rattle.record.specs.Answers.{lone_of}
 use Rattle.record.proofs.LoneLaws.{both-refused, both_read}
 use Rattle.scalar.proofs.CallLaws.{first-type, second_type, boxes-is}
 use Rattle.known.proofs.WholeLaws.{has-scalars}
-use borrow.Author.Rules.{rules}
 use Rattle.scalar.proofs.tests.compatible_with_boxes.Goals as goal
 
 pub returns-in_default : goal.returns-in_default

@@ -1,5 +1,4 @@
 use Rattle.format.specs.Records.{code, write_scalar}
-use borrow.Author.Rules.{rules}
 use Rattle.scalar.proofs.unions.hand_box_any.Goals as goal
 
 pub returns : goal.returns

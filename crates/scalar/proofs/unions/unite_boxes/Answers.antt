@@ -1,5 +1,4 @@
 use Rattle.scalar.proofs.BoxLaws.{content-there, first_unites, second_unites, all_unite}
-use borrow.Author.Rules.{rules}
 use Rattle.scalar.proofs.unions.unite_boxes.Goals as goal
 
 pub inner_at-requires : goal.inner_at-requires

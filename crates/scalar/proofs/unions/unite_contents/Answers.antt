@@ -1,5 +1,4 @@
 use Rattle.scalar.proofs.BoxLaws.{none-later, second-later, same-later, first-later}
-use borrow.Author.Rules.{rules}
 use Rattle.scalar.proofs.unions.unite_contents.Goals as goal
 
 pub returns-in-Less : goal.returns-in-Less

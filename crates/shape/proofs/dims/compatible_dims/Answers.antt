@@ -1,15 +1,15 @@
 use borrow.Author.Rules.{rules}
 use mathlib.Core.Bool.{not}
-use mathlib.Core.Path.{◌≡◌, sym, ◌∙◌, ap}
+use mathlib.Core.Path.{sym, ◌∙◌, ap}
 use native.Mathlib.Omega.{arith}
-use Prim.Native.Nat.{◌-◌, ◌≤◌, ◌<◌}
+use Prim.Native.Nat.{◌-◌, ◌<◌}
 use mathlib.Core.Option.{none}
 use lib.ListN.{length}
 use Rattle.record.specs.Answers.{dims_of}
 use Rattle.record.proofs.ByValue.{size-at}
 use Rattle.rules.specs.Shapes.{says_no}
 use Rattle.rules.proofs.CompatibleLaws.{is_so_once}
-use Rattle.shape.proofs.DimsLaws.{PassFrom, pass_end, pass_all, pass_more, pass_stop}
+use Rattle.shape.proofs.DimsLaws.{pass_end, pass_all, pass_more, pass_stop}
 use Rattle.shape.proofs.dims.compatible_dims.Goals as goal
 
 pub returns-then-count-size_count : goal.returns-then-count-size_count

@@ -5,7 +5,6 @@ use Prim.Native.Nat.{◌-◌}
 use Rattle.model.specs.Types.{unknown}
 use Rattle.shape.proofs.DimsLaws.{end-past, end-there}
 use Rattle.record.specs.Answers.{dims_of}
-use borrow.Author.Rules.{rules}
 use Rattle.shape.proofs.dims.from_end.Goals as goal
 
 pub returns-then-count-i : goal.returns-then-count-i

@@ -3,7 +3,6 @@ use native.Mathlib.Omega.{arith}
 use Rattle.rules.proofs.Lists.{get_elem?-out}
 use Rattle.shape.proofs.DimsLaws.{slot_there}
 use Rattle.record.specs.Answers.{dims_of}
-use borrow.Author.Rules.{rules}
 use Rattle.shape.proofs.dims.get.Goals as goal
 
 pub returns-then-i-size_count : goal.returns-then-i-size_count

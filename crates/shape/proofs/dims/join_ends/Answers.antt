@@ -1,12 +1,11 @@
 use borrow.Author.Rules.{rules}
-use mathlib.Core.Path.{◌≡◌, sym, ◌∙◌}
+use mathlib.Core.Path.{sym, ◌∙◌}
 use native.Mathlib.Omega.{arith}
-use Prim.Native.Nat.{◌-◌, ◌≤◌}
-use lib.ListN.{length, length-set}
+use lib.ListN.{length-set}
 use Rattle.record.specs.Answers.{dims_of}
 use Rattle.rules.specs.Shapes.{join_ends}
 use Rattle.rules.proofs.ShapesLaws.{join_ends-length}
-use Rattle.shape.proofs.DimsLaws.{Built, build_start, build_end, ends_more}
+use Rattle.shape.proofs.DimsLaws.{build_start, build_end, ends_more}
 use mathlib.Core.List.{[]}
 use Rattle.shape.proofs.dims.join_ends.Goals as goal
 

@@ -2,7 +2,6 @@ use mathlib.Core.Path.{sym, ap, ◌∙◌}
 use Rattle.shape.specs.Answers.{spot_of}
 use Rattle.shape.proofs.DimsLaws.{merge_absent, merge_alone, merge_both}
 use Rattle.record.specs.Answers.{dims_of}
-use borrow.Author.Rules.{rules}
 use Rattle.shape.proofs.dims.merge_at.Goals as goal
 
 pub returns-in_default : goal.returns-in_default

@@ -3,9 +3,8 @@ use mathlib.Core.Path.{sym, ◌∙◌}
 use native.Mathlib.Omega.{arith}
 use Prim.Native.Nat.{◌-◌}
 use lib.ListN.{length-drop, drop}
-use mathlib.Core.Logic.{⊎_elim}
 use Rattle.record.specs.Answers.{dims_of}
-use Rattle.shape.proofs.DimsLaws.{Listed, listed-none, listed_more, listed-past, listed-all, rest-none, rest_more}
+use Rattle.shape.proofs.DimsLaws.{listed-none, listed_more, listed-past, listed-all, rest-none, rest_more}
 use Rattle.shape.proofs.dims.rest_dims.Goals.{else-i-count, then-i-count}
 use Rattle.shape.proofs.dims.rest_dims.Goals as goal
 

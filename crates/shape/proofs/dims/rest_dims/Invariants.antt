@@ -1,11 +1,7 @@
-use borrow.Author.Rules.{rules}
-use mathlib.Core.Path.{sym, ◌∙◌}
-use native.Mathlib.Omega.{arith}
 use Prim.Native.Nat.{◌-◌}
-use lib.ListN.{length-drop, drop}
-use mathlib.Core.Logic.{⊎_elim}
+use lib.ListN.{drop}
 use Rattle.record.specs.Answers.{dims_of}
-use Rattle.shape.proofs.DimsLaws.{Listed, listed-none, listed_more, listed-past, listed-all, rest-none, rest_more}
+use Rattle.shape.proofs.DimsLaws.{Listed}
 use Rattle.shape.proofs.dims.rest_dims.Given as goal
 
 abbrev pub invariant-loop-i : goal.invariant-loop-i

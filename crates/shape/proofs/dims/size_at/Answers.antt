@@ -3,7 +3,6 @@ use Rattle.shape.proofs.DimsLaws.{slot_size, slot_none}
 use Rattle.shape.specs.Answers.{spot_of}
 use Rattle.record.specs.Answers.{dims_of}
 use Rattle.model.specs.Types.{unknown}
-use borrow.Author.Rules.{rules}
 use Rattle.shape.proofs.dims.size_at.Goals as goal
 
 pub returns-in-Absent : goal.returns-in-Absent

@@ -1,7 +1,6 @@
 use borrow.Author.Tests.{ne_eqb}
 use Rattle.rules.specs.Pervade.{against_absent}
 use Rattle.shape.proofs.SizeLaws.{one_number}
-use borrow.Author.Rules.{rules}
 use Rattle.shape.proofs.pervade.against_absent.Goals as goal
 
 pub returns-then-size-eq1 : goal.returns-then-size-eq1

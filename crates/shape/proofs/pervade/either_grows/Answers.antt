@@ -1,5 +1,4 @@
 use Rattle.shape.proofs.PervadeLaws.{either_first, either_second}
-use borrow.Author.Rules.{rules}
 use Rattle.shape.proofs.pervade.either_grows.Goals as goal
 
 pub returns-then-may_grow : goal.returns-then-may_grow

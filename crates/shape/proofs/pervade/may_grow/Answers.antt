@@ -1,5 +1,4 @@
 use mathlib.Core.Path.{◌∙◌}
-use borrow.Author.Rules.{rules}
 use Rattle.shape.proofs.pervade.may_grow.Goals as goal
 
 pub returns-then-other_than_one : goal.returns-then-other_than_one

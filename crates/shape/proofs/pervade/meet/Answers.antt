@@ -1,7 +1,6 @@
 use mathlib.Core.Path.{refl, sym, ap}
 use Rattle.shape.specs.Answers.{spot_of}
 use Rattle.shape.proofs.PervadeLaws.{pervade-absent, pervade-alone, pervade-both}
-use borrow.Author.Rules.{rules}
 use Rattle.shape.proofs.pervade.meet.Goals as goal
 
 pub returns-in_default : goal.returns-in_default

@@ -1,6 +1,5 @@
 use borrow.Author.Tests.{ne_eqb}
 use Rattle.shape.proofs.PervadeLaws.{other-number}
-use borrow.Author.Rules.{rules}
 use Rattle.shape.proofs.pervade.other_than_one.Goals as goal
 
 pub returns-then-size-ne1 : goal.returns-then-size-ne1

@@ -1,7 +1,6 @@
 use mathlib.Core.Option.{none}
 use mathlib.Core.Path.{refl, ◌∙◌}
 use Rattle.shape.proofs.PervadeLaws.{closed-beside, pervaded-closed}
-use borrow.Author.Rules.{rules}
 use Rattle.shape.proofs.pervade.pervade_closed.Goals as goal
 
 pub returns : goal.returns

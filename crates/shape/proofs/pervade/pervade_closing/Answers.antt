@@ -3,7 +3,6 @@ use Rattle.record.specs.Answers.{dims_of, closing_for}
 use Rattle.model.specs.Types.{shape}
 use Rattle.record.proofs.ByValue.{closed_is, open_is}
 use Rattle.shape.proofs.PervadeLaws.{pervade-first, pervade-second, pervade_empty, pervade-named, pervade-twice}
-use borrow.Author.Rules.{rules}
 use Rattle.shape.proofs.pervade.pervade_closing.Goals as goal
 
 pub returns-then-a : goal.returns-then-a

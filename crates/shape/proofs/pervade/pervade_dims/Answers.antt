@@ -1,13 +1,11 @@
 use borrow.Author.Rules.{rules}
-use mathlib.Core.Path.{◌≡◌, sym, ap, ◌∙◌}
+use mathlib.Core.Path.{sym, ap, ◌∙◌}
 use native.Mathlib.Omega.{arith}
-use Prim.Native.Nat.{◌-◌, ◌≤◌}
-use lib.ListN.{length, length-set}
+use lib.ListN.{length-set}
 use mathlib.Core.List.{[]}
-use mathlib.Core.Logic.{⊎_elim}
 use Rattle.record.specs.Answers.{dims_of}
 use Rattle.shape.specs.Answers.{meeting_of, rule_for}
-use Rattle.shape.proofs.PervadeLaws.{looked_at, Walked, walk_start, walk_more, walk-stop, walk-whole}
+use Rattle.shape.proofs.PervadeLaws.{looked_at, walk_start, walk_more, walk-stop, walk-whole}
 use Rattle.rules.specs.Pervade.{clash}
 use Rattle.shape.proofs.pervade.pervade_dims.Goals.{else-i-count+in-Refuses, then-i-count}
 use Rattle.shape.proofs.pervade.pervade_dims.Goals as goal

@@ -1,14 +1,9 @@
-use borrow.Author.Rules.{rules}
-use mathlib.Core.Path.{◌≡◌, sym, ap, ◌∙◌}
-use native.Mathlib.Omega.{arith}
+use mathlib.Core.Path.{◌≡◌}
 use Prim.Native.Nat.{◌-◌, ◌≤◌}
-use lib.ListN.{length, length-set}
-use mathlib.Core.List.{[]}
-use mathlib.Core.Logic.{⊎_elim}
+use lib.ListN.{length}
 use Rattle.record.specs.Answers.{dims_of}
-use Rattle.shape.specs.Answers.{meeting_of, rule_for}
-use Rattle.shape.proofs.PervadeLaws.{looked_at, Walked, walk_start, walk_more, walk-stop, walk-whole}
-use Rattle.rules.specs.Pervade.{clash}
+use Rattle.shape.specs.Answers.{rule_for}
+use Rattle.shape.proofs.PervadeLaws.{Walked}
 use Rattle.shape.proofs.pervade.pervade_dims.Given as goal
 
 abbrev pub invariant-loop-i : goal.invariant-loop-i

@@ -2,7 +2,6 @@ use mathlib.Core.Path.{◌∙◌}
 use Rattle.record.specs.Answers.{closing_for}
 use Rattle.rules.specs.Pervade.{pervade_closing}
 use Rattle.shape.proofs.PervadeLaws.{closed-beside, pervaded-as}
-use borrow.Author.Rules.{rules}
 use Rattle.shape.proofs.pervade.pervade_dyn_shapes.Goals as goal
 
 pub returns : goal.returns

@@ -1,7 +1,6 @@
 use mathlib.Core.Path.{sym, ap, ◌∙◌}
 use Rattle.shape.specs.Answers.{order_of}
 use Rattle.shape.proofs.PervadeLaws.{together-first, together-second, together-unknown, together-static, together-order}
-use borrow.Author.Rules.{rules}
 use Rattle.shape.proofs.pervade.pervade_sizes.Goals as goal
 
 pub returns-then-a-eq1 : goal.returns-then-a-eq1

@@ -1,6 +1,4 @@
-use mathlib.Core.Logic.{⊎_elim}
 use Rattle.shape.proofs.PervadeLaws.{index-plain, index-grows, index_stays}
-use borrow.Author.Rules.{rules}
 use Rattle.shape.proofs.pervade.pervade_spots.Goals.{else-filling-via-else-filling, else-filling-via-then-filling+else-either_grows}
 use Rattle.shape.proofs.pervade.pervade_spots.Goals as goal
 

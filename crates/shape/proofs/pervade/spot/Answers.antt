@@ -1,4 +1,3 @@
-use borrow.Author.Rules.{rules}
 use Rattle.shape.proofs.pervade.spot.Goals as goal
 
 pub returns-then-there : goal.returns-then-there

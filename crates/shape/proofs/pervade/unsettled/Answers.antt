@@ -1,5 +1,4 @@
 use Rattle.shape.proofs.PervadeLaws.{unknown-number}
-use borrow.Author.Rules.{rules}
 use Rattle.shape.proofs.pervade.unsettled.Goals as goal
 
 pub returns : goal.returns

@@ -1,4 +1,3 @@
-use borrow.Author.Rules.{rules}
 use Rattle.shape.proofs.pervade.where_filled.Goals as goal
 
 pub returns-then-fill : goal.returns-then-fill

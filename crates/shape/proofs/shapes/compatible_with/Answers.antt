@@ -1,5 +1,4 @@
 use Rattle.rules.specs.Shapes.{compatible_with}
-use borrow.Author.Rules.{rules}
 use Rattle.shape.proofs.shapes.compatible_with.Goals as goal
 
 pub returns : goal.returns

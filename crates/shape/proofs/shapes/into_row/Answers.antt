@@ -5,7 +5,6 @@ use mathlib.Core.Bool.{cond}
 use mathlib.Core.Option.{none, some}
 use Rattle.model.specs.Types.{shape}
 use Rattle.shape.proofs.ShapeLaws.{row-opening, row-closing}
-use borrow.Author.Rules.{rules}
 use Rattle.shape.proofs.shapes.into_row.Goals as goal
 
 pub returns-then-size_count-gt0 : goal.returns-then-size_count-gt0

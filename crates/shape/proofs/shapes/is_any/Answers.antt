@@ -3,7 +3,6 @@ use native.Mathlib.Omega.{arith}
 use Rattle.record.specs.Answers.{dims_of, closing_for}
 use Rattle.record.proofs.ByValue.{closed_is, open_is}
 use Rattle.shape.proofs.ShapeLaws.{any-opening, any-closed, any_open}
-use borrow.Author.Rules.{rules}
 use Rattle.shape.proofs.shapes.is_any.Goals as goal
 
 pub returns-then-size_count-gt0 : goal.returns-then-size_count-gt0

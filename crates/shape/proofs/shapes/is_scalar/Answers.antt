@@ -2,7 +2,6 @@ use mathlib.Core.Path.{sym}
 use native.Mathlib.Omega.{arith}
 use Rattle.record.specs.Answers.{dims_of, closing_for}
 use Rattle.shape.proofs.ShapeLaws.{scalar-opening, scalar-closing}
-use borrow.Author.Rules.{rules}
 use Rattle.shape.proofs.shapes.is_scalar.Goals as goal
 
 pub returns-then-size_count-gt0 : goal.returns-then-size_count-gt0

@@ -2,7 +2,6 @@ use mathlib.Core.Path.{◌∙◌}
 use Rattle.record.specs.Answers.{dims_of, closing_for}
 use Rattle.record.proofs.ByValue.{closed_is, open_is}
 use Rattle.shape.proofs.ShapeLaws.{join-closed, join_open}
-use borrow.Author.Rules.{rules}
 use Rattle.shape.proofs.shapes.join.Goals as goal
 
 pub returns-then-a : goal.returns-then-a

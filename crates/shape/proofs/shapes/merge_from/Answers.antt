@@ -2,7 +2,6 @@ use mathlib.Core.Path.{ap, ◌∙◌}
 use Rattle.record.specs.Answers.{closing_for}
 use Rattle.model.specs.Types.{shape}
 use Rattle.rules.specs.Shapes.{merge_closing, merge_from}
-use borrow.Author.Rules.{rules}
 use Rattle.shape.proofs.shapes.merge_from.Goals as goal
 
 pub returns : goal.returns

@@ -2,7 +2,6 @@ use native.Mathlib.Omega.{arith}
 use Rattle.record.specs.Answers.{dims_of}
 use Rattle.record.proofs.ByValue.{closed_is, open_is}
 use Rattle.shape.proofs.ShapeLaws.{rank-closed, rank_open}
-use borrow.Author.Rules.{rules}
 use Rattle.shape.proofs.shapes.rank.Goals as goal
 
 pub returns-then-shape : goal.returns-then-shape

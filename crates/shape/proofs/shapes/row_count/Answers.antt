@@ -3,7 +3,6 @@ use Rattle.record.specs.Answers.{dims_of, closing_for}
 use Rattle.shape.specs.Answers.{spot_of}
 use Rattle.record.proofs.ByValue.{closed_is, open_is}
 use Rattle.shape.proofs.ShapeLaws.{rows-first, rows-closed, rows_open}
-use borrow.Author.Rules.{rules}
 use Rattle.shape.proofs.shapes.row_count.Goals as goal
 
 pub returns-in-Size : goal.returns-in-Size

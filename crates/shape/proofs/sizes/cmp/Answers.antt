@@ -1,6 +1,5 @@
 use borrow.Author.Tests.{eq-eqb, ne_eqb}
 use Rattle.rules.specs.Sizes.{cmp_dim}
-use borrow.Author.Rules.{rules}
 use Rattle.shape.proofs.sizes.cmp.Goals as goal
 
 pub returns-then-b-eq-UNKNOWN : goal.returns-then-b-eq-UNKNOWN

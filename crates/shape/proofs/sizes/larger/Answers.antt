@@ -1,7 +1,6 @@
 use mathlib.Core.Path.{sym, ap, ◌∙◌}
 use Rattle.rules.specs.Sizes.{larger}
 use Rattle.shape.specs.Answers.{order_of}
-use borrow.Author.Rules.{rules}
 use Rattle.shape.proofs.sizes.larger.Goals as goal
 
 pub returns-in-Less : goal.returns-in-Less

@@ -2,7 +2,6 @@ use mathlib.Core.Path.{sym, ◌∙◌}
 use borrow.Author.Tests.{eq-eqb, ne_eqb}
 use Rattle.rules.specs.Sizes.{row_compatible}
 use Rattle.shape.proofs.SizeLaws.{one_number}
-use borrow.Author.Rules.{rules}
 use Rattle.shape.proofs.sizes.row_compatible.Goals as goal
 
 pub returns-then-compatible : goal.returns-then-compatible

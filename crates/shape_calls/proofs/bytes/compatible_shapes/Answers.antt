@@ -3,7 +3,6 @@ use mathlib.Core.Path.{sym, ap, ◌∙◌}
 use Rattle.format.specs.Outcome.{accepted}
 use Rattle.rules.specs.Shapes.{compatible_with}
 use Rattle.shape_calls.proofs.CallLaws.{TwoRead, two-read, shapes-told, first-there, second-there, shapes_are}
-use borrow.Author.Rules.{rules}
 use Rattle.shape_calls.proofs.bytes.compatible_shapes.Goals as goal
 
 pub returns-in-Refused : goal.returns-in-Refused

@@ -5,7 +5,6 @@ use Rattle.format.specs.Outcome.{accepted, mapped}
 use Rattle.record.specs.Answers.{lone_of}
 use Rattle.rules.specs.Shapes.{row_count}
 use Rattle.shape_calls.proofs.CallLaws.{OneRead, shape-told, shape-there, shape_is}
-use borrow.Author.Rules.{rules}
 use Rattle.shape_calls.proofs.bytes.count_rows.Goals as goal
 
 pub returns-in_default : goal.returns-in_default

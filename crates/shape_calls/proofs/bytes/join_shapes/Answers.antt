@@ -6,7 +6,6 @@ use Rattle.record.specs.Answers.{lone_of}
 use Rattle.rules.specs.Shapes.{join_shapes}
 use Rattle.shape_calls.specs.Calls.{recorded}
 use Rattle.shape_calls.proofs.CallLaws.{TwoRead, two-read, shapes-told, first-there, second-there, shapes_are}
-use borrow.Author.Rules.{rules}
 use Rattle.shape_calls.proofs.bytes.join_shapes.Goals as goal
 
 pub returns-in_default : goal.returns-in_default

@@ -6,7 +6,6 @@ use Rattle.record.specs.Answers.{lone_of}
 use Rattle.rules.specs.Shapes.{merge_from}
 use Rattle.shape_calls.specs.Calls.{recorded}
 use Rattle.shape_calls.proofs.CallLaws.{TwoRead, two-read, shapes-told, first-there, second-there, shapes_are}
-use borrow.Author.Rules.{rules}
 use Rattle.shape_calls.proofs.bytes.merge.Goals as goal
 
 pub returns-in_default : goal.returns-in_default

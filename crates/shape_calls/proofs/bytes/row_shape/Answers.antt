@@ -6,7 +6,6 @@ use Rattle.record.specs.Answers.{lone_of}
 use Rattle.rules.specs.Shapes.{row_shape}
 use Rattle.shape_calls.specs.Calls.{recorded}
 use Rattle.shape_calls.proofs.CallLaws.{OneRead, shape-told, shape-there, shape_is}
-use borrow.Author.Rules.{rules}
 use Rattle.shape_calls.proofs.bytes.row_shape.Goals as goal
 
 pub returns-in_default : goal.returns-in_default

@@ -5,7 +5,6 @@ use Rattle.format.specs.Outcome.{accepted, mapped}
 use Rattle.record.specs.Answers.{lone_of}
 use Rattle.rules.specs.Shapes.{is_scalar}
 use Rattle.shape_calls.proofs.CallLaws.{OneRead, shape-told, shape-there, shape_is}
-use borrow.Author.Rules.{rules}
 use Rattle.shape_calls.proofs.bytes.shape_is_scalar.Goals as goal
 
 pub returns-in_default : goal.returns-in_default

@@ -4,7 +4,6 @@ use Rattle.format.specs.Outcome.{accepted}
 use Rattle.record.specs.Answers.{lone_of}
 use Rattle.rules.specs.Shapes.{rank}
 use Rattle.shape_calls.proofs.CallLaws.{OneRead, shape-told, shape-there, shape_is}
-use borrow.Author.Rules.{rules}
 use Rattle.shape_calls.proofs.bytes.shape_rank.Goals as goal
 
 pub returns-in_default : goal.returns-in_default

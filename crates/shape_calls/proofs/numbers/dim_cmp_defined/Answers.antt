@@ -3,7 +3,6 @@ use Rattle.rules.specs.Sizes.{cmp_defined}
 use Rattle.format.specs.Outcome.{accepted}
 use Rattle.shape_calls.specs.Answers.{judged_of}
 use Rattle.shape_calls.proofs.CallLaws.{sizes-told, sizes-passed}
-use borrow.Author.Rules.{rules}
 use Rattle.shape_calls.proofs.numbers.dim_cmp_defined.Goals as goal
 
 pub returns-in-Refused : goal.returns-in-Refused

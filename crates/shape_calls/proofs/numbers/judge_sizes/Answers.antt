@@ -1,7 +1,6 @@
 use mathlib.Core.Bool.{not}
 use mathlib.Core.Path.{sym, ap}
 use Rattle.shape_calls.proofs.CallLaws.{first-oversized, second-oversized, both-sizes}
-use borrow.Author.Rules.{rules}
 use Rattle.shape_calls.proofs.numbers.judge_sizes.Goals as goal
 
 pub returns-then-not-is_size : goal.returns-then-not-is_size

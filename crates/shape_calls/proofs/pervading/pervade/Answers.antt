@@ -7,7 +7,6 @@ use Rattle.rules.specs.Pervade as rules
 use Rattle.shape.specs.Answers.{shape_beside}
 use Rattle.shape_calls.specs.Calls.{pervaded}
 use Rattle.shape_calls.proofs.CallLaws.{TwoRead, two-read, shapes-told, first-there, second-there, shapes_are}
-use borrow.Author.Rules.{rules}
 use Rattle.shape_calls.proofs.pervading.pervade.Goals as goal
 
 pub returns-in_default : goal.returns-in_default

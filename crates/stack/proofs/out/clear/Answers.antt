@@ -1,5 +1,4 @@
 use Rattle.machine.specs.Call.{zeroed}
-use borrow.Author.Rules.{rules}
 use Rattle.stack.proofs.out.clear.Goals as goal
 
 pub returns : goal.returns

@@ -1,8 +1,6 @@
-use Prim.Native.Nat.{◌-◌}
 use native.Mathlib.Omega.{arith}
 use mathlib.Core.Path.{◌∙◌}
 use Rattle.stack.proofs.LyingLaws.{lies_packed}
-use borrow.Author.Rules.{rules}
 use Rattle.stack.proofs.out.lay_type.Goals as goal
 
 pub unpack-requires : goal.unpack-requires

@@ -1,11 +1,9 @@
-use Prim.Native.Nat.{◌+◌, ◌-◌, ◌≤◌, ◌<◌}
+use Prim.Native.Nat.{◌+◌, ◌≤◌, ◌<◌}
 use native.Mathlib.Omega.{arith}
-use mathlib.Core.List.{List}
 use mathlib.Core.Path.{◌≡◌, refl, sym, ◌∙◌, ap}
 use lib.ListN.{length, get_or}
-use Rattle.model.specs.Types.{Ty}
 use Rattle.lent.specs.Over.{over}
-use Rattle.stack.specs.Stack.{memory, Stacked}
+use Rattle.stack.specs.Stack.{memory}
 use Rattle.stack.proofs.OutLaws.{lowest_bytes, bytes-none, bytes-all, size-next, bytes-within, next_fits, laid_next, laid_none}
 use borrow.Author.Rules.{rules}
 use Rattle.stack.proofs.out.lay_types.Goals as goal

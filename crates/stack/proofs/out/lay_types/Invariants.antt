@@ -1,13 +1,11 @@
-use Prim.Native.Nat.{◌+◌, ◌-◌, ◌≤◌, ◌<◌}
-use native.Mathlib.Omega.{arith}
+use Prim.Native.Nat.{◌-◌, ◌≤◌}
 use mathlib.Core.List.{List}
-use mathlib.Core.Path.{◌≡◌, refl, sym, ◌∙◌, ap}
-use lib.ListN.{length, get_or}
+use mathlib.Core.Path.{◌≡◌}
+use lib.ListN.{length}
 use Rattle.model.specs.Types.{Ty}
 use Rattle.lent.specs.Over.{over}
 use Rattle.stack.specs.Stack.{memory, Stacked}
-use Rattle.stack.proofs.OutLaws.{lowest_bytes, bytes-none, bytes-all, size-next, bytes-within, next_fits, laid_next, laid_none}
-use borrow.Author.Rules.{rules}
+use Rattle.stack.proofs.OutLaws.{lowest_bytes}
 use Rattle.stack.proofs.out.lay_types.Given as goal
 
 abbrev pub invariant-loop-k : goal.invariant-loop-k

@@ -1,12 +1,9 @@
-use Prim.Native.Nat.{ℕ, ◌-◌, ◌*◌, ◌≤◌, ◌<◌}
+use Prim.Native.Nat.{◌<◌}
 use native.Mathlib.Omega.{arith}
-use mathlib.Core.List.{List}
 use mathlib.Core.Path.{◌≡◌, sym, ◌∙◌, ap}
 use lib.ListN.{length}
-use Rattle.model.specs.Limits.{max_bytes}
-use Rattle.model.specs.Types.{Ty}
-use Rattle.stack.specs.Stack.{memory, size, Stacked}
-use Rattle.stack.proofs.OutLaws.{lowest_bytes, bytes-none, bytes-all, size-next, long_most}
+use Rattle.stack.specs.Stack.{memory}
+use Rattle.stack.proofs.OutLaws.{bytes-none, bytes-all, size-next, long_most}
 use borrow.Author.Rules.{rules}
 use Rattle.stack.proofs.out.total.Goals as goal
 

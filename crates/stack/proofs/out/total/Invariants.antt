@@ -1,13 +1,11 @@
-use Prim.Native.Nat.{ℕ, ◌-◌, ◌*◌, ◌≤◌, ◌<◌}
-use native.Mathlib.Omega.{arith}
+use Prim.Native.Nat.{ℕ, ◌-◌, ◌*◌, ◌≤◌}
 use mathlib.Core.List.{List}
-use mathlib.Core.Path.{◌≡◌, sym, ◌∙◌, ap}
+use mathlib.Core.Path.{◌≡◌}
 use lib.ListN.{length}
 use Rattle.model.specs.Limits.{max_bytes}
 use Rattle.model.specs.Types.{Ty}
 use Rattle.stack.specs.Stack.{memory, size, Stacked}
-use Rattle.stack.proofs.OutLaws.{lowest_bytes, bytes-none, bytes-all, size-next, long_most}
-use borrow.Author.Rules.{rules}
+use Rattle.stack.proofs.OutLaws.{lowest_bytes}
 use Rattle.stack.proofs.out.total.Given as goal
 
 abbrev pub invariant-loop-k : goal.invariant-loop-k

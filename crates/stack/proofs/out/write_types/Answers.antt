@@ -1,8 +1,6 @@
-use Prim.Native.Nat.{◌-◌}
 use native.Mathlib.Omega.{arith}
 use mathlib.Core.Path.{refl, sym}
 use Rattle.lent.specs.Delivers.{deliver-short, deliver-wrote}
-use borrow.Author.Rules.{rules}
 use Rattle.stack.proofs.out.write_types.Goals as goal
 
 pub total-size-requires : goal.total-size-requires

@@ -1,4 +1,4 @@
-use Prim.Native.Nat.{◌-◌, ◌<◌}
+use Prim.Native.Nat.{◌<◌}
 use native.Mathlib.Omega.{arith}
 use mathlib.Core.Path.{refl, ◌∙◌}
 use lib.ListN.{length}
@@ -8,7 +8,6 @@ use Rattle.stack.proofs.StackLaws.{one_at}
 use Rattle.stack.proofs.LyingLaws.{lies_packed, not_packed}
 use Rattle.stack.proofs.ApartLaws.{tray_inside}
 use Rattle.stack.proofs.KeepsLaws.{unpacked-keeps}
-use borrow.Author.Rules.{rules}
 use Rattle.stack.proofs.tops.unpack_at.Goals as goal
 
 pub returns-then-ends-k-ne-PACKED_END : goal.returns-then-ends-k-ne-PACKED_END

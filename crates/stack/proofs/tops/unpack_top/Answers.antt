@@ -1,10 +1,7 @@
 use Prim.Native.Nat.{◌-◌}
 use native.Mathlib.Omega.{arith}
-use mathlib.Core.Path.{◌≡◌}
-use lib.ListN.{get_or}
 use Rattle.stack.specs.Stack.{NotPacked}
 use Rattle.stack.proofs.StackLaws.{top_one}
-use borrow.Author.Rules.{rules}
 use Rattle.stack.proofs.tops.unpack_top.Goals as goal
 
 pub unpack_at-requires : goal.unpack_at-requires

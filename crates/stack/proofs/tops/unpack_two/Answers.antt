@@ -1,10 +1,8 @@
 use Prim.Native.Nat.{◌-◌}
 use native.Mathlib.Omega.{arith}
-use mathlib.Core.Path.{◌≡◌, sym, ◌∙◌}
-use lib.ListN.{get_or}
+use mathlib.Core.Path.{sym, ◌∙◌}
 use Rattle.stack.specs.Stack.{NotPacked}
 use Rattle.stack.proofs.StackLaws.{top_two}
-use borrow.Author.Rules.{rules}
 use Rattle.stack.proofs.tops.unpack_two.Goals as goal
 
 pub unpack_at-requires : goal.unpack_at-requires

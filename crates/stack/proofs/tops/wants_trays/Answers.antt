@@ -6,7 +6,6 @@ use lib.ListN.{get_or}
 use Rattle.stack.specs.Stack.{memory, tray_bytes}
 use Rattle.stack.proofs.StackLaws.{top_alone, top_two}
 use Rattle.stack.proofs.OutLaws.{long_most}
-use borrow.Author.Rules.{rules}
 use Rattle.stack.proofs.tops.wants_trays.Goals as goal
 
 not-true : {C : Type 0} → false ≡ true → C

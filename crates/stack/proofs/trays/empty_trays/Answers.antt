@@ -1,9 +1,7 @@
-use Prim.Native.Nat.{ℕ, ◌+◌, ◌-◌, ◌≤◌, ◌<◌}
 use native.Mathlib.Omega.{arith}
-use mathlib.Core.List.{List}
 use mathlib.Core.Path.{◌≡◌, refl, sym, ◌∙◌}
-use lib.ListN.{length, get_or}
-use Rattle.stack.specs.Stack.{memory, tray_end, Keeps}
+use lib.ListN.{get_or}
+use Rattle.stack.specs.Stack.{tray_end}
 use Rattle.stack.proofs.StackLaws.{below_next}
 use borrow.Author.Rules.{rules}
 use Rattle.stack.proofs.trays.empty_trays.Goals as goal

@@ -1,11 +1,8 @@
-use Prim.Native.Nat.{ℕ, ◌+◌, ◌-◌, ◌%◌, ◌≤◌, ◌<◌}
-use native.Mathlib.Omega.{arith}
+use Prim.Native.Nat.{ℕ, ◌-◌, ◌%◌, ◌≤◌, ◌<◌}
 use mathlib.Core.List.{List}
-use mathlib.Core.Path.{◌≡◌, refl, sym, ◌∙◌}
+use mathlib.Core.Path.{◌≡◌}
 use lib.ListN.{length, get_or}
 use Rattle.stack.specs.Stack.{memory, tray_end, Keeps}
-use Rattle.stack.proofs.StackLaws.{below_next}
-use borrow.Author.Rules.{rules}
 use Rattle.stack.proofs.trays.free_tray.Given as goal
 
 abbrev pub invariant-loop-i : goal.invariant-loop-i

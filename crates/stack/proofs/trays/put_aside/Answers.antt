@@ -1,7 +1,7 @@
-use Prim.Native.Nat.{◌+◌, ◌-◌, ◌≤◌, ◌<◌}
+use Prim.Native.Nat.{◌<◌}
 use native.Mathlib.Omega.{arith}
-use mathlib.Core.Path.{◌≡◌, refl}
-use lib.ListN.{length, get_or}
+use mathlib.Core.Path.{refl}
+use lib.ListN.{length}
 use lib.Seq.{get_or-set_other}
 use Rattle.stack.specs.Stack.{memory, packed_end}
 use Rattle.stack.proofs.StackLaws.{one_at}

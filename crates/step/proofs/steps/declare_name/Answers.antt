@@ -1,5 +1,4 @@
 use mathlib.Core.Path.{refl}
-use borrow.Author.Rules.{rules}
 use Rattle.step.proofs.steps.declare_name.Goals as goal
 
 pub returns-then-many-gt-MAX_NAMES : goal.returns-then-many-gt-MAX_NAMES

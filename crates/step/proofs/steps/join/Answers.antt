@@ -4,7 +4,6 @@ use Rattle.machine.specs.Steps.{join}
 use Rattle.stack.specs.Stack.{memory}
 use Rattle.tops.proofs.TopLaws.{join-within}
 use Rattle.step.proofs.StepLaws.{ready_unpacked, works_kept, ruled_two, works_two, join_step}
-use borrow.Author.Rules.{rules}
 use Rattle.step.proofs.steps.join.Goals as goal
 
 pub join_top-w-requires : goal.join_top-w-requires

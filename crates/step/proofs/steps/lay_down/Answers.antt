@@ -1,14 +1,12 @@
 use Prim.Native.Nat.{◌-◌}
+use native.Mathlib.Omega.{arith}
 use mathlib.Core.List.{◌∷◌}
-use mathlib.Core.Logic.{inl, inr, ⊎_elim}
+use mathlib.Core.Logic.{inl, inr}
 use mathlib.Core.Path.{sym}
-use lib.ListN.{length, drop}
+use lib.ListN.{drop}
 use lib.Seq.{length-take-le}
-use borrow.Author.Tests.{ltb-true, ltb-false}
-use Rattle.model.specs.Limits.{max_bytes}
 use Rattle.step.proofs.StepLaws.{rule_wrote, rule_refused}
-use borrow.Author.Rules.{rules}
-use Rattle.step.proofs.steps.lay_down.Goals.{else-else-number-eq-TOO_SHORT, then-else-number-eq-TOO_SHORT}
+use Rattle.step.proofs.steps.lay_down.Goals.{else-number-eq-TOO_SHORT-via-else-number-eq-TOO_SHORT, else-number-eq-TOO_SHORT-via-then-number-eq-TOO_SHORT+else-out-lt-MAX_BYTES}
 use Rattle.step.proofs.steps.lay_down.Goals as goal
 
 pub slice_bounds-store-end : goal.slice_bounds-store-end
@@ -26,7 +24,7 @@ store-requires c =
 pub returns-then-out-lt-MAX_BYTES : goal.returns-then-out-lt-MAX_BYTES
 returns-then-out-lt-MAX_BYTES c =
     let args = c.args in
-    λ s ts o h ruled. inr (record { answer = c.wait.ensures.0; stacked = rw c.wait.ensures.1 h; short = ltb-true (length args.out.now) max_bytes c.if-out-lt-MAX_BYTES.true })
+    λ s ts o h ruled. inr (record { answer = c.wait.ensures.0; stacked = rw c.wait.ensures.1 h; short = c.if-out-lt-MAX_BYTES.true })
 
 pub returns-in-Wrote : goal.returns-in-Wrote
 returns-in-Wrote c =
@@ -43,5 +41,5 @@ returns-else-number-eq-TOO_SHORT c =
     inl (rw (
       c.refuse.ensures,
       rule_refused o args.w args.out.now c.in-Refused.is
-          (λ e. elim c.else-number-eq-TOO_SHORT.branch [ then-else-number-eq-TOO_SHORT w ↦ ltb-false (length args.out.now) max_bytes w.1.left | else-else-number-eq-TOO_SHORT w ↦ absurd (w.left e) ]) ruled.given,
+          (λ e. elim c.else-number-eq-TOO_SHORT.branch [ else-number-eq-TOO_SHORT-via-then-number-eq-TOO_SHORT+else-out-lt-MAX_BYTES w ↦ omega arith | else-number-eq-TOO_SHORT-via-else-number-eq-TOO_SHORT w ↦ omega arith ]) ruled.given,
     ))

@@ -4,7 +4,6 @@ use Rattle.stack.specs.Stack.{memory}
 use Rattle.tops.specs.Answers.{at_start}
 use Rattle.tops.proofs.TopLaws.{pervade-within}
 use Rattle.step.proofs.StepLaws.{ready_unpacked, works_kept, ruled_two, works_two, pervade-step}
-use borrow.Author.Rules.{rules}
 use Rattle.step.proofs.steps.pervade.Goals as goal
 
 pub pervade_top-w-requires : goal.pervade_top-w-requires

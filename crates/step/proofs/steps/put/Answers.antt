@@ -5,7 +5,6 @@ use mathlib.Core.Path.{◌≡◌}
 use Rattle.stack.specs.Stack.{memory}
 use Rattle.stack.proofs.StackLaws.{stacked-count}
 use Rattle.step.proofs.StepLaws.{put-worked}
-use borrow.Author.Rules.{rules}
 use Rattle.step.proofs.steps.put.Goals as goal
 
 pub returns : goal.returns

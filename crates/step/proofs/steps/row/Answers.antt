@@ -4,7 +4,6 @@ use Rattle.machine.specs.Steps.{row}
 use Rattle.stack.specs.Stack.{memory}
 use Rattle.tops.proofs.TopLaws.{row_within}
 use Rattle.step.proofs.StepLaws.{ready_unpacked, works_kept, ruled_one, works_one, row_step}
-use borrow.Author.Rules.{rules}
 use Rattle.step.proofs.steps.row.Goals as goal
 
 pub row_top-w-requires : goal.row_top-w-requires

@@ -1,6 +1,5 @@
 use native.Mathlib.Omega.{arith}
 use Rattle.step.proofs.StepLaws.{found_declared, found-undeclared}
-use borrow.Author.Rules.{rules}
 use Rattle.step.proofs.steps.use_name.Goals as goal
 
 pub put-requires : goal.put-requires

@@ -6,7 +6,6 @@ use Rattle.machine.specs.Steps.{validating}
 use Rattle.stack.specs.Stack.{memory}
 use Rattle.tops.proofs.TopLaws.{validated-within}
 use Rattle.step.proofs.StepLaws.{ready_unpacked, works_kept, ruled_one, works_one, validate-step}
-use borrow.Author.Rules.{rules}
 use Rattle.step.proofs.steps.validate.Goals as goal
 
 pub validate_top-w-requires : goal.validate_top-w-requires

@@ -8,7 +8,6 @@ use Rattle.machine.proofs.StepsTook.{took-step}
 use Rattle.step.proofs.StepLaws.{put-read, row_read, pervading-read, join-read, validating-read, declaring-read, using_read, step-unread}
 use Rattle.names.specs.TableLaws.{spans_forth, spans_there, spans_lone}
 use Rattle.step.proofs.StepLaws.{worked, worked_or_waits, declared, used, unworked}
-use borrow.Author.Rules.{rules}
 use Rattle.step.proofs.steps.work_step.Goals as goal
 
 pub put-worked-requires : goal.put-worked-requires

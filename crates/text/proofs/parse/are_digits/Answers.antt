@@ -1,9 +1,8 @@
 use borrow.Author.Rules.{rules}
-use Prim.Native.Nat.{◌≤◌, ◌-◌}
 use native.Mathlib.Omega.{arith}
 use mathlib.Core.Path.{◌≡◌, refl, sym, ◌∙◌}
-use lib.ListN.{length, get_or, drop}
-use Rattle.text.specs.Digits.{digit, are_digits}
+use lib.ListN.{get_or}
+use Rattle.text.specs.Digits.{digit}
 use Rattle.text.proofs.ParseLaws.{digits-stop, digits_more, digits-end}
 use Rattle.text.proofs.parse.are_digits.Goals as goal
 

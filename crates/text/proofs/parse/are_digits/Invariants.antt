@@ -1,10 +1,7 @@
-use borrow.Author.Rules.{rules}
 use Prim.Native.Nat.{◌≤◌, ◌-◌}
-use native.Mathlib.Omega.{arith}
-use mathlib.Core.Path.{◌≡◌, refl, sym, ◌∙◌}
-use lib.ListN.{length, get_or, drop}
-use Rattle.text.specs.Digits.{digit, are_digits}
-use Rattle.text.proofs.ParseLaws.{digits-stop, digits_more, digits-end}
+use mathlib.Core.Path.{◌≡◌}
+use lib.ListN.{length, drop}
+use Rattle.text.specs.Digits.{are_digits}
 use Rattle.text.proofs.parse.are_digits.Given as goal
 
 abbrev pub invariant-loop-i : goal.invariant-loop-i

@@ -2,7 +2,6 @@ use native.Mathlib.Omega.{arith}
 use mathlib.Core.Path.{sym, ◌∙◌}
 use Rattle.text.proofs.ParseLaws.{length-unhex}
 use Rattle.text.proofs.PlaceLaws.{place_short, place-fits, decode_odd, decode_wrong, decode_right}
-use borrow.Author.Rules.{rules}
 use Rattle.text.proofs.parse.decode_hex.Goals as goal
 
 pub returns-then-text-ne0 : goal.returns-then-text-ne0

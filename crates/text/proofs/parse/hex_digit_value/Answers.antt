@@ -1,7 +1,6 @@
 use native.Mathlib.Omega.{arith}
 use borrow.Author.Tests.{le-leb, lt-leb}
 use Rattle.text.specs.Digits.{digit}
-use borrow.Author.Rules.{rules}
 use Rattle.text.proofs.parse.hex_digit_value.Goals as goal
 
 pub returns-then-c-lt48 : goal.returns-then-c-lt48

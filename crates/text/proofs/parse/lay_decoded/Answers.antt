@@ -1,9 +1,9 @@
 use borrow.Author.Rules.{rules}
-use Prim.Native.Nat.{◌+◌, ◌*◌, ◌/◌, ◌≤◌, ◌<◌, ◌-◌}
+use Prim.Native.Nat.{◌+◌, ◌*◌, ◌<◌}
 use native.Mathlib.Omega.{arith}
-use mathlib.Core.Path.{◌≡◌, ◌∙◌}
-use lib.ListN.{length, get_or}
-use lib.Seq.{paste, paste-zero}
+use mathlib.Core.Path.{◌∙◌}
+use lib.ListN.{get_or}
+use lib.Seq.{paste-zero}
 use Rattle.text.specs.Digits.{digit, unhex}
 use Rattle.text.proofs.ParseLaws.{digit-below, length-unhex, decoded_more}
 use Rattle.text.proofs.PlaceLaws.{paste_all}

@@ -1,12 +1,8 @@
-use borrow.Author.Rules.{rules}
-use Prim.Native.Nat.{◌+◌, ◌*◌, ◌/◌, ◌≤◌, ◌<◌, ◌-◌}
-use native.Mathlib.Omega.{arith}
-use mathlib.Core.Path.{◌≡◌, ◌∙◌}
-use lib.ListN.{length, get_or}
-use lib.Seq.{paste, paste-zero}
-use Rattle.text.specs.Digits.{digit, unhex}
-use Rattle.text.proofs.ParseLaws.{digit-below, length-unhex, decoded_more}
-use Rattle.text.proofs.PlaceLaws.{paste_all}
+use Prim.Native.Nat.{◌/◌, ◌≤◌, ◌-◌}
+use mathlib.Core.Path.{◌≡◌}
+use lib.ListN.{length}
+use lib.Seq.{paste}
+use Rattle.text.specs.Digits.{unhex}
 use Rattle.text.proofs.parse.lay_decoded.Given as goal
 
 abbrev pub invariant-loop-i : goal.invariant-loop-i

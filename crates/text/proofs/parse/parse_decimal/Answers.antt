@@ -1,7 +1,6 @@
 use mathlib.Core.Path.{◌∙◌}
 use lib.ListN.{length}
 use borrow.Author.Tests.{le-leb, lt-leb}
-use borrow.Author.Rules.{rules}
 use Rattle.text.proofs.parse.parse_decimal.Goals as goal
 
 pub returns-then-text-lt1 : goal.returns-then-text-lt1

@@ -1,9 +1,9 @@
 use borrow.Author.Rules.{rules}
-use Prim.Native.Nat.{◌+◌, ◌*◌, ◌^◌, ◌≤◌, ◌<◌, ◌-◌}
+use Prim.Native.Nat.{◌+◌, ◌*◌, ◌^◌, ◌<◌}
 use native.Mathlib.Omega.{arith}
 use mathlib.Core.Path.{◌≡◌, refl, sym, ap, ◌∙◌}
-use lib.ListN.{length, get_or, drop}
-use Rattle.text.specs.Digits.{digit, are_digits, number_after}
+use lib.ListN.{get_or, drop}
+use Rattle.text.specs.Digits.{digit, number_after}
 use Rattle.text.proofs.ParseLaws.{digits-stop, digits_more, digits-end, number_more, number-end, numeral_wrong, numeral-right, room-left, numeral-over}
 use Rattle.text.proofs.parse.parse_number.Goals as goal
 

@@ -1,9 +1,9 @@
 use borrow.Author.Rules.{rules}
-use Prim.Native.Nat.{◌*◌, ◌≤◌, ◌-◌}
+use Prim.Native.Nat.{◌*◌}
 use native.Mathlib.Omega.{arith}
-use mathlib.Core.Path.{◌≡◌, ◌∙◌}
-use lib.ListN.{length, length-set}
-use lib.Seq.{paste, paste-zero}
+use mathlib.Core.Path.{◌∙◌}
+use lib.ListN.{length-set}
+use lib.Seq.{paste-zero}
 use Rattle.text.specs.Digits.{hex_of}
 use Rattle.text.proofs.PlaceLaws.{paste_all}
 use Rattle.text.specs.RoundTrips.{length-hex_of}

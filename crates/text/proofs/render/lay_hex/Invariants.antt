@@ -1,13 +1,8 @@
-use borrow.Author.Rules.{rules}
 use Prim.Native.Nat.{◌*◌, ◌≤◌, ◌-◌}
-use native.Mathlib.Omega.{arith}
-use mathlib.Core.Path.{◌≡◌, ◌∙◌}
-use lib.ListN.{length, length-set}
-use lib.Seq.{paste, paste-zero}
+use mathlib.Core.Path.{◌≡◌}
+use lib.ListN.{length}
+use lib.Seq.{paste}
 use Rattle.text.specs.Digits.{hex_of}
-use Rattle.text.proofs.PlaceLaws.{paste_all}
-use Rattle.text.specs.RoundTrips.{length-hex_of}
-use Rattle.text.proofs.RenderLaws.{hex_more}
 use Rattle.text.proofs.render.lay_hex.Given as goal
 
 abbrev pub invariant-loop-i : goal.invariant-loop-i

@@ -1,7 +1,6 @@
 use native.Mathlib.Omega.{arith}
 use mathlib.Core.Path.{refl}
 use Rattle.text.proofs.PlaceLaws.{place_short, place-fits}
-use borrow.Author.Rules.{rules}
 use Rattle.text.proofs.render.put_bytes.Goals as goal
 
 pub returns-then-out-n : goal.returns-then-out-n

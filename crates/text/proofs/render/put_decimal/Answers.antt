@@ -1,7 +1,6 @@
 use mathlib.Core.Path.{ap, ◌∙◌}
 use Rattle.text.specs.Place.{place}
 use Rattle.text.proofs.RenderLaws.{fewest_digits}
-use borrow.Author.Rules.{rules}
 use Rattle.text.proofs.render.put_decimal.Goals as goal
 
 pub returns : goal.returns

@@ -1,7 +1,6 @@
 use native.Mathlib.Omega.{arith}
 use Rattle.text.specs.RoundTrips.{length-hex_of}
 use Rattle.text.proofs.PlaceLaws.{place_short, place-fits}
-use borrow.Author.Rules.{rules}
 use Rattle.text.proofs.render.put_hex.Goals as goal
 
 pub returns-then-out-at : goal.returns-then-out-at

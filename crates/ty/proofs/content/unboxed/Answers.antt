@@ -10,7 +10,6 @@ use Rattle.rules.specs.Types.{unboxed}
 use Rattle.known.proofs.WholeLaws.{whole-shape}
 use Rattle.ty.proofs.PartLaws.{type-known}
 use Rattle.ty.proofs.ContentLaws.{unboxed_in, unboxed-out}
-use borrow.Author.Rules.{rules}
 use Rattle.ty.proofs.content.unboxed.Goals as goal
 
 pub returns-in_default : goal.returns-in_default

@@ -6,7 +6,6 @@ use Rattle.ty.specs.Parts.{part_of}
 use Rattle.lent.specs.Delivers.{deliver-as}
 use Rattle.ty.proofs.PartLaws.{type-known, scalar-known, inside, the_all, the_def}
 use Rattle.ty.proofs.ContentLaws.{field-there, content-all, content-plain, content-any, content-first, content-none}
-use borrow.Author.Rules.{rules}
 use Rattle.ty.proofs.content.write_content.Goals as goal
 
 pub scalar_at-requires : goal.scalar_at-requires

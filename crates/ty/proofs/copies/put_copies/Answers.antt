@@ -1,10 +1,8 @@
-use mathlib.Core.Path.{◌≡◌, refl, ap, ◌∙◌}
+use mathlib.Core.Path.{refl, ap, ◌∙◌}
 use native.Mathlib.Omega.{arith}
-use Prim.Native.Nat.{◌+◌, ◌-◌, ◌≤◌}
 use borrow.Author.Rules.{rules}
-use lib.ListN.{length}
 use Rattle.ty.specs.Copies.{repeated}
-use Rattle.ty.proofs.CopyLaws.{one_more, CopiesLaid, lay-none, lay-more, repeated-none, repeated-more}
+use Rattle.ty.proofs.CopyLaws.{one_more, lay-none, lay-more, repeated-none, repeated-more}
 use Rattle.lent.specs.Over.{over}
 use Rattle.ty.proofs.copies.put_copies.Goals as goal
 

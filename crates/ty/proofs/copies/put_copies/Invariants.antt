@@ -1,11 +1,8 @@
-use mathlib.Core.Path.{◌≡◌, refl, ap, ◌∙◌}
-use native.Mathlib.Omega.{arith}
+use mathlib.Core.Path.{◌≡◌}
 use Prim.Native.Nat.{◌+◌, ◌-◌, ◌≤◌}
-use borrow.Author.Rules.{rules}
 use lib.ListN.{length}
 use Rattle.ty.specs.Copies.{repeated}
-use Rattle.ty.proofs.CopyLaws.{one_more, CopiesLaid, lay-none, lay-more, repeated-none, repeated-more}
-use Rattle.lent.specs.Over.{over}
+use Rattle.ty.proofs.CopyLaws.{CopiesLaid}
 use Rattle.ty.proofs.copies.put_copies.Given as goal
 
 abbrev pub invariant-loop-i : goal.invariant-loop-i

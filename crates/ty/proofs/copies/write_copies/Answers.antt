@@ -2,7 +2,6 @@ use mathlib.Core.Path.{sym, ap, ◌∙◌}
 use Rattle.format.specs.Outcome.{deliver}
 use Rattle.lent.specs.Delivers.{deliver-refused}
 use Rattle.ty.proofs.CopyLaws.{rows-unknown, rows-over, rows-some}
-use borrow.Author.Rules.{rules}
 use Rattle.ty.proofs.copies.write_copies.Goals as goal
 
 pub returns-then-rows-eq-UNKNOWN : goal.returns-then-rows-eq-UNKNOWN

@@ -2,7 +2,6 @@ use mathlib.Core.Path.{◌∙◌}
 use native.Mathlib.Omega.{arith}
 use lib.ListN.{length-set}
 use Rattle.ty.proofs.CopyLaws.{length-repeated, copies-fit, list_short, list_wrote}
-use borrow.Author.Rules.{rules}
 use Rattle.ty.proofs.copies.write_list.Goals as goal
 
 pub overflow_mul-size : goal.overflow_mul-size

@@ -2,7 +2,6 @@ use mathlib.Core.Option.{none}
 use mathlib.Core.Path.{sym, ap}
 use Rattle.format.specs.Outcome.{mapped}
 use Rattle.record.specs.Answers.{lone_of}
-use borrow.Author.Rules.{rules}
 use Rattle.ty.proofs.fields.as_found.Goals as goal
 
 pub returns-in-Refused : goal.returns-in-Refused

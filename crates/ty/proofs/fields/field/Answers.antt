@@ -9,7 +9,6 @@ use Rattle.record.proofs.LoneLaws.{passed-refused, mapped-refused}
 use Rattle.ty.specs.Parts.{part_of}
 use Rattle.ty.proofs.PartLaws.{type-known, scalar-known, inside, the_def}
 use Rattle.ty.proofs.FieldLaws.{field-none}
-use borrow.Author.Rules.{rules}
 use Rattle.ty.proofs.fields.field.Goals as goal
 
 pub returns-in_default : goal.returns-in_default

@@ -10,7 +10,6 @@ use Rattle.known.proofs.WholeLaws.{whole-shape}
 use Rattle.ty.proofs.PartLaws.{type-known, scalar-known, inside, the_all}
 use Rattle.ty.proofs.ContentLaws.{rest-short, lone-short}
 use Rattle.ty.proofs.ListingLaws.{offer_is, boxes-refused, boxes-plain, boxes-any, boxes-all, name-within, boxes-def}
-use borrow.Author.Rules.{rules}
 use Rattle.ty.proofs.listing.as_boxes.Goals as goal
 
 pub returns-in_default : goal.returns-in_default

@@ -2,7 +2,6 @@ use mathlib.Core.Path.{sym, ap}
 use mathlib.Core.Option.{some}
 use Rattle.format.specs.Outcome.{mapped}
 use Rattle.lent.specs.Written.{written_of}
-use borrow.Author.Rules.{rules}
 use Rattle.ty.proofs.listing.offer.Goals as goal
 
 pub returns-in-Wrote : goal.returns-in-Wrote

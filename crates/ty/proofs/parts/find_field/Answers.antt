@@ -1,5 +1,4 @@
 use Rattle.ty.proofs.FieldLaws.{find_none, has-fields, field-type, find_forward, find_some}
-use borrow.Author.Rules.{rules}
 use Rattle.ty.proofs.parts.find_field.Goals as goal
 
 pub returns-then-count-n : goal.returns-then-count-n

@@ -1,7 +1,6 @@
 use mathlib.Core.Path.{sym, ap, ◌∙◌}
 use Rattle.ty.specs.Rows.{index_of}
 use Rattle.ty.proofs.RowLaws.{index-first, index-none, index-last, index-low, index-high}
-use borrow.Author.Rules.{rules}
 use Rattle.ty.proofs.rows.index_of.Goals as goal
 
 pub returns-then-count-eq0 : goal.returns-then-count-eq0

@@ -5,7 +5,6 @@ use Rattle.known.proofs.WholeLaws.{scalar-inside}
 use Rattle.lent.specs.Delivers.{deliver-as}
 use Rattle.ty.proofs.PartLaws.{type-known}
 use Rattle.ty.proofs.RowLaws.{keep_bytes}
-use borrow.Author.Rules.{rules}
 use Rattle.ty.proofs.rows.keep_scalar.Goals as goal
 
 pub scalar_at-start-requires : goal.scalar_at-start-requires

@@ -5,7 +5,6 @@ use Rattle.known.proofs.WholeLaws.{whole-shape}
 use Rattle.lent.specs.Delivers.{deliver-as}
 use Rattle.ty.proofs.PartLaws.{type-known, scalar-known, inside, the_def}
 use Rattle.ty.proofs.RowLaws.{row_ranked, row_kept, row-taken}
-use borrow.Author.Rules.{rules}
 use Rattle.ty.proofs.rows.row_any.Goals as goal
 
 pub shape_at-shape-requires : goal.shape_at-shape-requires

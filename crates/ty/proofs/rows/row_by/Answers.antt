@@ -6,7 +6,6 @@ use Rattle.record.proofs.LoneLaws.{passed-refused, mapped-refused}
 use Rattle.format.specs.Records.{write_ty}
 use Rattle.rules.specs.Types.{row_by}
 use Rattle.ty.specs.Rows.{chosen}
-use borrow.Author.Rules.{rules}
 use Rattle.ty.proofs.rows.row_by.Goals as goal
 
 pub returns-in_default : goal.returns-in_default

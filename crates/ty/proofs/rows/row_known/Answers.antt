@@ -3,7 +3,6 @@ use Rattle.format.specs.Reader.{Bytes}
 use Rattle.lent.specs.Delivers.{deliver-as}
 use Rattle.ty.proofs.PartLaws.{type-known, scalar-known}
 use Rattle.ty.proofs.RowLaws.{code-known, row-closed}
-use borrow.Author.Rules.{rules}
 use Rattle.ty.proofs.rows.row_known.Goals as goal
 
 pub closed_at-requires : goal.closed_at-requires

@@ -7,7 +7,6 @@ use Rattle.ty.specs.Parts.{part_of}
 use Rattle.lent.specs.Delivers.{deliver-as}
 use Rattle.ty.proofs.ContentLaws.{field-there}
 use Rattle.ty.proofs.RowLaws.{take_found, take_none}
-use borrow.Author.Rules.{rules}
 use Rattle.ty.proofs.rows.take_field.Goals as goal
 
 pub overflow_add-end : goal.overflow_add-end

@@ -2,7 +2,6 @@ use mathlib.Core.Path.{refl}
 use Rattle.format.specs.Records.{write_shape}
 use Rattle.record.specs.Answers.{shape_for}
 use Rattle.ty.proofs.RowLaws.{parts-short, parts-wrote}
-use borrow.Author.Rules.{rules}
 use Rattle.ty.proofs.rows.write_parts.Goals as goal
 
 pub returns-then-res-size : goal.returns-then-res-size

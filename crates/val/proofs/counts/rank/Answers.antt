@@ -3,7 +3,6 @@ use Rattle.model.specs.Types.{shape_of}
 use Rattle.rules.specs.Shapes.{rank}
 use Rattle.val.specs.Values.{value_rank}
 use Rattle.val.proofs.HandedLaws.{maps_number, maps_list, maps_type}
-use borrow.Author.Rules.{rules}
 use Rattle.val.proofs.counts.rank.Goals as goal
 
 pub returns-in-Num : goal.returns-in-Num

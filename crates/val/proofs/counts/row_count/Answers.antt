@@ -3,7 +3,6 @@ use Rattle.model.specs.Types.{shape_of}
 use Rattle.rules.specs.Shapes.{row_count}
 use Rattle.val.specs.Values.{value_row_count}
 use Rattle.val.proofs.HandedLaws.{for_number, for_list, for_type}
-use borrow.Author.Rules.{rules}
 use Rattle.val.proofs.counts.row_count.Goals as goal
 
 pub returns-in-Num : goal.returns-in-Num

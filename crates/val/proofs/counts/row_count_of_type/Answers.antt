@@ -8,7 +8,6 @@ use Rattle.record.specs.Answers.{lone_of}
 use Rattle.record.proofs.LoneLaws.{passed-refused, mapped-refused}
 use Rattle.rules.specs.Shapes.{row_count}
 use Rattle.val.proofs.CountLaws.{asked-shape}
-use borrow.Author.Rules.{rules}
 use Rattle.val.proofs.counts.row_count_of_type.Goals as goal
 
 pub returns-in_default : goal.returns-in_default

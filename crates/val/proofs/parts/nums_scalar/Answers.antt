@@ -3,7 +3,6 @@ use mathlib.Core.Path.{ap, ◌∙◌}
 use Rattle.number.specs.Kind.{kind_of_numbers}
 use Rattle.format.specs.Outcome.{accepted, deliver}
 use Rattle.val.proofs.KindLaws.{scalar_of-kind, code-byte}
-use borrow.Author.Rules.{rules}
 use Rattle.val.proofs.parts.nums_scalar.Goals as goal
 
 pub overflow_cast-kind_of : goal.overflow_cast-kind_of

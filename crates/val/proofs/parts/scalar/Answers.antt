@@ -4,7 +4,6 @@ use mathlib.Core.Path.{sym, ap, ◌∙◌}
 use Rattle.number.specs.Kind.{kind_of_numbers}
 use Rattle.format.specs.Outcome.{deliver}
 use Rattle.val.proofs.KindLaws.{scalar-number, scalar_list, scalar-type, code-byte}
-use borrow.Author.Rules.{rules}
 use Rattle.val.proofs.parts.scalar.Goals as goal
 
 pub overflow_cast-kind_of_number : goal.overflow_cast-kind_of_number

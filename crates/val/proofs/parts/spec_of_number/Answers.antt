@@ -2,7 +2,6 @@ use mathlib.Core.Path.{sym, ap, ◌∙◌}
 use Rattle.format.specs.Outcome.{deliver}
 use Rattle.lent.specs.Delivers.{deliver-refused}
 use Rattle.val.proofs.PartLaws.{spec-sized, spec_unsized}
-use borrow.Author.Rules.{rules}
 use Rattle.val.proofs.parts.spec_of_number.Goals as goal
 
 pub returns-in-Size : goal.returns-in-Size

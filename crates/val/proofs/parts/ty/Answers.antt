@@ -4,7 +4,6 @@ use Rattle.format.specs.Records.{write_ty}
 use Rattle.val.specs.Values.{value_ty}
 use Rattle.val.proofs.HandedLaws.{for_list}
 use Rattle.val.proofs.PartLaws.{ty-number, type_itself}
-use borrow.Author.Rules.{rules}
 use Rattle.val.proofs.parts.ty.Goals as goal
 
 pub returns-in-Num : goal.returns-in-Num

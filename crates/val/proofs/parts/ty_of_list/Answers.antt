@@ -2,7 +2,6 @@ use mathlib.Core.Path.{sym, ap, ◌∙◌}
 use Rattle.format.specs.Outcome.{deliver}
 use Rattle.lent.specs.Delivers.{deliver-refused}
 use Rattle.val.proofs.PartLaws.{ty-counted, ty_uncounted}
-use borrow.Author.Rules.{rules}
 use Rattle.val.proofs.parts.ty_of_list.Goals as goal
 
 pub returns-in-Count : goal.returns-in-Count

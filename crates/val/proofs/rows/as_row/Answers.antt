@@ -1,7 +1,6 @@
 use mathlib.Core.Path.{sym, ap}
 use Rattle.lent.specs.Written.{delivered}
 use Rattle.val.specs.Values.{written}
-use borrow.Author.Rules.{rules}
 use Rattle.val.proofs.rows.as_row.Goals as goal
 
 pub returns-in-Wrote : goal.returns-in-Wrote

@@ -2,7 +2,6 @@ use mathlib.Core.Path.{sym, ap, ◌∙◌}
 use Rattle.format.specs.Outcome.{accepted}
 use Rattle.val.specs.Values.{deliver_row}
 use Rattle.val.proofs.RowLaws.{deliver-number, first-none, first_some}
-use borrow.Author.Rules.{rules}
 use Rattle.val.proofs.rows.first_of_list.Goals as goal
 
 pub returns-then-list-eq0 : goal.returns-then-list-eq0

@@ -1,5 +1,4 @@
 use Rattle.val.specs.Values.{value_row}
-use borrow.Author.Rules.{rules}
 use Rattle.val.proofs.rows.into_row.Goals as goal
 
 pub returns : goal.returns

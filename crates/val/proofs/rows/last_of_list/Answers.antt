@@ -2,7 +2,6 @@ use mathlib.Core.Path.{sym, ap, ◌∙◌}
 use Rattle.format.specs.Outcome.{accepted}
 use Rattle.val.specs.Values.{deliver_row}
 use Rattle.val.proofs.RowLaws.{deliver-number, last_none, last_some}
-use borrow.Author.Rules.{rules}
 use Rattle.val.proofs.rows.last_of_list.Goals as goal
 
 pub returns-then-n-eq0 : goal.returns-then-n-eq0

@@ -2,7 +2,6 @@ use mathlib.Core.Path.{sym, ◌∙◌, ap}
 use Rattle.format.specs.Outcome.{accepted}
 use Rattle.val.specs.Answers.{list_row_for}
 use Rattle.val.specs.Values.{deliver_row}
-use borrow.Author.Rules.{rules}
 use Rattle.val.proofs.rows.list_row.Goals as goal
 
 pub returns-in-Every : goal.returns-in-Every

@@ -2,7 +2,6 @@ use mathlib.Core.Path.{◌∙◌, ap, refl}
 use Rattle.val.specs.Answers.{type_row_for, value_row_for}
 use Rattle.val.specs.Values.{written}
 use Rattle.val.proofs.RowLaws.{rows-number, rows_list, rows-type}
-use borrow.Author.Rules.{rules}
 use Rattle.val.proofs.rows.row_by.Goals as goal
 
 pub returns-in-Num : goal.returns-in-Num

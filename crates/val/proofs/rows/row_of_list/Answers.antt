@@ -3,7 +3,6 @@ use Rattle.format.specs.Outcome.{accepted, deliver}
 use Rattle.val.specs.Values.{written}
 use Rattle.val.proofs.WriteLaws.{write_num}
 use Rattle.val.proofs.RowLaws.{deliver-number, deliver-typed, row_one, row_other}
-use borrow.Author.Rules.{rules}
 use Rattle.val.proofs.rows.row_of_list.Goals as goal
 
 pub returns-then-list-eq1 : goal.returns-then-list-eq1

@@ -2,7 +2,6 @@ use mathlib.Core.Path.{sym, ◌∙◌, ap}
 use Rattle.format.specs.Records.{write_ty}
 use Rattle.format.specs.Outcome.{mapped, lone, deliver}
 use Rattle.val.specs.Answers.{type_row_for}
-use borrow.Author.Rules.{rules}
 use Rattle.val.proofs.rows.type_row.Goals as goal
 
 pub returns-in-Every : goal.returns-in-Every

@@ -1,7 +1,6 @@
 use mathlib.Core.Path.{refl, sym, ◌∙◌}
 use Rattle.val.specs.Values.{value_as_dim}
 use Rattle.val.proofs.HandedLaws.{for_number, for_list, for_any-type}
-use borrow.Author.Rules.{rules}
 use Rattle.val.proofs.sizes.as_dim.Goals as goal
 
 pub returns-in-Num : goal.returns-in-Num

@@ -3,7 +3,6 @@ use Rattle.record.specs.Answers.{dims_of}
 use Rattle.val.specs.Answers.{maybe_dims}
 use Rattle.val.specs.Values.{value_as_dims}
 use Rattle.val.proofs.HandedLaws.{for_number, for_list, for_any-type}
-use borrow.Author.Rules.{rules}
 use Rattle.val.proofs.sizes.as_dims.Goals as goal
 
 pub returns-in-Num : goal.returns-in-Num

@@ -3,7 +3,6 @@ use mathlib.Core.Option.{some}
 use Rattle.format.specs.Outcome.{mapped}
 use Rattle.val.specs.Values.{value_as_dim}
 use Rattle.val.proofs.NumberLaws.{alone-sized, alone-refused}
-use borrow.Author.Rules.{rules}
 use Rattle.val.proofs.sizes.dim_of_number.Goals as goal
 
 pub returns-in-Size : goal.returns-in-Size

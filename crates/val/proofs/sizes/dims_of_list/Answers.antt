@@ -5,7 +5,6 @@ use Rattle.record.specs.Answers.{dims_of}
 use Rattle.val.specs.Answers.{maybe_dims}
 use Rattle.val.specs.Values.{value_as_dims}
 use Rattle.val.proofs.NumberLaws.{listed-counted, listed-refused}
-use borrow.Author.Rules.{rules}
 use Rattle.val.proofs.sizes.dims_of_list.Goals as goal
 
 pub returns-in-Count : goal.returns-in-Count

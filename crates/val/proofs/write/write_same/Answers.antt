@@ -6,7 +6,6 @@ use Rattle.lent.specs.Delivers.{deliver-handed}
 use Rattle.record.specs.Answers.{lone_of}
 use Rattle.record.proofs.LoneLaws.{passed-refused, mapped-refused}
 use Rattle.val.proofs.WriteLaws.{write_same}
-use borrow.Author.Rules.{rules}
 use Rattle.val.proofs.write.write_same.Goals as goal
 
 pub returns-in_default : goal.returns-in_default

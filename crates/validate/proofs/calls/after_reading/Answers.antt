@@ -1,7 +1,6 @@
 use mathlib.Core.Path.{sym, ap}
 use Rattle.lent.specs.Written.{delivered}
 use Rattle.validation.specs.Separate.{neither, separate}
-use borrow.Author.Rules.{rules}
 use Rattle.validate.proofs.calls.after_reading.Goals as goal
 
 pub returns-in-Wrote : goal.returns-in-Wrote

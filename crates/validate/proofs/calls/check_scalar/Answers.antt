@@ -1,7 +1,6 @@
 use mathlib.Core.Path.{◌∙◌}
 use Rattle.validation.specs.Validate.{check_scalar_only}
 use Rattle.validate.proofs.SeparateLaws.{tells_input, both_good, tells_neither}
-use borrow.Author.Rules.{rules}
 use Rattle.validate.proofs.calls.check_scalar.Goals as goal
 
 pub returns-in_default : goal.returns-in_default

@@ -6,7 +6,6 @@ use Rattle.format.specs.Outcome.{deliver}
 use Rattle.model.specs.Limits.{max_depth}
 use Rattle.validate.proofs.ListLaws.{has}
 use Rattle.validate.proofs.WholeLaws.{lones, front-room, check_done, check_not, check_ends}
-use borrow.Author.Rules.{rules}
 use Rattle.validate.proofs.calls.deliver_scalar.Goals as goal
 
 pub shape_at-shape-requires : goal.shape_at-shape-requires

@@ -9,7 +9,6 @@ use Rattle.validate.proofs.CallLaws.{shape-clash, shape-merged}
 use Rattle.validate.proofs.WholeLaws.{lones}
 use Rattle.validate.proofs.WalkLaws.{shapes-checked}
 use Rattle.validate.proofs.ListLaws.{has}
-use borrow.Author.Rules.{rules}
 use Rattle.validate.proofs.calls.deliver_shape.Goals as goal
 
 pub shape_at-requires : goal.shape_at-requires

@@ -10,7 +10,6 @@ use Rattle.lent.specs.Written.{Puts}
 use Rattle.format.specs.Records.{write_ty}
 use Rattle.format.specs.Outcome.{deliver, mapped, both, lone}
 use Rattle.validation.specs.Validate.{validate}
-use borrow.Author.Rules.{rules}
 use Rattle.validate.proofs.calls.deliver_validated.Goals as goal
 
 pub validate_known-w-requires : goal.validate_known-w-requires

@@ -1,7 +1,6 @@
 use mathlib.Core.Path.{sym, ap}
 use Rattle.record.specs.Answers.{two_of}
 use Rattle.validate.specs.Answers.{reading_of}
-use borrow.Author.Rules.{rules}
 use Rattle.validate.proofs.calls.refuse_reading.Goals as goal
 
 pub returns-in-Accepted : goal.returns-in-Accepted

@@ -2,7 +2,6 @@ use mathlib.Core.Path.{◌∙◌}
 use Rattle.validation.specs.Validate.{validate}
 use Rattle.validate.proofs.SeparateLaws.{tells_input, both_good, tells_neither}
 use Rattle.validate.specs.Answers.{side_of}
-use borrow.Author.Rules.{rules}
 use Rattle.validate.proofs.calls.validate.Goals as goal
 
 pub returns-in_default : goal.returns-in_default

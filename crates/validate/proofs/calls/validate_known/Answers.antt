@@ -1,7 +1,6 @@
 use native.Mathlib.Omega.{arith}
 use mathlib.Core.Logic.{inl, inr}
 use mathlib.Core.Path.{refl}
-use borrow.Author.Rules.{rules}
 use Rattle.validate.specs.Answers.{side_of}
 use Rattle.validate.proofs.WholeLaws.{lones, validate-done, validate-not, validate-ends}
 use Rattle.validate.proofs.calls.validate_known.Goals as goal

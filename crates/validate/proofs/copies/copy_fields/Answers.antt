@@ -1,10 +1,5 @@
 use native.Mathlib.Omega.{arith}
-use mathlib.Core.Path.{◌≡◌, refl, ◌∙◌}
-use lib.ListN.{length, take}
-use borrow.Author.Rules.{rules}
-use Rattle.model.specs.Types.{Fields, field_count}
-use Rattle.validate.specs.Walk.{Going}
-use Rattle.validate.specs.Lists.{ListAt}
+use mathlib.Core.Path.{refl, ◌∙◌}
 use Rattle.validate.proofs.CopyLaws.{going_start, going-has, going-room, going_next, going-few, going_end}
 use Rattle.validate.proofs.copies.copy_fields.Goals as goal
 

@@ -1,11 +1,8 @@
-use Prim.Native.Nat.{◌-◌, ◌≤◌}
 use native.Mathlib.Omega.{arith}
-use mathlib.Core.Path.{◌≡◌, refl, sym, ◌∙◌}
-use lib.ListN.{drop}
+use mathlib.Core.Path.{refl, sym, ◌∙◌}
 use borrow.Author.Rules.{rules}
 use Rattle.record.specs.Answers.{dims_of}
 use Rattle.rules.specs.Sizes.{compatible}
-use Rattle.validation.specs.CheckShape.{agree}
 use Rattle.validation.proofs.CheckShapeSteps.{agree-end, agree_end'}
 use Rattle.validate.proofs.DimsLaws.{sizes-more, sizes-stop}
 use Rattle.validate.proofs.dims.agree.Goals as goal

@@ -1,13 +1,9 @@
 use Prim.Native.Nat.{◌-◌, ◌≤◌}
-use native.Mathlib.Omega.{arith}
-use mathlib.Core.Path.{◌≡◌, refl, sym, ◌∙◌}
+use mathlib.Core.Path.{◌≡◌}
 use lib.ListN.{drop}
-use borrow.Author.Rules.{rules}
 use Rattle.record.specs.Answers.{dims_of}
 use Rattle.rules.specs.Sizes.{compatible}
 use Rattle.validation.specs.CheckShape.{agree}
-use Rattle.validation.proofs.CheckShapeSteps.{agree-end, agree_end'}
-use Rattle.validate.proofs.DimsLaws.{sizes-more, sizes-stop}
 use Rattle.validate.proofs.dims.agree.Given as goal
 
 abbrev pub invariant-loop-i : goal.invariant-loop-i

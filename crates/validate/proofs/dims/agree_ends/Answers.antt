@@ -1,12 +1,8 @@
-use Prim.Native.Nat.{◌-◌, ◌≤◌}
 use native.Mathlib.Omega.{arith}
-use mathlib.Core.Path.{◌≡◌, refl, sym, ◌∙◌}
-use mathlib.Core.List.{reverse}
-use lib.ListN.{drop}
+use mathlib.Core.Path.{refl, sym, ◌∙◌}
 use borrow.Author.Rules.{rules}
 use Rattle.record.specs.Answers.{dims_of}
 use Rattle.rules.specs.Sizes.{compatible}
-use Rattle.validation.specs.CheckShape.{agree}
 use Rattle.validation.proofs.CheckShapeSteps.{agree_ends_end, agree_ends_end'}
 use Rattle.validate.proofs.DimsLaws.{ends_more, ends-stop}
 use Rattle.validate.proofs.dims.agree_ends.Goals as goal

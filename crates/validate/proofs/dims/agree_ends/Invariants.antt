@@ -1,14 +1,10 @@
 use Prim.Native.Nat.{◌-◌, ◌≤◌}
-use native.Mathlib.Omega.{arith}
-use mathlib.Core.Path.{◌≡◌, refl, sym, ◌∙◌}
+use mathlib.Core.Path.{◌≡◌}
 use mathlib.Core.List.{reverse}
 use lib.ListN.{drop}
-use borrow.Author.Rules.{rules}
 use Rattle.record.specs.Answers.{dims_of}
 use Rattle.rules.specs.Sizes.{compatible}
 use Rattle.validation.specs.CheckShape.{agree}
-use Rattle.validation.proofs.CheckShapeSteps.{agree_ends_end, agree_ends_end'}
-use Rattle.validate.proofs.DimsLaws.{ends_more, ends-stop}
 use Rattle.validate.proofs.dims.agree_ends.Given as goal
 
 abbrev pub invariant-loop-i : goal.invariant-loop-i

@@ -1,12 +1,8 @@
 use Prim.Native.Nat.{◌-◌, ◌≤◌}
-use native.Mathlib.Omega.{arith}
-use mathlib.Core.Path.{◌≡◌, refl, sym, ◌∙◌}
+use mathlib.Core.Path.{◌≡◌}
 use lib.ListN.{drop}
-use borrow.Author.Rules.{rules}
 use Rattle.record.specs.Answers.{dims_of}
 use Rattle.validation.specs.CheckShape.{agree, equal_dim}
-use Rattle.validation.proofs.CheckShapeSteps.{agree-end, agree_end'}
-use Rattle.validate.proofs.DimsLaws.{equal-more, equal-stop}
 use Rattle.validate.proofs.dims.agree_exactly.Given as goal
 
 abbrev pub invariant-loop-i : goal.invariant-loop-i

@@ -1,11 +1,6 @@
-use Prim.Native.Nat.{◌-◌, ◌≤◌}
 use native.Mathlib.Omega.{arith}
-use mathlib.Core.Path.{◌≡◌, refl, sym, ◌∙◌}
-use mathlib.Core.List.{reverse}
-use lib.ListN.{drop}
+use mathlib.Core.Path.{refl, sym, ◌∙◌}
 use borrow.Author.Rules.{rules}
-use Rattle.record.specs.Answers.{dims_of}
-use Rattle.validation.specs.CheckShape.{agree, equal_dim}
 use Rattle.validate.proofs.DimsLaws.{rest_more, rest-stop, rest_end, rest_end'}
 use Rattle.validate.proofs.dims.agree_exactly_ends.Goals as goal
 

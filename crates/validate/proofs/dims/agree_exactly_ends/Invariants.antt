@@ -1,12 +1,9 @@
 use Prim.Native.Nat.{◌-◌, ◌≤◌}
-use native.Mathlib.Omega.{arith}
-use mathlib.Core.Path.{◌≡◌, refl, sym, ◌∙◌}
+use mathlib.Core.Path.{◌≡◌}
 use mathlib.Core.List.{reverse}
 use lib.ListN.{drop}
-use borrow.Author.Rules.{rules}
 use Rattle.record.specs.Answers.{dims_of}
 use Rattle.validation.specs.CheckShape.{agree, equal_dim}
-use Rattle.validate.proofs.DimsLaws.{rest_more, rest-stop, rest_end, rest_end'}
 use Rattle.validate.proofs.dims.agree_exactly_ends.Given as goal
 
 abbrev pub invariant-loop-i : goal.invariant-loop-i

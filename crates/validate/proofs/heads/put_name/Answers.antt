@@ -1,4 +1,3 @@
-use borrow.Author.Rules.{rules}
 use Rattle.validate.proofs.heads.put_name.Goals as goal
 
 pub put_def-requires : goal.put_def-requires

@@ -1,6 +1,4 @@
 use mathlib.Core.Path.{sym, ap, ◌∙◌}
-use borrow.Author.Tests.{not-true, not-false}
-use borrow.Author.Rules.{rules}
 use Rattle.validate.specs.Lists.{next_place}
 use Rattle.validate.proofs.lists.next_type.Goals as goal
 

@@ -1,8 +1,4 @@
 use native.Mathlib.Omega.{arith}
-use mathlib.Core.Path.{◌≡◌}
-use borrow.Author.Rules.{rules}
-use Rattle.model.specs.Types.{Fields, field_count}
-use Rattle.validate.specs.Lists.{ListAt, Counting}
 use Rattle.validate.proofs.ListLaws.{count-start, count-has, count_next, count-few, count-end}
 use Rattle.validate.proofs.lists.types_in.Goals as goal
 

@@ -1,9 +1,6 @@
-use native.Mathlib.Omega.{arith}
 use mathlib.Core.Path.{◌≡◌}
-use borrow.Author.Rules.{rules}
 use Rattle.model.specs.Types.{Fields, field_count}
 use Rattle.validate.specs.Lists.{ListAt, Counting}
-use Rattle.validate.proofs.ListLaws.{count-start, count-has, count_next, count-few, count-end}
 use Rattle.validate.proofs.lists.types_in.Given as goal
 
 abbrev pub invariant-loop-left : goal.invariant-loop-left

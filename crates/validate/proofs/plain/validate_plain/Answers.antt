@@ -2,7 +2,6 @@ use mathlib.Core.Path.{sym}
 use Rattle.lent.specs.Delivers.{deliver-as, deliver-refused}
 use Rattle.record.specs.Answers.{dims_of}
 use Rattle.validate.proofs.PlainLaws.{plain-uncovered, plain-clash, plain-clear}
-use borrow.Author.Rules.{rules}
 use Rattle.validate.proofs.plain.validate_plain.Goals as goal
 
 pub returns-then-not-superset_codes : goal.returns-then-not-superset_codes

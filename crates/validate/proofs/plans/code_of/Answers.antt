@@ -1,4 +1,3 @@
-use borrow.Author.Rules.{rules}
 use Rattle.validate.proofs.PlanLaws.{code-plain, code-box_any, code-box_all, code-box_def}
 use Rattle.validate.proofs.plans.code_of.Goals as goal
 

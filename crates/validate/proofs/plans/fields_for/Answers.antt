@@ -1,4 +1,3 @@
-use borrow.Author.Rules.{rules}
 use Rattle.validate.proofs.PlanLaws.{fields_open, fields-many, fields-unknown, fields-one}
 use Rattle.validate.proofs.plans.fields_for.Goals as goal
 

@@ -1,5 +1,4 @@
 use native.Mathlib.Omega.{arith}
-use borrow.Author.Rules.{rules}
 use Rattle.validate.proofs.PlanLaws.{limited-over, limited-by}
 use Rattle.validate.proofs.plans.limited_at.Goals as goal
 

@@ -1,6 +1,5 @@
 use mathlib.Core.Path.{sym, ap, subst, ◌∙◌}
 use native.Mathlib.Omega.{arith}
-use borrow.Author.Rules.{rules}
 use Rattle.validation.specs.AsFields.{fields_for}
 use Rattle.validate.specs.Plans.{scalar_after, Planned}
 use Rattle.rules.proofs.KindTableLaws.{coded-below}

@@ -1,7 +1,5 @@
-use Prim.Native.Nat.{◌-◌}
 use mathlib.Core.Path.{◌∙◌}
 use native.Mathlib.Omega.{arith}
-use borrow.Author.Rules.{rules}
 use Rattle.known.proofs.KnownLaws.{has-scalar}
 use Rattle.model.specs.Limits.{max_depth}
 use Rattle.validate.specs.Plans.{scalar_after}

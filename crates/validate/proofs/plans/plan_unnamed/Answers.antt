@@ -1,6 +1,5 @@
 use mathlib.Core.Path.{sym, subst}
 use native.Mathlib.Omega.{arith}
-use borrow.Author.Rules.{rules}
 use Rattle.validate.specs.Plans.{scalar_after, Planned}
 use Rattle.rules.proofs.KindTableLaws.{coded-below}
 use Rattle.validate.proofs.PlanLaws.{code-plain, tested, spec_ty, unnamed-plain, unnamed-any, unnamed-all, unnamed_pairs}

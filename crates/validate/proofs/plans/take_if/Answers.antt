@@ -1,6 +1,5 @@
 use mathlib.Core.Bool.{cond}
 use mathlib.Core.Path.{sym, ap, ◌∙◌}
-use borrow.Author.Rules.{rules}
 use Rattle.model.specs.Types.{scalar_of}
 use Rattle.model.specs.Refusals.{too_many}
 use Rattle.format.specs.Outcome.{accepted, refused}

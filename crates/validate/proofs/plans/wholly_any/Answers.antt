@@ -1,4 +1,3 @@
-use borrow.Author.Rules.{rules}
 use Rattle.validate.proofs.PlanLaws.{not-any, any-by-code}
 use Rattle.validate.proofs.plans.wholly_any.Goals as goal
 

@@ -1,4 +1,3 @@
-use borrow.Author.Rules.{rules}
 use Rattle.record.specs.Answers.{shape_for}
 use Rattle.validate.specs.Answers.{side_of}
 use Rattle.validate.proofs.ShapesLaws.{clashed, merged}

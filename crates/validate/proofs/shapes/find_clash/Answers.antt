@@ -1,5 +1,4 @@
 use mathlib.Core.Path.{◌∙◌}
-use borrow.Author.Rules.{rules}
 use Rattle.record.specs.Answers.{dims_of, closing_for, shape_for}
 use Rattle.validate.specs.Answers.{side_of}
 use Rattle.validate.proofs.ShapesLaws.{excused_spec, excused_type, not_excused}

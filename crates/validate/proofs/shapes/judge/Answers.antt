@@ -1,4 +1,3 @@
-use borrow.Author.Tests.{not-true, not-false}
 use Rattle.validate.proofs.shapes.judge.Goals as goal
 
 pub returns-then-not-count : goal.returns-then-not-count

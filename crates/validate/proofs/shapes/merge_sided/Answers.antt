@@ -1,5 +1,4 @@
 use mathlib.Core.Path.{◌≡◌, sym, ap, ◌∙◌}
-use borrow.Author.Rules.{rules}
 use Rattle.model.specs.Types.{Shape}
 use Rattle.rules.specs.Shapes.{merge_from}
 use Rattle.record.specs.Answers.{shape_for}

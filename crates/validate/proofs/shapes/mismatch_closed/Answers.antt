@@ -1,7 +1,6 @@
 use mathlib.Core.Path.{◌∙◌}
 use Rattle.record.specs.Answers.{dims_of}
 use Rattle.validate.proofs.ShapesLaws.{closed-unsided}
-use borrow.Author.Rules.{rules}
 use Rattle.validate.proofs.shapes.mismatch_closed.Goals as goal
 
 pub returns : goal.returns

@@ -1,5 +1,4 @@
 use mathlib.Core.Path.{◌∙◌}
-use borrow.Author.Rules.{rules}
 use Rattle.record.specs.Answers.{dims_of}
 use Rattle.validate.proofs.ShapesLaws.{left-closed, left_open}
 use Rattle.validate.proofs.shapes.mismatch_left.Goals as goal

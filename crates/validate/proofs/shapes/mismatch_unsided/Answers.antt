@@ -1,7 +1,6 @@
 use mathlib.Core.Path.{◌∙◌}
 use Rattle.record.specs.Answers.{dims_of}
 use Rattle.validate.proofs.ShapesLaws.{unsided-closed, unsided_open}
-use borrow.Author.Rules.{rules}
 use Rattle.validate.proofs.shapes.mismatch_unsided.Goals as goal
 
 pub returns-then-t : goal.returns-then-t

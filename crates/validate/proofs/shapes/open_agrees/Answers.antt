@@ -4,7 +4,6 @@ use lib.ListN.{drop}
 use Rattle.record.specs.Answers.{dims_of}
 use Rattle.validation.specs.CheckShape.{agree, equal_dim}
 use Rattle.validate.proofs.ShapesLaws.{opening-differ, closing_decide}
-use borrow.Author.Rules.{rules}
 use Rattle.validate.proofs.shapes.open_agrees.Goals as goal
 
 pub returns-then-not-agree_exactly : goal.returns-then-not-agree_exactly

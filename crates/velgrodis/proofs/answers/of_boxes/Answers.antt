@@ -1,7 +1,6 @@
 use mathlib.Core.Path.{sym, ap, ◌∙◌}
 use Rattle.velgrodis.specs.Answers.{handed, listed}
 use Rattle.ty.specs.Calls.{boxes_of, given}
-use borrow.Author.Rules.{rules}
 use Rattle.velgrodis.proofs.answers.of_boxes.Goals as goal
 
 pub returns-in-Wrote : goal.returns-in-Wrote

@@ -1,7 +1,6 @@
 use mathlib.Core.Path.{sym, ap, ◌∙◌}
 use Rattle.velgrodis.specs.Answers.{returned, checked}
 use Rattle.run.specs.Answers.{called_of}
-use borrow.Author.Rules.{rules}
 use Rattle.velgrodis.proofs.answers.of_called.Goals as goal
 
 pub returns-in-Accepted : goal.returns-in-Accepted

@@ -1,7 +1,6 @@
 use mathlib.Core.Path.{sym, ap, ◌∙◌}
 use Rattle.velgrodis.specs.Answers.{compared}
 use Rattle.shape_calls.specs.Answers.{ordered_of}
-use borrow.Author.Rules.{rules}
 use Rattle.velgrodis.proofs.answers.of_compared.Goals as goal
 
 pub returns-in-Ordered : goal.returns-in-Ordered

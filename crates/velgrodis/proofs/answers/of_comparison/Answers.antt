@@ -1,7 +1,6 @@
 use mathlib.Core.Path.{sym, ap, ◌∙◌}
 use Rattle.velgrodis.specs.Answers.{compared}
 use Rattle.order.specs.Answers.{comparison_of}
-use borrow.Author.Rules.{rules}
 use Rattle.velgrodis.proofs.answers.of_comparison.Goals as goal
 
 pub returns-in-Less : goal.returns-in-Less

@@ -1,7 +1,6 @@
 use mathlib.Core.Path.{sym, ap, ◌∙◌}
 use Rattle.velgrodis.specs.Answers.{yes_or_no}
 use Rattle.shape.specs.Answers.{compatibility_of}
-use borrow.Author.Rules.{rules}
 use Rattle.velgrodis.proofs.answers.of_compatibility.Goals as goal
 
 pub returns-in-Yes : goal.returns-in-Yes

@@ -1,7 +1,6 @@
 use mathlib.Core.Path.{sym, ap, ◌∙◌}
 use Rattle.velgrodis.specs.Answers.{counted}
 use Rattle.lent.specs.Answers.{counted_number}
-use borrow.Author.Rules.{rules}
 use Rattle.velgrodis.proofs.answers.of_count.Goals as goal
 
 pub returns-in-Count : goal.returns-in-Count

@@ -2,7 +2,6 @@ use mathlib.Core.Path.{sym, ap, ◌∙◌}
 use Rattle.velgrodis.specs.Answers.{value, sized_or_none}
 use Rattle.val.specs.Answers.{maybe_dim}
 use Rattle.format.specs.ReadWrite.{dim-number}
-use borrow.Author.Rules.{rules}
 use Rattle.velgrodis.proofs.answers.of_dim.Goals as goal
 
 pub returns-in-Size : goal.returns-in-Size

@@ -1,7 +1,6 @@
 use mathlib.Core.Path.{sym, ap, ◌∙◌}
 use Rattle.velgrodis.specs.Answers.{found}
 use Rattle.ty.specs.Calls.{found_of}
-use borrow.Author.Rules.{rules}
 use Rattle.velgrodis.proofs.answers.of_found.Goals as goal
 
 pub returns-in-At : goal.returns-in-At

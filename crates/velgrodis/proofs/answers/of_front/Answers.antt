@@ -2,7 +2,6 @@ use mathlib.Core.Path.{sym, ap, ◌∙◌}
 use Rattle.format.specs.Outcome.{place_after}
 use Rattle.record.specs.Answers.{reading_of}
 use Rattle.velgrodis.specs.Answers.{counted}
-use borrow.Author.Rules.{rules}
 use Rattle.velgrodis.proofs.answers.of_front.Goals as goal
 
 pub returns-in-Got : goal.returns-in-Got

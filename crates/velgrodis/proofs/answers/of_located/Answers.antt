@@ -1,7 +1,6 @@
 use mathlib.Core.Path.{sym, ap, ◌∙◌}
 use Rattle.locate.specs.Answers.{located_of}
 use Rattle.velgrodis.specs.Answers.{value, located}
-use borrow.Author.Rules.{rules}
 use Rattle.velgrodis.proofs.answers.of_located.Goals as goal
 
 pub returns-in-Step : goal.returns-in-Step

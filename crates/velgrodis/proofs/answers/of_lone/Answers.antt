@@ -1,7 +1,6 @@
 use mathlib.Core.Path.{sym, ap, ◌∙◌}
 use Rattle.velgrodis.specs.Answers.{counted}
 use Rattle.record.specs.Answers.{lone_of}
-use borrow.Author.Rules.{rules}
 use Rattle.velgrodis.proofs.answers.of_lone.Goals as goal
 
 pub returns-in-Accepted : goal.returns-in-Accepted

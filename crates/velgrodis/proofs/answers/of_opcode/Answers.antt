@@ -2,7 +2,6 @@ use mathlib.Core.Option.{some}
 use mathlib.Core.Path.{sym, ap}
 use Rattle.cursor.specs.Answers.{opcode_for}
 use Rattle.velgrodis.specs.Answers.{opcode_number}
-use borrow.Author.Rules.{rules}
 use Rattle.velgrodis.proofs.answers.of_opcode.Goals as goal
 
 pub returns-in-Put : goal.returns-in-Put

@@ -1,7 +1,6 @@
 use mathlib.Core.Path.{sym, ap, ◌∙◌}
 use Rattle.velgrodis.specs.Answers.{ordered}
 use Rattle.shape.specs.Answers.{order_of}
-use borrow.Author.Rules.{rules}
 use Rattle.velgrodis.proofs.answers.of_order.Goals as goal
 
 pub returns-in-Less : goal.returns-in-Less

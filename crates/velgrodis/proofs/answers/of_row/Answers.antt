@@ -1,7 +1,6 @@
 use mathlib.Core.Path.{sym, ap, ◌∙◌}
 use Rattle.velgrodis.specs.Answers.{row_handed, rowed}
 use Rattle.val.specs.Answers.{row_delivered}
-use borrow.Author.Rules.{rules}
 use Rattle.velgrodis.proofs.answers.of_row.Goals as goal
 
 pub returns-in-Number : goal.returns-in-Number

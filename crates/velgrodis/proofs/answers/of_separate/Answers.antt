@@ -3,7 +3,6 @@ use Rattle.validation.specs.Separate.{neither}
 use Rattle.validate.specs.Answers.{separate_of}
 use Rattle.velgrodis.specs.Answers.{while_reading, validation_handed, validation_of}
 use Rattle.velgrodis.proofs.CodeLaws.{refused_reading}
-use borrow.Author.Rules.{rules}
 use Rattle.velgrodis.proofs.answers.of_separate.Goals as goal
 
 pub returns-in-Wrote : goal.returns-in-Wrote

@@ -1,7 +1,6 @@
 use mathlib.Core.Path.{sym, ap, ◌∙◌}
 use Rattle.velgrodis.specs.Answers.{shapes_tested}
 use Rattle.shape_calls.specs.Answers.{shapes_tested_of}
-use borrow.Author.Rules.{rules}
 use Rattle.velgrodis.proofs.answers.of_shapes_tested.Goals as goal
 
 pub returns-in-Says : goal.returns-in-Says

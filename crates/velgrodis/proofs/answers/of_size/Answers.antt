@@ -2,7 +2,6 @@ use mathlib.Core.Path.{sym, ap, ◌∙◌}
 use Rattle.velgrodis.specs.Answers.{value, sized}
 use Rattle.lent.specs.Answers.{counted_dim}
 use Rattle.format.specs.ReadWrite.{dim-number}
-use borrow.Author.Rules.{rules}
 use Rattle.velgrodis.proofs.answers.of_size.Goals as goal
 
 pub returns-in-Count : goal.returns-in-Count

@@ -1,7 +1,6 @@
 use mathlib.Core.Path.{sym, ap, ◌∙◌}
 use Rattle.velgrodis.specs.Answers.{tested}
 use Rattle.lent.specs.Answers.{tested_of}
-use borrow.Author.Rules.{rules}
 use Rattle.velgrodis.proofs.answers.of_tested.Goals as goal
 
 pub returns-in-Yes : goal.returns-in-Yes

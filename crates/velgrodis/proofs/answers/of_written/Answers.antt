@@ -1,7 +1,6 @@
 use mathlib.Core.Path.{sym, ap, ◌∙◌}
 use Rattle.velgrodis.specs.Answers.{handed, written}
 use Rattle.lent.specs.Written.{delivered}
-use borrow.Author.Rules.{rules}
 use Rattle.velgrodis.proofs.answers.of_written.Goals as goal
 
 pub returns-in-Wrote : goal.returns-in-Wrote

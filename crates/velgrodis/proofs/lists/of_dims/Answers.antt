@@ -1,6 +1,5 @@
 use Rattle.velgrodis.proofs.SizeLaws.{beside-sizes, beside_nothing, beside-refused}
 use Rattle.record.specs.Answers.{dims_of}
-use borrow.Author.Rules.{rules}
 use Rattle.velgrodis.proofs.lists.of_dims.Goals as goal
 
 pub returns-in-Sizes : goal.returns-in-Sizes

@@ -1,6 +1,5 @@
 use mathlib.Core.Path.{ap, ◌∙◌}
 use Rattle.velgrodis.specs.Answers.{tested}
-use borrow.Author.Rules.{rules}
 use Rattle.velgrodis.proofs.scalars.vg_compatible_scalars.Goals as goal
 
 pub returns : goal.returns

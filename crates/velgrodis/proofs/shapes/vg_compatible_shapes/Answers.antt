@@ -1,6 +1,5 @@
 use mathlib.Core.Path.{ap, ◌∙◌}
 use Rattle.velgrodis.specs.Answers.{shapes_tested}
-use borrow.Author.Rules.{rules}
 use Rattle.velgrodis.proofs.shapes.vg_compatible_shapes.Goals as goal
 
 pub returns : goal.returns

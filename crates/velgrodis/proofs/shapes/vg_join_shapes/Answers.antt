@@ -1,6 +1,5 @@
 use mathlib.Core.Path.{ap, ◌∙◌}
 use Rattle.velgrodis.specs.Answers.{written}
-use borrow.Author.Rules.{rules}
 use Rattle.velgrodis.proofs.shapes.vg_join_shapes.Goals as goal
 
 pub returns : goal.returns

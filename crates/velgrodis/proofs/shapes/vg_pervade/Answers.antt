@@ -7,7 +7,6 @@ use Rattle.shape_calls.specs.Calls.{pervade_call}
 use Rattle.machine.specs.Steps.{max_flag, fills_top, fills_below}
 use Rattle.velgrodis.specs.Codes.{unsaid}
 use Rattle.velgrodis.proofs.CodeLaws.{flag_unsaid, unsaid-written}
-use borrow.Author.Rules.{rules}
 use Rattle.velgrodis.proofs.shapes.vg_pervade.Goals as goal
 
 pub returns-then-flag : goal.returns-then-flag

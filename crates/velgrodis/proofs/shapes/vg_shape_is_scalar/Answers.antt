@@ -1,6 +1,5 @@
 use mathlib.Core.Path.{ap, ◌∙◌}
 use Rattle.velgrodis.specs.Answers.{tested}
-use borrow.Author.Rules.{rules}
 use Rattle.velgrodis.proofs.shapes.vg_shape_is_scalar.Goals as goal
 
 pub returns : goal.returns

@@ -1,6 +1,5 @@
 use mathlib.Core.Path.{ap, ◌∙◌}
 use Rattle.velgrodis.specs.Answers.{checked}
-use borrow.Author.Rules.{rules}
 use Rattle.velgrodis.proofs.sheet.vg_check_sheet.Goals as goal
 
 pub returns : goal.returns

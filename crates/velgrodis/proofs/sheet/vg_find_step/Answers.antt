@@ -1,6 +1,5 @@
 use mathlib.Core.Path.{ap, ◌∙◌}
 use Rattle.velgrodis.specs.Answers.{located}
-use borrow.Author.Rules.{rules}
 use Rattle.velgrodis.proofs.sheet.vg_find_step.Goals as goal
 
 pub returns : goal.returns

@@ -1,6 +1,5 @@
 use mathlib.Core.Path.{ap, ◌∙◌}
 use Rattle.velgrodis.specs.Answers.{compared}
-use borrow.Author.Rules.{rules}
 use Rattle.velgrodis.proofs.sizes.vg_dim_cmp.Goals as goal
 
 pub returns : goal.returns

@@ -1,6 +1,5 @@
 use mathlib.Core.Path.{ap, ◌∙◌}
 use Rattle.velgrodis.specs.Answers.{sized}
-use borrow.Author.Rules.{rules}
 use Rattle.velgrodis.proofs.sizes.vg_dim_max.Goals as goal
 
 pub returns : goal.returns

@@ -1,6 +1,5 @@
 use mathlib.Core.Path.{ap, ◌∙◌}
 use Rattle.velgrodis.specs.Answers.{listed}
-use borrow.Author.Rules.{rules}
 use Rattle.velgrodis.proofs.types.vg_as_boxes.Goals as goal
 
 pub returns : goal.returns

@@ -1,6 +1,5 @@
 use mathlib.Core.Path.{ap, ◌∙◌}
 use Rattle.velgrodis.specs.Answers.{written}
-use borrow.Author.Rules.{rules}
 use Rattle.velgrodis.proofs.types.vg_nth_row.Goals as goal
 
 pub returns : goal.returns

@@ -1,6 +1,5 @@
 use mathlib.Core.Path.{ap, ◌∙◌}
 use Rattle.velgrodis.specs.Answers.{counted}
-use borrow.Author.Rules.{rules}
 use Rattle.velgrodis.proofs.types.vg_read.Goals as goal
 
 pub returns : goal.returns

@@ -1,7 +1,6 @@
 use mathlib.Core.Path.{ap, ◌∙◌}
 use Rattle.velgrodis.specs.Answers.{counted}
 use Rattle.record.proofs.LoneLaws.{front_read}
-use borrow.Author.Rules.{rules}
 use Rattle.velgrodis.proofs.types.vg_type_length.Goals as goal
 
 pub returns : goal.returns

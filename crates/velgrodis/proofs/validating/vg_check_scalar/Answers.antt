@@ -1,6 +1,5 @@
 use mathlib.Core.Path.{ap, ◌∙◌}
 use Rattle.velgrodis.specs.Answers.{validation_of}
-use borrow.Author.Rules.{rules}
 use Rattle.velgrodis.proofs.validating.vg_check_scalar.Goals as goal
 
 pub returns : goal.returns

@@ -2,7 +2,6 @@ use mathlib.Core.Path.{ap, ◌∙◌}
 use Rattle.validation.specs.Validate.{validate}
 use Rattle.velgrodis.specs.Answers.{validation_of}
 use Rattle.velgrodis.proofs.CodeLaws.{for-side, for_none}
-use borrow.Author.Rules.{rules}
 use Rattle.velgrodis.proofs.validating.vg_validate.Goals as goal
 
 pub returns-in_default : goal.returns-in_default

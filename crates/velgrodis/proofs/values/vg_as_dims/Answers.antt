@@ -4,7 +4,6 @@ use Rattle.val.specs.Values.{value_as_dims}
 use Rattle.format.specs.Outcome.{bound}
 use Rattle.velgrodis.specs.Answers.{deliver_sizes}
 use Rattle.velgrodis.proofs.CodeLaws.{value-said, value-unsaid, unsaid-sizes}
-use borrow.Author.Rules.{rules}
 use Rattle.velgrodis.proofs.values.vg_as_dims.Goals as goal
 
 pub returns-in_default : goal.returns-in_default

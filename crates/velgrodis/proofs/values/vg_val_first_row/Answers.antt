@@ -3,7 +3,6 @@ use Rattle.velgrodis.specs.Answers.{rowed}
 use Rattle.val.specs.Values.{value_first_row, deliver_row}
 use Rattle.format.specs.Outcome.{mapped}
 use Rattle.velgrodis.proofs.CodeLaws.{value-said, value-unsaid, unsaid-row}
-use borrow.Author.Rules.{rules}
 use Rattle.velgrodis.proofs.values.vg_val_first_row.Goals as goal
 
 pub returns-in_default : goal.returns-in_default

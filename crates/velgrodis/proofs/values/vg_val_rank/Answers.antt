@@ -3,7 +3,6 @@ use Rattle.velgrodis.specs.Answers.{counted}
 use Rattle.val.specs.Values.{value_rank}
 use Rattle.format.specs.Outcome.{mapped}
 use Rattle.velgrodis.proofs.CodeLaws.{value-said, value-unsaid}
-use borrow.Author.Rules.{rules}
 use Rattle.velgrodis.proofs.values.vg_val_rank.Goals as goal
 
 pub returns-in_default : goal.returns-in_default

@@ -3,7 +3,6 @@ use Rattle.velgrodis.specs.Answers.{sized}
 use Rattle.val.specs.Values.{value_row_count}
 use Rattle.format.specs.Outcome.{bound}
 use Rattle.velgrodis.proofs.CodeLaws.{value-said, value-unsaid}
-use borrow.Author.Rules.{rules}
 use Rattle.velgrodis.proofs.values.vg_val_row_count.Goals as goal
 
 pub returns-in_default : goal.returns-in_default

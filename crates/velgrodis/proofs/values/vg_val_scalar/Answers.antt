@@ -4,7 +4,6 @@ use Rattle.val.specs.Values.{value_scalar}
 use Rattle.format.specs.Outcome.{mapped, deliver}
 use Rattle.format.specs.Records.{write_scalar}
 use Rattle.velgrodis.proofs.CodeLaws.{value-said, value-unsaid, unsaid-written}
-use borrow.Author.Rules.{rules}
 use Rattle.velgrodis.proofs.values.vg_val_scalar.Goals as goal
 
 pub returns-in_default : goal.returns-in_default

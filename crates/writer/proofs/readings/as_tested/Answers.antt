@@ -2,7 +2,6 @@ use mathlib.Core.Bool.{true}
 use mathlib.Core.Path.{sym, ap}
 use Rattle.format.specs.Outcome.{mapped}
 use Rattle.record.specs.Answers.{lone_of}
-use borrow.Author.Rules.{rules}
 use Rattle.writer.proofs.readings.as_tested.Goals as goal
 
 pub returns-in-Refused : goal.returns-in-Refused

@@ -1,6 +1,5 @@
 use mathlib.Core.Path.{sym, ap}
 use Rattle.record.specs.Answers.{lone_of}
-use borrow.Author.Rules.{rules}
 use Rattle.writer.proofs.readings.as_written.Goals as goal
 
 pub returns-in-Refused : goal.returns-in-Refused

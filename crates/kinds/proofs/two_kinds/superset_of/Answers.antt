@@ -21,4 +21,5 @@ returns-then-l-eq-ASCII c =
 pub returns : goal.returns
 unfolding code
 returns c =
-    sym (superset-other _ _ c.if-k-eq-ANY.false c.kind_place-place.ensures c.kind_place.ensures c.if-place-kind_place.false λ e f. elim c.if-k-eq-CHAR.branch [ then-k-eq-CHAR+else-l-eq-ASCII w ↦ w.if-l-eq-ASCII.false f | else-k-eq-CHAR w ↦ w.if-k-eq-CHAR.false e ])
+    sym (superset-other _ _ c.if-k-eq-ANY.false c.kind_place-place.ensures c.kind_place.ensures c.if-place-kind_place.false λ e f.
+    elim c.if-k-eq-CHAR.branch [ then-k-eq-CHAR+else-l-eq-ASCII w ↦ w.if-l-eq-ASCII.false f | else-k-eq-CHAR w ↦ w.if-k-eq-CHAR.false e ])

@@ -17,11 +17,11 @@ loop-i-init c =
 
 pub hex_digit-requires : goal.hex_digit-requires
 hex_digit-requires c =
-    omega (arith, c.shared_slice_known-in-loop-i-1.given c.loop-i.i)
+    omega (arith, c.type_inv.bytes c.loop-i.i)
 
 pub hex_digit-requires-in-loop-i : goal.hex_digit-requires-in-loop-i
 hex_digit-requires-in-loop-i c =
-    omega (arith, c.shared_slice_known-in-loop-i-1.given c.loop-i.i)
+    omega (arith, c.type_inv.bytes c.loop-i.i)
 
 pub bounds-out-to-in-loop-i : goal.bounds-out-to-in-loop-i
 bounds-out-to-in-loop-i c = simp length-set (omega arith)

@@ -112,8 +112,8 @@ reading_examples =
 pub examples_shown : All Shown examples × All Shown reading_examples
 unfolding examples reading_examples reply_to kind_table squares compatible_codes compatible_scalars kind_place union lone type_length deliver read_ty shape_from scalar_from box_from read_mark read_dims read_dim judged byte number
     bytes_of code kind_of write_shape write_scalar cmp_dim compatible is_any row_count code_of superset_codes superset_of together walk pervade_closing pervade wholly_any copies_for as_boxes agree
-    sizes_agree count_test names_all mismatch shape_mismatch sided_shape merge_dims merge_closing merge_from write_ty check_shape check_scalar validate check_shape_only sheet_call sizes_from deliver_boxes value_spec nums_scalar value_as_dim value_as_dims
-    deliver_sizes inside below
+    sizes_agree count_test names_all mismatch shape_mismatch sided_shape merge_dims merge_closing merge_from write_ty check_shape check_scalar validate check_shape_only sheet_call sizes_from deliver_boxes value_spec nums_scalar value_as_dim
+    value_as_dims deliver_sizes inside below
 examples_shown = (
   (refl, (refl, (refl, (refl, (refl, (refl, (refl, (refl, (refl, (refl, (refl, (refl, (refl, (refl, (refl, (refl, (refl, (refl, (refl, (refl, (refl, (refl, (refl, (refl, (refl, (refl, tt)))))))))))))))))))))))))),
   (refl, (refl, (refl, (refl, (refl, (refl, (refl, (refl, (refl, tt))))))))),

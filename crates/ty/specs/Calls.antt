@@ -7,7 +7,7 @@ use Rattle.rules.specs.Types.{Stretch, stretch, write_boxes}
 use Rattle.ty.specs.declared.Found.{Found}
 use Rattle.ty.specs.declared.Found.TheVariants.{At, Nothing, Refused}
 use Rattle.ty.specs.declared.Boxes.{Boxes}
-use Rattle.ty.specs.declared.Boxes.TheVariants.{Wrote, Nothing as None, Refused as Refuses}
+use Rattle.ty.specs.declared.Boxes.TheVariants.{Wrote, Nothing as NoBoxes, Refused as Refuses}
 
 -- Field n: its stretch, or none.
 abbrev pub found_of : Found → Outcome (Option Stretch)
@@ -18,7 +18,7 @@ found_of (Refused k p) = refused k p
 -- `as_boxes`: how many bytes were written, or none.
 abbrev pub boxes_of : Boxes → Outcome (Option ℕ)
 boxes_of (Wrote n) = accepted (some n)
-boxes_of None = accepted none
+boxes_of NoBoxes = accepted none
 boxes_of (Refuses k p) = refused k p
 
 -- such an answer beside what the result buffer then holds

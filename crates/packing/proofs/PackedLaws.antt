@@ -13,20 +13,9 @@ use Rattle.lent.specs.Over.{over}
 use Rattle.lent.specs.StandsOver.{stands-laid}
 use Rattle.machine.specs.SheetLimits.{max_packed}
 use Rattle.packing.specs.Packed.{packed_size, packed_number, pack_dims, pack_shape, pack_scalar, pack_fields, pack_ty, Packs, Unpackable, Unpacks}
+use Rattle.packing.specs.PackedLaws.{packed_shape_bytes, packed_scalar_bytes, packed_type_bytes}
 
 -- ---- as many as suffice
-
--- the bytes of a shape: two counts, and as many opening and closing sizes as there may be
-abbrev pub packed_shape_bytes : ℕ
-packed_shape_bytes = 2 + packed_size * (max_sizes + max_sizes)
-
--- the bytes of a scalar up to its contents: a kind, a form, the length of a name, the name and a count
-abbrev pub packed_scalar_bytes : ℕ
-packed_scalar_bytes = 1 + 1 + 1 + max_name + 1
-
--- and so of one type, those inside it left out: 134, for each of at most 32
-abbrev pub packed_type_bytes : ℕ
-packed_type_bytes = packed_shape_bytes + packed_scalar_bytes
 
 pub packed_types : packed_type_bytes * max_types ≡ max_packed
 packed_types = refl

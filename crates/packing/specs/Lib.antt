@@ -3,3 +3,4 @@ pub mod PackedSizes
 pub mod Heads
 pub mod Layouts
 pub mod Parts
+pub mod PackedLaws

@@ -33,7 +33,7 @@ first-half c xs ts m k f left t = types_hold c xs ts m k f left t
 
 -- ---- the second half
 
--- "For every list of puts and unfilled pervadings that makes a well_formed sheet leaving one type": `SecondConditions`.
+-- "For every list of puts and unfilled pervadings that makes a well-formed sheet leaving one type": `SecondConditions`.
 module _ (c : Check) (xs : List Step) (k : SecondConditions c xs) where
   -- Accepted, and real arrays get through; or mismatch, and none do.
   pub second-half : SecondHalf c xs

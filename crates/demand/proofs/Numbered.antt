@@ -1,5 +1,5 @@
 -- Demand 1, "gets its result or one of" sixteen "numbered refusals": whatever the bytes and the buffers, what a lone type and a sheet
--- are refused with; what the reading that makes a sheet well_formed is, and a well_formed sheet. What each public call is refused with stands
+-- are refused with; what the reading that makes a sheet well-formed is, and a well-formed sheet. What each public call is refused with stands
 -- in the crate `numbered`.
 use Prim.Native.Nat.{ℕ, zero, suc, ◌+◌, ◌-◌, ◌≤◌, ◌<◌}
 use Rattle.std.proofs.Common.{arith, inl, inr, eqb-true, ltb-false}
@@ -272,7 +272,7 @@ unfolding skim skim_from
 skim-numbered s = outcome-number of_reading (skim_more s max_steps (fresh 0) 0) ((stops_skim s max_steps (fresh 0)).number_is 0)
 
 -- "Meets none of 1 to 5, 11 and 12", "neither 15 nor 16", and "has the scratch asked for and 4,992 result bytes for each type left": with such
--- buffers a sheet of any bytes is well_formed, or its reading meets one of these.
+-- buffers a sheet of any bytes is well-formed, or its reading meets one of these.
 pub well_formed_or_refused : (s result scratch : List ℕ) → ((ws : List WrittenStep) → skim s ≡ accepted ws → result_bytes (types_left (unfolded [] ws)) ≤ length result)
     → scratch_bytes ≤ length scratch
     → ((xs : List Step) × WellFormed s result scratch xs) ⊎ ((k : ℕ) × (p : ℕ) × (skim s ≡ refused k p) × Among of_reading k)
@@ -360,7 +360,7 @@ steps_ruled (x ∷ xs) st h =
     go (gives st₁) e h k = k st₁ e
     go (refuses j) e h k = h
 
--- ---- a well_formed sheet: 5, 8, 9, 10 and 14
+-- ---- a well-formed sheet: 5, 8, 9, 10 and 14
 
 run_ruled : (s : List ℕ) (xs : List Step) → SheetOf s xs → Heights xs 0 → RefusedWith of_rules (sheet_run s)
 run_ruled s xs h k = go (sheet_run s) (steps xs []) (sheet-steps s xs h) (steps_ruled xs [] k)
@@ -370,7 +370,7 @@ run_ruled s xs h k = go (sheet_run s) (steps xs []) (sheet-steps s xs h) (steps_
     go (refused j p) (gives st) e h = let z : ◌≡◌ {A = ℕ} 0 1 = cc in absurd (omega arith)
     go (refused j p) (refuses k) e h = let w : j ≡ k = cc in refused_with (rw w h)
 
--- A well_formed sheet is accepted, or refused by a rule: the scratch asked for and 4,992 result bytes "for each type left" never fall short.
+-- A well-formed sheet is accepted, or refused by a rule: the scratch asked for and 4,992 result bytes "for each type left" never fall short.
 pub well_formed-numbered : (s result scratch : List ℕ) → Bytes s → (xs : List Step) → WellFormed s result scratch xs → RefusedWith of_rules (answer_in (sheet_call s result scratch))
 well_formed-numbered s result scratch small xs w = go (call_ways s result scratch)
   where

@@ -1,5 +1,5 @@
 -- The real run (document 01, "The sheet, added"): it stops only where a real pervading stops or a real shape does not fit the spec
--- of its validation, and never for want of a shape in an accepted or well_formed sheet. It keeps as many real shapes as the sheet
+-- of its validation, and never for want of a shape in an accepted or well-formed sheet. It keeps as many real shapes as the sheet
 -- keeps types.
 use Rattle.std.specs.Prelude.{ℕ, ◌≤◌, Bool, true, false, cond, List, [], ◌∷◌, reverse, ◌≡◌, refl, length}
 use Rattle.std.proofs.Common.{arith, inl, inr, sym, ◌∙◌}
@@ -109,10 +109,10 @@ run-many (x ∷ xs) f rs left e = go (real_step x f.0 rs) refl e (λ rs₁ l. ru
     go none e₁ e₂ k = let z : ◌≡◌ {A = ℕ} 0 1 = cc in absurd (omega arith)
     go (some rs₁) e₁ e₂ k = rw (← step-many x f.0 rs rs₁ e₁) (k rs₁ e₂)
 
--- ---- a well_formed sheet
+-- ---- a well-formed sheet
 
 module _ (s result scratch : List ℕ) (small : Bytes s) (xs : List Step) (w : WellFormed s result scratch xs) (f : Feeds xs) where
-  -- "a well_formed sheet never lacks a shape"
+  -- "a well-formed sheet never lacks a shape"
   pub well_formed_stops : real_run xs f [] ≡ none → RunStopsBecause xs f []
   well_formed_stops e = run_stops xs f [] (well_formed-took s result scratch small xs w).1 e
 

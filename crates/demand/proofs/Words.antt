@@ -1,5 +1,5 @@
 -- That the words of demand 3 mean what they say: an accepted sheet is the bytes of one written list and of one only, and what that comes to
--- is worked to the types left; and a well_formed sheet is the bytes of one that comes to steps that never lack types nor have too many.
+-- is worked to the types left; and a well-formed sheet is the bytes of one that comes to steps that never lack types nor have too many.
 use Rattle.std.specs.Prelude.{ℕ, ◌≤◌, List, [], reverse, ◌≡◌, length}
 use Rattle.std.proofs.Common.{sym, ◌∙◌, ap}
 use Rattle.model.specs.Types.{Ty}
@@ -39,9 +39,9 @@ one_list s xs ys h k = sym h.comes_to ∙ ap (unfolded []) (one_written s xs ys 
 pub sheet-of-steps : (s : List ℕ) (xs : List Step) → SheetOf s xs → aside (sheet_run s) ≡ bottom_first (steps xs [])
 sheet-of-steps = sheet-steps
 
--- ---- well_formed
+-- ---- well-formed
 
--- A well_formed sheet is the bytes of a written list that comes to steps none of which lacks types or lays down one too many, and the other
+-- A well-formed sheet is the bytes of a written list that comes to steps none of which lacks types or lays down one too many, and the other
 -- way round.
 pub well_formed-steps : (s result scratch : List ℕ) → Bytes s → (xs : List Step) → WellFormed s result scratch xs → SheetOf s xs × Heights xs 0
 well_formed-steps = well_formed-took

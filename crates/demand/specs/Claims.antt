@@ -78,7 +78,7 @@ pub record EachHolds (ts : List Ty) (rs : List RealShape) : Type 0 where
 
 -- ---- the second half
 
--- All conditions of the second half: "puts and unfilled pervadings", "a well_formed sheet", "leaving one type". The sheet is of bytes,
+-- All conditions of the second half: "puts and unfilled pervadings", "a well-formed sheet", "leaving one type". The sheet is of bytes,
 -- as every slice of u8 is.
 pub record SecondConditions (c : Check) (xs : List Step) : Type 0 where
   pub bytes : Bytes c.sheet

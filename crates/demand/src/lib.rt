@@ -1,3 +1,3 @@
 // Demand 3, both halves, as theorems about what the sheet call answers.
-// All of it stands in specs/; this crate has no functions.
+// The definitions stand in specs/, what is shown of them in proofs/; this crate has no functions.
 #![tactic(auto)]

@@ -222,7 +222,7 @@ module _ (scratch : List ℕ) (enough : scratch_bytes ≤ length scratch) where
       kind_of write_shape write_scalar write_ty read_mark read_dim read_dims shape_from scalar_from read_ty
   call-short = rw (le-ltb (length scratch) scratch_bytes enough)
 
--- ---- well_formed
+-- ---- well-formed
 
 abbrev two_left : List Step
 two_left = put_num ∷ put_num ∷ []
@@ -232,7 +232,7 @@ abbrev one_type_left : List Step
 one_type_left = put (nums (3 ∷ [])) ∷ put (nums (4 ∷ [])) ∷ pervading false false ∷ []
 
 module _ (result scratch : List ℕ) where
-  -- Lent so much scratch and so much of a result, and no less, steps that are read back make a well_formed sheet.
+  -- Lent so much scratch and so much of a result, and no less, steps that are read back make a well-formed sheet.
   lent_exactly : (xs : List Step) (n : ℕ) → skim (bytes_of_steps xs) ≡ accepted (written_out xs) → unfolded [] (written_out xs) ≡ xs → result_bytes (types_left xs) ≡ n
       → ((25728 ≤ length scratch) × (n ≤ length result)) ↔ WellFormed (bytes_of_steps xs) result scratch xs
   lent_exactly xs n read comes e =

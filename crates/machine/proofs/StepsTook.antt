@@ -203,6 +203,6 @@ skim-took s small ws xs e comes = go (skim_more s max_steps (fresh 0) 0) refl e
           rw (← comes) t.heights,
         )
 
--- So are those of a well_formed sheet.
+-- So are those of a well-formed sheet.
 pub well_formed-took : (s result scratch : List ℕ) → Bytes s → (xs : List Step) → WellFormed s result scratch xs → SheetOf s xs × Heights xs 0
 well_formed-took s result scratch small xs w = skim-took s small w.written xs w.read w.comes_to

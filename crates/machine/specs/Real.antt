@@ -99,7 +99,7 @@ real_rule (pervading f g) u = of_two λ r q. real_pervade f g r q
 real_rule join side = of_two λ r q. some (keeps side r q)
 real_rule (validating spec) u = of_one λ r. cond (fits (shape_of spec) r) (some r) none
 
--- It is laid on top. An accepted or well_formed sheet never lacks a shape (`demand`: `accepted_stops`, `well_formed_stops`).
+-- It is laid on top. An accepted or well-formed sheet never lacks a shape (`demand`: `accepted_stops`, `well_formed_stops`).
 abbrev pub real_rule_on : Rule RealShape (Option RealShape) → List RealShape → Option (List RealShape)
 real_rule_on (of_none o) rs = onto_real rs o
 real_rule_on (of_one f) [] = none

@@ -1,6 +1,6 @@
 -- Reading a sheet (document 01, "The sheet, added"), step by step to the end of its bytes: step 65 is refused first, then the mark,
 -- the stack, the step's bytes, its name (document 02, 2026-06), its rule. A refusal names the step's mark, but inside a type the place that
--- its reader names. The same reading with the rules left out says what a well_formed sheet is.
+-- its reader names. The same reading with the rules left out says what a well-formed sheet is.
 use Rattle.std.specs.Prelude.{ℕ, zero, suc, ◌-◌, Bool, cond, List, [], ◌∷◌, reverse, length, leb, ltb}
 use Rattle.std.proofs.Math.Option.{Option, none, some}
 use Rattle.model.specs.Refusals.{unmarked, underflow, overflow, undeclared, too_many_names}

@@ -1,3 +1,3 @@
 // Which step of a sheet a place belongs to, and that it is the step that was refused.
-// All of it stands in specs/; this crate has no functions.
+// The definitions stand in specs/, what is shown of them in proofs/; this crate has no functions.
 #![tactic(auto)]

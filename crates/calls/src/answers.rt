@@ -1,17 +1,18 @@
 // Answers, rendered as lines into the output, which is written in large pieces and has room for each.
-use crate::words::{nth, part};
+use crate::fault::Fault;
+use crate::parts::front;
 use limits::UNKNOWN;
-use std::io::Write;
-use streams::write_out;
-use text::{Rendered, put_bytes, put_decimal, put_hex};
+use limits::refusal::Refusal;
+use std::cmp::Ordering;
+use text::{put_bytes, put_decimal, put_hex};
 use velgrodis::{
-    Answer as Crossed, DECLARATION, JOIN, NO_INDEX, NOTHING, PERVADE, PUT, ROW, USE, VALIDATE,
-    VALUE, Validation,
+    Answer as Crossed, CHECKED_TYPE, DECLARATION, JOIN, NO_INDEX, NOTHING, PERVADE, PUT, ROW, SPEC,
+    USE, VALIDATE, VALUE, Validation,
 };
 
-// What a line comes to. Bytes, and those of a stretch, a type, a text or a whole line, are the first of the result; a size is all ones for
-// unknown; a step has its number and its mark; incompatible shapes have the index that is named; `reading` says which input a validation was
-// reading; a fault is one of `fault`.
+// What a request comes to. Bytes, and those of a stretch, a type, a text or a whole line, are the first of the result; a size is all ones
+// for unknown; a step has its number and its mark; incompatible shapes have the index that is named; `reading` says which input a
+// validation was reading.
 #[derive(Clone, Copy)]
 pub enum Reply {
     Bytes(usize),
@@ -30,7 +31,7 @@ pub enum Reply {
     Typed(usize),
     Text(usize),
     Line(usize),
-    Less,
+    Order(Ordering),
     Nothing,
     Refused {
         number: u64,
@@ -41,7 +42,6 @@ pub enum Reply {
         place: u64,
         reading: u64,
     },
-    Bad(usize),
 }
 
 // What a call wrote to its result.
@@ -105,16 +105,16 @@ pub(crate) fn sized(a: Crossed) -> Reply {
 // An order, which is 0 for less, 1 for the same and 2 for more.
 pub(crate) fn compared(a: Crossed) -> Reply {
     if a.kind == VALUE {
-        return sign(a.first);
+        return Reply::Order(order_of(a.first));
     }
     without_value(a)
 }
 
-fn sign(order: u64) -> Reply {
-    match order {
-        0 => Reply::Less,
-        1 => Reply::Number(0),
-        _ => Reply::Number(1),
+fn order_of(number: u64) -> Ordering {
+    match number {
+        0 => Ordering::Less,
+        1 => Ordering::Equal,
+        _ => Ordering::Greater,
     }
 }
 
@@ -129,174 +129,163 @@ pub(crate) fn without_value(a: Crossed) -> Reply {
     }
 }
 
-// One line, after the answers that stand in `out` up to `at`. Answers where it ends. Apart from what stands in the result
-// a line takes less than 64 bytes.
-pub(crate) fn say(answer: Reply, res: &[u8], out: &mut [u8], at: usize) -> usize {
+impl From<Refusal> for Reply {
+    fn from(refusal: Refusal) -> Reply {
+        let Refusal(reason, place) = refusal;
+        Reply::Refused {
+            number: u64::from(reason.number()),
+            place: place as u64,
+        }
+    }
+}
+
+// One line, after the answers that stand in `out` up to `at`. Answers where it ends. Apart from what stands in the result a line takes
+// less than 64 bytes; where there is no room for it, it is none.
+pub(crate) fn say(
+    answer: Result<Reply, Fault>,
+    res: &[u8],
+    out: &mut [u8],
+    at: usize,
+) -> Option<usize> {
     match answer {
-        Reply::Bytes(n) => say_bytes(part(res, 0, n), out, at),
-        Reply::Stretch { start, length } => say_stretch(start, part(res, 0, length), out, at),
+        Ok(reply) => say_reply(reply, res, out, at),
+        Err(fault) => say_fault(fault, out, at),
+    }
+}
+
+fn say_reply(reply: Reply, res: &[u8], out: &mut [u8], at: usize) -> Option<usize> {
+    match reply {
+        Reply::Bytes(n) => say_bytes(front(res, n), out, at),
+        Reply::Stretch { start, length } => say_stretch(start, front(res, length), out, at),
         Reply::Step { number, mark } => say_step(number, mark, out, at),
         Reply::Number(n) => say_number(n, out, at),
         Reply::Incompatible(index) => say_incompatible(index, out, at),
         Reply::Size(n) => say_size(n, out, at),
         Reply::Bits(bits) => say_bits(bits, out, at),
-        Reply::Typed(n) => say_typed(part(res, 0, n), out, at),
-        Reply::Text(n) => say_text(part(res, 0, n), out, at),
-        Reply::Line(n) => say_line(part(res, 0, n), out, at),
-        Reply::Less => put(b"ok -1\n", out, at),
-        Reply::Nothing => put(b"ok none\n", out, at),
+        Reply::Typed(n) => say_typed(front(res, n), out, at),
+        Reply::Text(n) => say_text(front(res, n), out, at),
+        Reply::Line(n) => say_line(front(res, n), out, at),
+        Reply::Order(order) => say_order(order, out, at),
+        Reply::Nothing => put_bytes(b"ok none\n", out, at),
         Reply::Refused { number, place } => say_refused(number, place, b"\n", out, at),
         Reply::RefusedReading {
             number,
             place,
             reading,
         } => say_reading(number, place, reading, out, at),
-        Reply::Bad(fault) => say_bad(fault, out, at),
     }
 }
 
-// Writes what stands in `out` up to `end`. Answers whether all of it could be written.
-pub(crate) fn flush<W: Write>(to: &mut W, out: &[u8], end: usize) -> bool {
-    let text = part(out, 0, end);
-    let written = write_out(to, text);
-    written.count == text.len()
-}
-
-fn say_bytes(bytes: &[u8], out: &mut [u8], at: usize) -> usize {
-    let start = put(b"ok ", &mut *out, at);
+fn say_bytes(bytes: &[u8], out: &mut [u8], at: usize) -> Option<usize> {
+    let start = put_bytes(b"ok ", &mut *out, at)?;
     say_hex(bytes, out, start)
 }
 
-fn say_typed(bytes: &[u8], out: &mut [u8], at: usize) -> usize {
-    let start = put(b"ok type ", &mut *out, at);
+fn say_typed(bytes: &[u8], out: &mut [u8], at: usize) -> Option<usize> {
+    let start = put_bytes(b"ok type ", &mut *out, at)?;
     say_hex(bytes, out, start)
 }
 
-fn say_stretch(start: usize, bytes: &[u8], out: &mut [u8], at: usize) -> usize {
-    let second = put_number(b"ok ", start as u64, b" ", &mut *out, at);
-    let end = put_number(b"", bytes.len() as u64, b" ", &mut *out, second);
-    say_hex(bytes, out, end)
+fn say_stretch(start: usize, bytes: &[u8], out: &mut [u8], at: usize) -> Option<usize> {
+    let second = put_number(b"ok ", start as u64, b" ", &mut *out, at)?;
+    let third = put_number(b"", bytes.len() as u64, b" ", &mut *out, second)?;
+    say_hex(bytes, out, third)
 }
 
-fn say_step(number: u64, mark: u64, out: &mut [u8], at: usize) -> usize {
-    let word = put_number(b"ok ", number, b" ", &mut *out, at);
-    let end = put(
-        nth(
-            b"none put row pervade join validate declaration use",
-            mark_place(mark),
-        ),
-        &mut *out,
-        word,
-    );
-    put(b"\n", out, end)
+fn say_step(number: u64, mark: u64, out: &mut [u8], at: usize) -> Option<usize> {
+    let second = put_number(b"ok ", number, b" ", &mut *out, at)?;
+    say_line(mark_word(mark), out, second)
 }
 
-// Which of the words a mark has.
-fn mark_place(mark: u64) -> usize {
-    if mark == PUT {
-        return 1;
+fn mark_word(mark: u64) -> &'static [u8] {
+    match mark {
+        PUT => b"put",
+        ROW => b"row",
+        PERVADE => b"pervade",
+        JOIN => b"join",
+        VALIDATE => b"validate",
+        DECLARATION => b"declaration",
+        USE => b"use",
+        _ => b"none",
     }
-    if mark == ROW {
-        return 2;
-    }
-    if mark == PERVADE {
-        return 3;
-    }
-    if mark == JOIN {
-        return 4;
-    }
-    if mark == VALIDATE {
-        return 5;
-    }
-    if mark == DECLARATION {
-        return 6;
-    }
-    if mark == USE {
-        return 7;
-    }
-    0
 }
 
 // Bytes in hexadecimal, and the line's end.
-fn say_hex(bytes: &[u8], out: &mut [u8], at: usize) -> usize {
-    let end = after(put_hex(bytes, &mut *out, at));
-    put(b"\n", out, end)
+fn say_hex(bytes: &[u8], out: &mut [u8], at: usize) -> Option<usize> {
+    let end = put_hex(bytes, &mut *out, at)?;
+    put_bytes(b"\n", out, end)
 }
 
-fn say_incompatible(index: u64, out: &mut [u8], at: usize) -> usize {
+fn say_incompatible(index: u64, out: &mut [u8], at: usize) -> Option<usize> {
     if index == NO_INDEX {
-        return put(b"ok 0 none\n", out, at);
+        return put_bytes(b"ok 0 none\n", out, at);
     }
     put_number(b"ok 0 ", index, b"\n", out, at)
 }
 
-fn say_size(n: u64, out: &mut [u8], at: usize) -> usize {
+fn say_size(n: u64, out: &mut [u8], at: usize) -> Option<usize> {
     if n == UNKNOWN {
-        return put(b"ok ?\n", out, at);
+        return put_bytes(b"ok ?\n", out, at);
     }
     say_number(n, out, at)
 }
 
-fn say_number(n: u64, out: &mut [u8], at: usize) -> usize {
+fn say_number(n: u64, out: &mut [u8], at: usize) -> Option<usize> {
     put_number(b"ok ", n, b"\n", out, at)
 }
 
-fn say_bits(bits: u64, out: &mut [u8], at: usize) -> usize {
+fn say_bits(bits: u64, out: &mut [u8], at: usize) -> Option<usize> {
     let mut digits = [0u8; 16];
     let n = io::hex(bits, 16, &mut digits);
-    let start = put(b"ok num ", &mut *out, at);
-    let end = put(&digits[..n], &mut *out, start);
-    put(b"\n", out, end)
+    let start = put_bytes(b"ok num ", &mut *out, at)?;
+    say_line(&digits[..n], out, start)
 }
 
-fn say_text(text: &[u8], out: &mut [u8], at: usize) -> usize {
-    let start = put(b"ok ", &mut *out, at);
+fn say_text(text: &[u8], out: &mut [u8], at: usize) -> Option<usize> {
+    let start = put_bytes(b"ok ", &mut *out, at)?;
     say_line(text, out, start)
 }
 
-// A text that is the whole answer.
-fn say_line(text: &[u8], out: &mut [u8], at: usize) -> usize {
-    let end = put(text, &mut *out, at);
-    put(b"\n", out, end)
+// A text, and the line's end.
+fn say_line(text: &[u8], out: &mut [u8], at: usize) -> Option<usize> {
+    let end = put_bytes(text, &mut *out, at)?;
+    put_bytes(b"\n", out, end)
 }
 
-fn say_refused(number: u64, place: u64, behind: &[u8], out: &mut [u8], at: usize) -> usize {
-    let second = put_number(b"no ", number, b" ", &mut *out, at);
+fn say_order(order: Ordering, out: &mut [u8], at: usize) -> Option<usize> {
+    match order {
+        Ordering::Less => put_bytes(b"ok -1\n", out, at),
+        Ordering::Equal => put_bytes(b"ok 0\n", out, at),
+        Ordering::Greater => put_bytes(b"ok 1\n", out, at),
+    }
+}
+
+fn say_refused(number: u64, place: u64, behind: &[u8], out: &mut [u8], at: usize) -> Option<usize> {
+    let second = put_number(b"no ", number, b" ", &mut *out, at)?;
     put_number(b"", place, behind, out, second)
 }
 
-// The words stand in the order of the numbers that the library has for them.
-fn say_reading(number: u64, place: u64, reading: u64, out: &mut [u8], at: usize) -> usize {
-    let third = say_refused(number, place, b" ", &mut *out, at);
-    let end = put(
-        nth(b"neither spec type", reading as usize),
-        &mut *out,
-        third,
-    );
-    put(b"\n", out, end)
+fn say_reading(number: u64, place: u64, reading: u64, out: &mut [u8], at: usize) -> Option<usize> {
+    let third = say_refused(number, place, b" ", &mut *out, at)?;
+    say_line(input_word(reading), out, third)
 }
 
-fn say_bad(fault: usize, out: &mut [u8], at: usize) -> usize {
-    let why = put(b"bad ", &mut *out, at);
-    let word = nth(b"long request words value side number hex", fault);
-    let end = put(word, &mut *out, why);
-    put(b"\n", out, end)
+fn input_word(reading: u64) -> &'static [u8] {
+    match reading {
+        SPEC => b"spec",
+        CHECKED_TYPE => b"type",
+        _ => b"neither",
+    }
+}
+
+fn say_fault(fault: Fault, out: &mut [u8], at: usize) -> Option<usize> {
+    let start = put_bytes(b"bad ", &mut *out, at)?;
+    say_line(fault.word(), out, start)
 }
 
 // A number between two texts.
-fn put_number(before: &[u8], n: u64, behind: &[u8], out: &mut [u8], at: usize) -> usize {
-    let digits = put(before, &mut *out, at);
-    let end = after(put_decimal(n, &mut *out, digits));
-    put(behind, out, end)
-}
-
-pub(crate) fn put(bytes: &[u8], out: &mut [u8], at: usize) -> usize {
-    after(put_bytes(bytes, out, at))
-}
-
-pub(crate) fn after(placed: Rendered) -> usize {
-    match placed {
-        Rendered::To(next) => next,
-        Rendered::NoRoom => 0,
-    }
+fn put_number(before: &[u8], n: u64, behind: &[u8], out: &mut [u8], at: usize) -> Option<usize> {
+    let digits = put_bytes(before, &mut *out, at)?;
+    let end = put_decimal(n, &mut *out, digits)?;
+    put_bytes(behind, out, end)
 }

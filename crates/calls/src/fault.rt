@@ -1,14 +1,26 @@
-// Why a line is no request: each by the place of its word among those that `answers` says.
-pub const LONG: usize = 0;
+// Why a line is no request.
+#[derive(Clone, Copy)]
+pub enum Fault {
+    Long,
+    Request,
+    Words,
+    Value,
+    Side,
+    Number,
+    Hex,
+}
 
-pub const REQUEST: usize = 1;
-
-pub const WORDS: usize = 2;
-
-pub const VALUE: usize = 3;
-
-pub const SIDE: usize = 4;
-
-pub const NUMBER: usize = 5;
-
-pub const HEX: usize = 6;
+impl Fault {
+    // The word that an answer says it by.
+    pub fn word(self) -> &'static [u8] {
+        match self {
+            Fault::Long => b"long",
+            Fault::Request => b"request",
+            Fault::Words => b"words",
+            Fault::Value => b"value",
+            Fault::Side => b"side",
+            Fault::Number => b"number",
+            Fault::Hex => b"hex",
+        }
+    }
+}

@@ -1,30 +1,19 @@
 // Lines, put together from the pieces in which the input comes.
-ghost use Rattle.std.specs.Prelude.{◌≤◌, ◌<◌, length};
-
-use crate::answers::{flush, say};
+use crate::answers::say;
+use crate::parts::front;
 use crate::requests::answered;
-use crate::words::part;
 use std::io::Write;
+use streams::write_out;
 
 // Answers wait until they have so many bytes or more is to be read.
 pub const PIECE: usize = 65536;
 
-// How much of the line under way is held, and whether all answers so far could be written.
+// That answers could not be written, so that nobody takes those to come.
 #[derive(Clone, Copy)]
-pub struct Progress {
-    pub held: usize,
-    pub heard: bool,
-}
+pub struct Unheard;
 
-// What a piece gave to the line under way, and where the piece goes on after it.
-#[derive(Clone, Copy)]
-pub struct Taken {
-    pub held: usize,
-    pub next: usize,
-    pub whole: bool,
-}
-
-// Answers the lines that end in a piece, as long as the answers can be written, and holds the rest of it.
+// Answers the lines that end in a piece, and holds the rest of it behind what is held of the line under way. Answers how much of a line
+// is held then.
 pub(crate) fn feed<W: Write>(
     to: &mut W,
     piece: &[u8],
@@ -33,80 +22,77 @@ pub(crate) fn feed<W: Write>(
     input: &mut [u8],
     res: &mut [u8],
     out: &mut [u8],
-) -> Progress {
-    let mut n = held;
-    let mut end = 0usize;
-    let mut at = 0usize;
-    while at < piece.len() {
-        let taken = take(piece, at, &mut *line, n);
-        n = taken.held;
-        at = taken.next;
-        if taken.whole {
-            end = answer(part(&*line, 0, n), &mut *input, &mut *res, &mut *out, end);
-            n = 0;
-            if PIECE <= end {
-                if !flush(&mut *to, &*out, end) {
-                    return Progress {
-                        held: 0,
-                        heard: false,
-                    };
+) -> Result<usize, Unheard> {
+    let mut held = held;
+    let mut end = 0;
+    for part in piece.split_inclusive(|&byte| byte == b'\n') {
+        match part.strip_suffix(b"\n") {
+            Some(text) => {
+                let length = hold(text, &mut *line, held);
+                held = 0;
+                end = answer(
+                    front(&*line, length),
+                    &mut *input,
+                    &mut *res,
+                    &mut *out,
+                    end,
+                )?;
+                if PIECE <= end {
+                    flush(&mut *to, &*out, end)?;
+                    end = 0;
                 }
-                end = 0;
             }
+            None => held = hold(part, &mut *line, held),
         }
     }
-    Progress {
-        held: n,
-        heard: flush(to, &*out, end),
-    }
+    flush(to, &*out, end)?;
+    Ok(held)
 }
 
-// The last line may lack its line feed. Answers whether its answer could be written.
+// The last line may lack its line feed.
 pub(crate) fn last_line<W: Write>(
     to: &mut W,
     line: &[u8],
-    held: usize,
     input: &mut [u8],
     res: &mut [u8],
     out: &mut [u8],
-) -> bool {
-    if held == 0 {
-        return true;
+) -> Result<(), Unheard> {
+    if line.is_empty() {
+        return Ok(());
     }
-    let end = answer(part(line, 0, held), input, res, &mut *out, 0);
+    let end = answer(line, input, res, &mut *out, 0)?;
     flush(to, &*out, end)
 }
 
-fn answer(line: &[u8], input: &mut [u8], res: &mut [u8], out: &mut [u8], end: usize) -> usize {
-    let answer = answered(line, input, &mut *res);
-    say(answer, &*res, out, end)
+// Answers a line behind the answers that wait up to `end`, and where its own ends. One without room there cannot be written either.
+fn answer(
+    line: &[u8],
+    input: &mut [u8],
+    res: &mut [u8],
+    out: &mut [u8],
+    end: usize,
+) -> Result<usize, Unheard> {
+    let reply = answered(line, input, &mut *res);
+    say(reply, &*res, out, end).ok_or(Unheard)
 }
 
-// Bytes up to a line feed or the piece's end. A line that is longer than the room for it is held as far as that goes.
-fn take(piece: &[u8], at: usize, line: &mut [u8], held: usize) -> Taken
-    requires { at < length piece.now }
-    ensures { (at < result.next) × (result.next ≤ length piece.now) }
-{
-    let mut n = held;
-    let mut i = at;
-    while i < piece.len() {
-        let b = piece[i];
-        i += 1;
-        if b == 10 {
-            return Taken {
-                held: n,
-                next: i,
-                whole: true,
-            };
-        }
-        if n < line.len() {
-            line[n] = b;
-            n += 1;
-        }
+// Writes the answers that wait up to `end`, all of them.
+fn flush<W: Write>(to: &mut W, out: &[u8], end: usize) -> Result<(), Unheard> {
+    let text = front(out, end);
+    let written = write_out(to, text);
+    if written.count < text.len() {
+        return Err(Unheard);
     }
-    Taken {
-        held: n,
-        next: i,
-        whole: false,
-    }
+    Ok(())
+}
+
+// Bytes behind those that are held of a line. A line that is longer than the room for it is held as far as that goes. Answers how much is
+// held then.
+fn hold(bytes: &[u8], line: &mut [u8], held: usize) -> usize {
+    let Some(room) = line.get_mut(held..) else {
+        return held;
+    };
+    let count = bytes.len().min(room.len());
+    room[..count].copy_from_slice(&bytes[..count]);
+    held + count
 }

@@ -11,6 +11,7 @@ mod number_list;
 mod numbered;
 mod numbers;
 mod one_type;
+mod parts;
 mod pervading;
 mod records;
 mod requests;
@@ -22,10 +23,10 @@ mod two_types;
 mod values;
 mod words;
 
-use lines::{PIECE, feed, last_line};
+use lines::{PIECE, Unheard, feed, last_line};
+use parts::front;
 use std::io::{Read, Write};
 use streams::{Answered, Asked, complain, read_argument, read_some, say_version};
-use words::part;
 
 // Bytes of a line, its line feed not counted.
 const MAX_LINE: usize = 131072;
@@ -77,21 +78,28 @@ fn answer_input<R: Read, W: Write, E: Write>(from: &mut R, to: &mut W, err: &mut
     let mut input = [0u8; MAX_LINE / 2];
     let mut result = [0u8; RESULT];
     let mut out = [0u8; PIECE + ANSWER];
-    serve(
+    let served = serve(
         from,
         to,
-        err,
+        &mut *err,
         &mut chunk,
         &mut line,
         &mut input,
         &mut result,
         &mut out,
     );
+    if served.is_err() {
+        complain(
+            err,
+            b"calls: answers could not be written to standard output, so no more is read.\n",
+        );
+    }
 }
 
 // Answers line by line until the input ends or nobody takes the answers. What was answered is written before more is read,
-// so that whoever asks by hand is answered at once. The loop has to be proved to end, and that the input ends cannot be: so
-// the turns are counted down from a number that no input uses up.
+// so that whoever asks by hand is answered at once. At the input's end the last line may lack its line feed, but one that a failed read
+// cut off is not answered. The loop has to be proved to end, and that the input ends cannot be: so it has as many turns as no input uses
+// up.
 fn serve<R: Read, W: Write, E: Write>(
     from: &mut R,
     to: &mut W,
@@ -101,61 +109,34 @@ fn serve<R: Read, W: Write, E: Write>(
     input: &mut [u8],
     res: &mut [u8],
     out: &mut [u8],
-) {
-    let mut held = 0usize;
-    let mut turns = u64::MAX;
-    while turns > 0 {
-        turns -= 1;
-        let read = read_some(&mut *from, &mut *chunk);
-        let Answered::Bytes(n) = read else {
-            finish(to, err, read, &*line, held, input, res, out);
-            return;
-        };
-        let done = feed(
-            &mut *to,
-            part(&*chunk, 0, n),
-            &mut *line,
-            held,
-            &mut *input,
-            &mut *res,
-            &mut *out,
-        );
-        if !done.heard {
-            complain_unheard(err);
-            return;
-        }
-        held = done.held;
-    }
-}
-
-// After the last piece: at the input's end the last line may lack its line feed, but one that a failed read cut off is not
-// answered.
-fn finish<W: Write, E: Write>(
-    to: &mut W,
-    err: &mut E,
-    read: Answered,
-    line: &[u8],
-    held: usize,
-    input: &mut [u8],
-    res: &mut [u8],
-    out: &mut [u8],
-) {
-    match read {
-        Answered::Failed => complain(
-            err,
-            b"calls: standard input could not be read any further; a line that was not read whole gets no answer.\n",
-        ),
-        _ => {
-            if !last_line(to, line, held, input, res, out) {
-                complain_unheard(err);
+) -> Result<(), Unheard> {
+    let mut held = 0;
+    for _ in 0..u64::MAX {
+        match read_some(&mut *from, &mut *chunk) {
+            Answered::Bytes(n) => {
+                held = feed(
+                    &mut *to,
+                    &chunk[..n],
+                    &mut *line,
+                    held,
+                    &mut *input,
+                    &mut *res,
+                    &mut *out,
+                )?;
+            }
+            Answered::Nothing => return last_line(to, front(&*line, held), input, res, out),
+            Answered::Failed => {
+                complain_unread(err);
+                return Ok(());
             }
         }
     }
+    Ok(())
 }
 
-fn complain_unheard<E: Write>(err: &mut E) {
+fn complain_unread<E: Write>(err: &mut E) {
     complain(
         err,
-        b"calls: answers could not be written to standard output, so no more is read.\n",
+        b"calls: standard input could not be read any further; a line that was not read whole gets no answer.\n",
     );
 }

@@ -1,25 +1,31 @@
 // NAME alone: the table of kinds, and the library's version.
 use crate::answers::{Reply, delivered};
-use crate::fault;
-use crate::words::{WordPlace, count, find};
+use crate::fault::Fault;
+use crate::words;
 use velgrodis::{vg_kinds, vg_version};
 
-// In the order of `call`'s arms.
-pub(crate) fn number(name: &[u8]) -> WordPlace {
-    find(b"kinds version", name)
+#[derive(Clone, Copy)]
+pub(crate) enum Request {
+    Kinds,
+    Version,
 }
 
-pub(crate) fn answered(k: usize, line: &[u8], res: &mut [u8]) -> Reply {
-    if count(line) != 1 {
-        return Reply::Bad(fault::WORDS);
+pub(crate) fn named(name: &[u8]) -> Option<Request> {
+    match name {
+        b"kinds" => Some(Request::Kinds),
+        b"version" => Some(Request::Version),
+        _ => None,
     }
-    call(k, res)
 }
 
-fn call(k: usize, res: &mut [u8]) -> Reply {
-    match k {
-        0 => delivered(vg_kinds(res)),
-        1 => Reply::Number(vg_version()),
-        _ => Reply::Bad(fault::REQUEST),
+pub(crate) fn answered(request: Request, line: &[u8], res: &mut [u8]) -> Result<Reply, Fault> {
+    words::no_argument(line)?;
+    Ok(call(request, res))
+}
+
+fn call(request: Request, res: &mut [u8]) -> Reply {
+    match request {
+        Request::Kinds => delivered(vg_kinds(res)),
+        Request::Version => Reply::Number(vg_version()),
     }
 }

@@ -1,57 +1,58 @@
 // NAME N HEX: requests with a number on one type, and with a place of a sheet.
 use crate::answers::{Reply, delivered, located, without_value};
-use crate::arguments::hex;
-use crate::fault;
-use crate::words::{WordPlace, count, find, nth, part};
+use crate::arguments::{decimal, hex};
+use crate::fault::Fault;
+use crate::parts::part;
+use crate::words::two_arguments;
 use lent::hand_over;
-use text::{Decoded, Number, parse_decimal};
 use velgrodis::{VALUE, vg_field, vg_find_step, vg_nth_row};
 
-// In the order of `call`'s arms.
-pub(crate) fn number(name: &[u8]) -> WordPlace {
-    find(b"nth_row field find_step", name)
+#[derive(Clone, Copy)]
+pub(crate) enum Request {
+    NthRow,
+    Field,
+    FindStep,
 }
 
-pub(crate) fn answered(k: usize, line: &[u8], input: &mut [u8], res: &mut [u8]) -> Reply {
-    if count(line) != 3 {
-        return Reply::Bad(fault::WORDS);
+pub(crate) fn named(name: &[u8]) -> Option<Request> {
+    match name {
+        b"nth_row" => Some(Request::NthRow),
+        b"field" => Some(Request::Field),
+        b"find_step" => Some(Request::FindStep),
+        _ => None,
     }
-    let parsed = parse_decimal(nth(line, 1));
-    let Number::Value(n) = parsed else {
-        return Reply::Bad(fault::NUMBER);
-    };
-    let decoded = hex(nth(line, 2), &mut *input, 0);
-    let Decoded::To(end) = decoded else {
-        return Reply::Bad(fault::HEX);
-    };
-    call(k, n, part(&*input, 0, end), res)
 }
 
-fn call(k: usize, n: u64, a: &[u8], res: &mut [u8]) -> Reply {
-    match k {
-        0 => delivered(vg_nth_row(a, n, res)),
-        1 => field(n, a, res),
-        2 => located(vg_find_step(a, n)),
-        _ => Reply::Bad(fault::REQUEST),
+pub(crate) fn answered(
+    request: Request,
+    line: &[u8],
+    input: &mut [u8],
+    res: &mut [u8],
+) -> Result<Reply, Fault> {
+    let (number, word) = two_arguments(line)?;
+    let n = decimal(number)?;
+    let bytes = hex(word, input)?;
+    Ok(call(request, n, bytes, res))
+}
+
+fn call(request: Request, n: u64, bytes: &[u8], res: &mut [u8]) -> Reply {
+    match request {
+        Request::NthRow => delivered(vg_nth_row(bytes, n, res)),
+        Request::Field => field(n, bytes, res),
+        Request::FindStep => located(vg_find_step(bytes, n)),
     }
 }
 
 // A field is answered by its place and its bytes.
-fn field(n: u64, a: &[u8], res: &mut [u8]) -> Reply {
-    let answer = vg_field(a, n);
+fn field(n: u64, ty: &[u8], res: &mut [u8]) -> Reply {
+    let answer = vg_field(ty, n);
     if answer.kind == VALUE {
         let start = answer.first as usize;
-        let length = answer.second as usize;
-        hand_over(part(a, start, after(start, length)), res);
-        return Reply::Stretch { start, length };
+        let end = start.saturating_add(answer.second as usize);
+        return match hand_over(part(ty, start, end), res) {
+            Ok(length) => Reply::Stretch { start, length },
+            Err(refusal) => Reply::from(refusal),
+        };
     }
     without_value(answer)
-}
-
-// The place after a stretch. Of a stretch of bytes that are there the sum fits; where it does not, the start.
-fn after(start: usize, length: usize) -> usize {
-    if length <= usize::MAX - start {
-        return start + length;
-    }
-    start
 }

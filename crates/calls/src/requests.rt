@@ -1,53 +1,57 @@
-// The requests by the arguments that they take. A request's number is its place among those that take the same.
+// The requests by the arguments that they take.
 use crate::answers::Reply;
-use crate::words::{WordPlace, nth};
+use crate::fault::Fault;
+use crate::words::first_word;
 use crate::{
-    MAX_LINE, fault, no_argument, number_list, numbered, one_type, pervading, records, sheets,
-    sided, sizes, two_types, values,
+    MAX_LINE, no_argument, number_list, numbered, one_type, pervading, records, sheets, sided,
+    sizes, two_types, values,
 };
 
-pub(crate) fn answered(line: &[u8], input: &mut [u8], res: &mut [u8]) -> Reply {
+pub(crate) fn answered(line: &[u8], input: &mut [u8], res: &mut [u8]) -> Result<Reply, Fault> {
     if MAX_LINE < line.len() {
-        return Reply::Bad(fault::LONG);
+        return Err(Fault::Long);
     }
-    let name = nth(line, 0);
-    if let WordPlace::At(k) = one_type::number(name) {
-        return one_type::answered(k, line, input, res);
+    let name = first_word(line);
+    if let Some(request) = one_type::named(name) {
+        return one_type::answered(request, line, input, res);
     }
-    if let WordPlace::At(k) = two_types::number(name) {
-        return two_types::answered(k, line, input, res);
+    if let Some(request) = two_types::named(name) {
+        return two_types::answered(request, line, input, res);
     }
-    if let WordPlace::At(_) = pervading::number(name) {
-        return pervading::answered(line, input, res);
+    if let Some(request) = sided::named(name) {
+        return sided::answered(request, line, input, res);
     }
-    if let WordPlace::At(k) = sided::number(name) {
-        return sided::answered(k, line, input, res);
+    if let Some(request) = numbered::named(name) {
+        return numbered::answered(request, line, input, res);
     }
-    if let WordPlace::At(k) = numbered::number(name) {
-        return numbered::answered(k, line, input, res);
+    if let Some(request) = records::named(name) {
+        return records::answered(request, line, input, res);
     }
     answered_otherwise(name, line, input, res)
 }
 
-// Requests that are not on types alone.
-fn answered_otherwise(name: &[u8], line: &[u8], input: &mut [u8], res: &mut [u8]) -> Reply {
-    if let WordPlace::At(k) = values::number(name) {
-        return values::answered(k, line, input, res);
+// Requests that are not on types alone, and those that are the only ones to take their arguments.
+fn answered_otherwise(
+    name: &[u8],
+    line: &[u8],
+    input: &mut [u8],
+    res: &mut [u8],
+) -> Result<Reply, Fault> {
+    if let Some(request) = values::named(name) {
+        return values::answered(request, line, input, res);
     }
-    if let WordPlace::At(_) = number_list::number(name) {
-        return number_list::answered(line, res);
+    if let Some(request) = sizes::named(name) {
+        return sizes::answered(request, line);
     }
-    if let WordPlace::At(k) = sizes::number(name) {
-        return sizes::answered(k, line);
+    if let Some(request) = no_argument::named(name) {
+        return no_argument::answered(request, line, res);
     }
-    if let WordPlace::At(k) = records::number(name) {
-        return records::answered(k, line, input, res);
+    if let Some(request) = sheets::named(name) {
+        return sheets::answered(request, line, input, res);
     }
-    if let WordPlace::At(k) = no_argument::number(name) {
-        return no_argument::answered(k, line, res);
+    match name {
+        b"pervade" => pervading::answered(line, input, res),
+        b"nums_scalar" => number_list::answered(line, res),
+        _ => Err(Fault::Request),
     }
-    if let WordPlace::At(k) = sheets::number(name) {
-        return sheets::answered(k, line, input, res);
-    }
-    Reply::Bad(fault::REQUEST)
 }

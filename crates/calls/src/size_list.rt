@@ -1,26 +1,20 @@
 // Sizes as text: how many, then the sizes, each after a space.
-use crate::answers::{Reply, after, put};
 use limits::UNKNOWN;
-use text::put_decimal;
+use text::{put_bytes, put_decimal};
 
-// The text of the first `count` sizes is put into the result.
-pub(crate) fn list_sizes(count: usize, sizes: &[u64], res: &mut [u8]) -> Reply {
-    let mut end = after(put_decimal(count as u64, &mut *res, 0));
-    let mut i = 0usize;
-    while i < sizes.len() {
-        if count <= i {
-            return Reply::Text(end);
-        }
-        end = put_size(sizes[i], &mut *res, end);
-        i += 1;
+// The text, to the front of the result. Answers how many bytes it has.
+pub(crate) fn list_sizes(sizes: &[u64], res: &mut [u8]) -> Option<usize> {
+    let mut end = put_decimal(sizes.len() as u64, &mut *res, 0)?;
+    for &size in sizes {
+        end = put_size(size, &mut *res, end)?;
     }
-    Reply::Text(end)
+    Some(end)
 }
 
-fn put_size(size: u64, res: &mut [u8], at: usize) -> usize {
+fn put_size(size: u64, res: &mut [u8], at: usize) -> Option<usize> {
+    let start = put_bytes(b" ", &mut *res, at)?;
     if size == UNKNOWN {
-        return put(b" ?", res, at);
+        return put_bytes(b"?", res, start);
     }
-    let digits = put(b" ", &mut *res, at);
-    after(put_decimal(size, res, digits))
+    put_decimal(size, res, start)
 }

@@ -1,2 +1,2 @@
-mod ReadLaws
-mod StepLaws
+pub mod ReadLaws
+pub mod StepLaws

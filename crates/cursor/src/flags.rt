@@ -1,54 +1,35 @@
 // The flag byte of a pervading.
-ghost use Rattle.std.specs.Prelude.{◌≡◌, ℕ};
+ghost use Rattle.std.specs.Prelude.{◌≡◌};
 ghost use Rattle.machine.specs.Steps.{a_pervading};
 ghost use Rattle.machine.specs.Sheet.{argument_from};
 ghost use Rattle.cursor.specs.Answers.{fills_of};
 
 use limits::MAX_FLAG;
-use limits::refusal::{ENDED, OUT_OF_RANGE};
+use limits::refusal::{Reason, Refusal};
 
-// Which of both types is filled and the place after the flag, or the number of its refusal, which names the step's mark.
+// Which of both types is filled, and the place after the flag.
 #[derive(Clone, Copy)]
-pub enum FlagRead {
-    Got {
-        top_fill: bool,
-        below_fill: bool,
-        next: usize,
-    },
-    Refused {
-        number: u8,
-    },
+pub struct Fills {
+    pub top: bool,
+    pub below: bool,
+    pub next: usize,
 }
 
-// The number of a flag's refusal, 0 where it was read.
-pub fn flag_number(read: FlagRead) -> u8
-    ensures { (k : ℕ) → read ≡ FlagRead.Refused k → result ≡ k }
-{
-    match read {
-        FlagRead::Got {
-            top_fill: _,
-            below_fill: _,
-            next: _,
-        } => 0,
-        FlagRead::Refused { number } => number,
-    }
-}
-
-pub fn read_flag(s: &[u8], at: usize) -> FlagRead
-    ensures { (p : ℕ) → fills_of result p ≡ argument_from s.now a_pervading p at }
+// A refusal names the step's mark.
+#[tactic(auto, unfolding(machine::specs::Sheet::argument_from, format::specs::Reader::judged, format::specs::Reader::byte))]
+pub fn read_flag(s: &[u8], mark: usize, at: usize) -> Result<Fills, Refusal>
+    ensures { fills_of result ≡ argument_from s.now a_pervading mark at }
 {
     if s.len() <= at {
-        return FlagRead::Refused { number: ENDED };
+        return Err(Refusal(Reason::Ended, mark));
     }
     let flag = s[at];
     if MAX_FLAG < flag {
-        return FlagRead::Refused {
-            number: OUT_OF_RANGE,
-        };
+        return Err(Refusal(Reason::OutOfRange, mark));
     }
-    FlagRead::Got {
-        top_fill: flag % 2 == 1,
-        below_fill: flag / 2 % 2 == 1,
+    Ok(Fills {
+        top: flag % 2 == 1,
+        below: flag / 2 % 2 == 1,
         next: at + 1,
-    }
+    })
 }

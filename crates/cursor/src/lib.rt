@@ -11,14 +11,15 @@ ghost use Rattle.std.specs.Prelude.{◌≡◌};
 ghost use Rattle.machine.specs.Sheet.{step_from};
 ghost use Rattle.cursor.specs.Answers.{StepIs};
 
-pub use flags::{FlagRead, read_flag};
-pub use marks::{MarkRead, Operation, read_mark};
+pub use flags::{Fills, read_flag};
+use limits::refusal::Refusal;
+pub use marks::{Operation, read_mark};
 use steps::read_step;
 
-// A step's fields and the place after it, or the refusal. The bytes of its type stand from start to next; a name's length stands at the
+// A step's fields and the place after it. The bytes of its type stand from start to next; a name's length stands at the
 // place of the name, and the type that it is declared with behind it, up to next.
 #[derive(Clone, Copy)]
-pub enum StepRead {
+pub enum Step {
     Put {
         start: usize,
         next: usize,
@@ -46,10 +47,6 @@ pub enum StepRead {
         name: usize,
         next: usize,
     },
-    Refused {
-        number: u8,
-        place: usize,
-    },
 }
 
 // The sheet's bytes and the place reached.
@@ -60,7 +57,7 @@ struct Cursor<'a> {
 }
 
 // The step whose mark stands at a place, on a stack of that height; its callers need no cursor of their own.
-pub fn step_at(s: &[u8], at: usize, height: usize) -> StepRead
+pub fn step_at(s: &[u8], at: usize, height: usize) -> Result<Step, Refusal>
     ensures { StepIs result s.now (step_from s.now height at at) }
 {
     next_step(new(s, at), height)
@@ -72,7 +69,7 @@ fn new<'a>(src: &'a [u8], at: usize) -> Cursor<'a>
     Cursor { src, at }
 }
 
-fn next_step<'a>(c: Cursor<'a>, height: usize) -> StepRead
+fn next_step<'a>(c: Cursor<'a>, height: usize) -> Result<Step, Refusal>
     ensures { StepIs result c.entry.src.now (step_from c.entry.src.now height c.entry.at c.entry.at) }
 {
     read_step(c.src, c.at, height)

@@ -6,44 +6,32 @@ ghost use Rattle.machine.specs.Steps.{a_put, a_pervading, a_validating, a_declar
 ghost use Rattle.machine.specs.Sheet.{argument_from, step_from};
 ghost use Rattle.cursor.specs.Answers.{opcode_for, StepIs};
 
-use crate::StepRead;
-use crate::flags::{FlagRead, flag_number, read_flag};
-use crate::marks::{MarkRead, Operation, mark_number, read_mark};
-use crate::types::{TypeRead, read_stretch, type_number, type_place};
+use crate::Step;
+use crate::flags::read_flag;
+use crate::marks::{Operation, read_mark};
+use crate::types::read_stretch;
 use limits::MAX_STACK;
-use limits::refusal::{OVERFLOW, UNDERFLOW};
-use names::{NameRead, name_number, read_table_name};
+use limits::refusal::{Reason, Refusal};
+use names::read_table_name;
 
 // The step whose mark stands at a place, on a stack of that height.
-pub fn read_step(s: &[u8], at: usize, height: usize) -> StepRead
+#[tactic(auto, using(crate::proofs::StepLaws::row_is, crate::proofs::StepLaws::join_is), unfolding(machine::specs::Sheet::step_from))]
+pub fn read_step(s: &[u8], at: usize, height: usize) -> Result<Step, Refusal>
     ensures { StepIs result s.now (step_from s.now height at at) }
 {
-    let marked = read_mark(s, at);
-    let MarkRead::Got { opcode, next } = marked else {
-        return StepRead::Refused {
-            number: mark_number(marked),
-            place: at,
-        };
-    };
-    let taken = takes(opcode);
+    let (operation, next) = read_mark(s, at)?;
+    let taken = takes(operation);
     if height < taken {
-        return StepRead::Refused {
-            number: UNDERFLOW,
-            place: at,
-        };
+        return Err(Refusal(Reason::Underflow, at));
     }
-    let laid = lays(opcode);
-    if MAX_STACK - laid < height - taken {
-        return StepRead::Refused {
-            number: OVERFLOW,
-            place: at,
-        };
+    if MAX_STACK - lays(operation) < height - taken {
+        return Err(Refusal(Reason::Overflow, at));
     }
-    match opcode {
+    match operation {
         Operation::Put => read_put(s, next),
-        Operation::Row => StepRead::Row { next },
+        Operation::Row => Ok(Step::Row { next }),
         Operation::Pervading => read_pervading(s, at, next),
-        Operation::Join => StepRead::Join { next },
+        Operation::Join => Ok(Step::Join { next }),
         Operation::Validating => read_validating(s, next),
         Operation::Declaration => read_declaring(s, at, next),
         Operation::Use => read_using(s, at, next),
@@ -51,10 +39,10 @@ pub fn read_step(s: &[u8], at: usize, height: usize) -> StepRead
 }
 
 // How many types a step takes off the stack.
-fn takes(opcode: Operation) -> usize
-    ensures { result ≡ steps.takes (opcode_for opcode) }
+fn takes(operation: Operation) -> usize
+    ensures { result ≡ steps.takes (opcode_for operation) }
 {
-    match opcode {
+    match operation {
         Operation::Put => 0,
         Operation::Row => 1,
         Operation::Pervading => 2,
@@ -66,10 +54,10 @@ fn takes(opcode: Operation) -> usize
 }
 
 // How many types it lays down.
-fn lays(opcode: Operation) -> usize
-    ensures { (result ≡ steps.lays (opcode_for opcode)) × (result ≤ max_stack) }
+fn lays(operation: Operation) -> usize
+    ensures { (result ≡ steps.lays (opcode_for operation)) × (result ≤ max_stack) }
 {
-    match opcode {
+    match operation {
         Operation::Put => 1,
         Operation::Row => 1,
         Operation::Pervading => 1,
@@ -81,87 +69,51 @@ fn lays(opcode: Operation) -> usize
 }
 
 // A put whose mark ends at a place: its type.
-fn read_put(s: &[u8], start: usize) -> StepRead
+#[tactic(auto, unfolding(machine::specs::Sheet::argument_from))]
+fn read_put(s: &[u8], start: usize) -> Result<Step, Refusal>
     ensures { (p : ℕ) → StepIs result s.now (argument_from s.now a_put p start) }
 {
-    let read = read_stretch(s, start);
-    let TypeRead::Got { next } = read else {
-        return StepRead::Refused {
-            number: type_number(read),
-            place: type_place(read),
-        };
-    };
-    StepRead::Put { start, next }
+    let next = read_stretch(s, start)?;
+    Ok(Step::Put { start, next })
 }
 
 // A pervading: its flag, whose refusal names the mark.
-fn read_pervading(s: &[u8], mark: usize, at: usize) -> StepRead
+#[tactic(auto, unfolding(machine::specs::Sheet::argument_from))]
+fn read_pervading(s: &[u8], mark: usize, at: usize) -> Result<Step, Refusal>
     ensures { StepIs result s.now (argument_from s.now a_pervading mark at) }
 {
-    let read = read_flag(s, at);
-    let FlagRead::Got {
-        top_fill,
-        below_fill,
-        next,
-    } = read
-    else {
-        return StepRead::Refused {
-            number: flag_number(read),
-            place: mark,
-        };
-    };
-    StepRead::Pervading {
-        top_fill,
-        below_fill,
-        next,
-    }
+    let fills = read_flag(s, mark, at)?;
+    Ok(Step::Pervading {
+        top_fill: fills.top,
+        below_fill: fills.below,
+        next: fills.next,
+    })
 }
 
 // A validation: the type to be validated by.
-fn read_validating(s: &[u8], start: usize) -> StepRead
+#[tactic(auto, unfolding(machine::specs::Sheet::argument_from))]
+fn read_validating(s: &[u8], start: usize) -> Result<Step, Refusal>
     ensures { (p : ℕ) → StepIs result s.now (argument_from s.now a_validating p start) }
 {
-    let read = read_stretch(s, start);
-    let TypeRead::Got { next } = read else {
-        return StepRead::Refused {
-            number: type_number(read),
-            place: type_place(read),
-        };
-    };
-    StepRead::Validating { start, next }
+    let next = read_stretch(s, start)?;
+    Ok(Step::Validating { start, next })
 }
 
 // A declaration: a name, whose refusal names the mark, then its type.
-fn read_declaring(s: &[u8], mark: usize, name: usize) -> StepRead
+#[tactic(auto, unfolding(machine::specs::Sheet::argument_from))]
+fn read_declaring(s: &[u8], mark: usize, name: usize) -> Result<Step, Refusal>
     ensures { StepIs result s.now (argument_from s.now a_declaration mark name) }
 {
-    let called = read_table_name(s, mark, name);
-    let NameRead::Got { next: start } = called else {
-        return StepRead::Refused {
-            number: name_number(called),
-            place: mark,
-        };
-    };
-    let read = read_stretch(s, start);
-    let TypeRead::Got { next } = read else {
-        return StepRead::Refused {
-            number: type_number(read),
-            place: type_place(read),
-        };
-    };
-    StepRead::Declaring { name, next }
+    let start = read_table_name(s, mark, name)?;
+    let next = read_stretch(s, start)?;
+    Ok(Step::Declaring { name, next })
 }
 
 // A use: a name, whose refusal names the mark.
-fn read_using(s: &[u8], mark: usize, name: usize) -> StepRead
+#[tactic(auto, unfolding(machine::specs::Sheet::argument_from))]
+fn read_using(s: &[u8], mark: usize, name: usize) -> Result<Step, Refusal>
     ensures { StepIs result s.now (argument_from s.now a_use mark name) }
 {
-    let called = read_table_name(s, mark, name);
-    let NameRead::Got { next } = called else {
-        return StepRead::Refused {
-            number: name_number(called),
-            place: mark,
-        };
-    };
-    StepRead::Using { name, next }
+    let next = read_table_name(s, mark, name)?;
+    Ok(Step::Using { name, next })
 }

@@ -1,15 +1,16 @@
--- The join of two types by their scalars, where their shapes are known.
-use Prim.Native.Nat.{ℕ, ◌-◌}
+-- The join of two types by their shapes and their scalars.
+use Prim.Native.Nat.{ℕ}
 use mathlib.Core.Bool.{Bool, true}
-use mathlib.Core.List.{List}
+use mathlib.Core.List.{List, ◌++◌}
 use mathlib.Core.Logic.{◌⊎◌, ⊎_elim, ⊎_map}
 use mathlib.Core.Option.{none, some}
 use mathlib.Core.Path.{◌≡◌, refl, sym, ◌∙◌, ap}
 use Rattle.model.specs.Limits.{max_depth}
 use Rattle.model.specs.Types.{Dim, Shape, shape, Scalar, Ty, ty, shape_of, scalar_of}
 use Rattle.format.specs.Reader.{Bytes}
-use Rattle.format.specs.Records.{write_ty}
-use Rattle.format.specs.Outcome.{accepted, both, lone}
+use Rattle.format.specs.Records.{write_shape, write_scalar, write_ty}
+use Rattle.format.specs.Outcome.{Outcome, accepted, refused, mapped, both, lone}
+use Rattle.format.specs.Views.{rest-is}
 use Rattle.record.specs.Answers.{nothings, dims_of, shape_for}
 use Rattle.record.specs.declared.Dims.{Dims}
 use Rattle.record.specs.declared.DynShape.{DynShape}
@@ -19,13 +20,61 @@ use Rattle.rules.specs.Shapes.{join_dims, join_closing, join_shapes}
 use Rattle.rules.specs.Scalars.{union}
 use Rattle.rules.specs.KindTable.{contents_decide, union_number}
 use Rattle.rules.specs.Types.{join_types}
-use Rattle.known.specs.Known.{TypeAt, ScalarAt, opening_of, is_closed}
+use Rattle.known.specs.Known.{TypeAt, HasType, opening_of, is_closed}
 use Rattle.known.specs.Whole.{of_scalars}
-use Rattle.known.proofs.WholeLaws.{Begins, type-there, first_good, second_good, whole-shape, scalars-there}
+use Rattle.known.proofs.WholeLaws.{type-there, has-type, first_good, second_good, whole-shape}
 use Rattle.writer.specs.Kinds.{closed_record}
 use Rattle.join.specs.Calls.{join_call}
 use Rattle.join.specs.ShapesLaws.{by-scalars}
 use Rattle.join.specs.UnionLaws.{union-plain}
+
+-- ---- the union of their scalars
+
+-- by the table's number for the kinds of both
+pub union_known :
+    (a b : List ℕ) {x y n : ℕ} →
+    mapped (λ t. code_of (scalar_of t)) (lone a) ≡ accepted x →
+    mapped (λ t. code_of (scalar_of t)) (lone b) ≡ accepted y →
+    ((k l : Scalar) → x ≡ code_of k → y ≡ code_of l → n ≡ union_number k l) →
+    of_scalars union_number a b ≡ accepted n
+union_known a b {x} {y} {n} = go (lone a) (lone b)
+  where
+    go :
+        (r q : Outcome Ty) →
+        mapped (λ t. code_of (scalar_of t)) r ≡ accepted x →
+        mapped (λ t. code_of (scalar_of t)) q ≡ accepted y →
+        ((k l : Scalar) → x ≡ code_of k → y ≡ code_of l → n ≡ union_number k l) →
+        both (λ t u. accepted (union_number (scalar_of t) (scalar_of u))) r q ≡ accepted n
+    go (accepted t) (accepted u) e f found = let i : x ≡ code_of (scalar_of t) = cc in let j : y ≡ code_of (scalar_of u) = cc in ap accepted (sym (found (scalar_of t) (scalar_of u) i j))
+    go (accepted t) (refused k p) e f found = cc
+    go (refused k p) q e f found = cc
+
+-- a shape and its record
+pub union_behind : (a b : List ℕ) (s : Shape) {w : List ℕ} →
+    of_scalars (λ k l. write_scalar (union k l)) a b ≡ accepted w →
+    of_scalars (λ k l. write_ty (ty s (union k l))) a b ≡ accepted (write_shape s ++ w)
+unfolding write_ty
+union_behind a b s {w} = go (lone a) (lone b)
+  where
+    go : (r q : Outcome Ty) →
+        both (λ t u. accepted (write_scalar (union (scalar_of t) (scalar_of u)))) r q ≡ accepted w →
+        both (λ t u. accepted (write_shape s ++ write_scalar (union (scalar_of t) (scalar_of u)))) r q ≡ accepted (write_shape s ++ w)
+    go (accepted t) (accepted u) e = let same : write_scalar (union (scalar_of t) (scalar_of u)) ≡ w = cc in rw same
+    go (accepted t) (refused k p) e = cc
+    go (refused k p) q e = cc
+
+pub ruleset united = (rest-is, union_behind)
+
+-- ---- two types that are known
+
+module _ (a b : List ℕ) (good : both nothings (lone a) (lone b) ≡ accepted 0) where
+  pub first_known : Bytes a → (d : ℕ) × HasType a 0 d
+  first_known small = (max_depth, has-type a small (first_good a b good))
+
+  pub second_known : Bytes b → (d : ℕ) × HasType b 0 d
+  second_known small = (max_depth, has-type b small (second_good a b good))
+
+pub ruleset both_known = (first_known, second_known)
 
 -- where one of two shapes is closed, so is their join
 closed-join : (s r : Shape) → (is_closed s ≡ true) ⊎ (is_closed r ≡ true) → join_shapes s r ≡ shape (join_dims (opening_of s) (opening_of r)) none
@@ -41,8 +90,8 @@ closed-join (shape o (some c)) (shape p (some d)) h = ⊎_elim (λ e. cc) (λ e.
 abbrev pub Closed : List ℕ → Type 0
 Closed s = (d : ℕ) (t : Ty) → TypeAt s 0 d t → is_closed (shape_of t) ≡ true
 
-pub is-closed : (s : List ℕ) {x : Bool} → ((d : ℕ) (t : Ty) → TypeAt s 0 d t → x ≡ is_closed (shape_of t)) → x ≡ true → Closed s
-is-closed s says e d t h = sym (says d t h) ∙ e
+pub closed_type : (s : List ℕ) {x : Bool} → x ≡ true → ((d : ℕ) (t : Ty) → TypeAt s 0 d t → x ≡ is_closed (shape_of t)) → Closed s
+closed_type s e says d t h = sym (says d t h) ∙ e
 
 module _ (a b : List ℕ) (good : both nothings (lone a) (lone b) ≡ accepted 0) (small : Bytes a) (small' : Bytes b) where
   -- the join of two types whose shapes are o and p
@@ -58,19 +107,6 @@ module _ (a b : List ℕ) (good : both nothings (lone a) (lone b) ≡ accepted 0
       let first = whole-shape a small (first_good a b good) o one in
       let second = whole-shape b small' (second_good a b good) p two in
       by-scalars (lone a) (lone b) first second (λ t u. accepted (write_ty (join_types t u))) (λ k l. accepted (write_ty (ty s (union k l)))) (λ k l. ap (λ r. accepted (write_ty (ty r (union k l)))) (sym is))
-
-  -- the table's number for the codes x and y of their scalars, which begin at i and j
-  pub union-number :
-      {i j : ℕ} →
-      Begins a i →
-      Begins b j →
-      {x y n : ℕ} →
-      ((d : ℕ) (k : Scalar) → ScalarAt a i d k → x ≡ code_of k) →
-      ((d : ℕ) (l : Scalar) → ScalarAt b j d l → y ≡ code_of l) →
-      ((k l : Scalar) → x ≡ code_of k → y ≡ code_of l → n ≡ union_number k l) →
-      of_scalars union_number a b ≡ accepted n
-  union-number first second one two found =
-      scalars-there a b good small small' first second union_number λ k l h g is. is ∙ ap accepted (sym (found k l (one (max_depth - 1) k h) (two (max_depth - 1) l g)))
 
   -- the join of two types with the opening sizes o and p, one of whose shapes is closed, where the union of their scalars is the kind n
   module _ {n : ℕ} (says : of_scalars union_number a b ≡ accepted n) (apart : n ≡ contents_decide → ⊥) (o p : Dims) where

@@ -5,18 +5,12 @@ use native.Mathlib.Nat.{suc-mul}
 use mathlib.Core.List.{List, [], ◌∷◌, ◌++◌, append_assoc, append-nil}
 use mathlib.Core.Path.{◌≡◌, sym, ◌∙◌, ap}
 use lib.ListN.{length, take, get_or, length-append}
-use lib.Seq.{take_all, take-length, paste-zero}
 use Rattle.model.specs.Within.{All}
-use Rattle.lent.specs.Over.{over, over-over, length_over}
+use Rattle.lent.specs.Over.{over, over-over}
 use Rattle.rules.specs.KindTable.{kind_count, pair_count, in_a_row}
 use Rattle.rules.specs.KindTableLaws.{IsSquare}
 
 module _ (n : ℕ) where
-  row-length : (s : List (List ℕ)) → All (λ row. length row ≡ n) s → (i : ℕ) → i < length s → length (get_or s i []) ≡ n
-  row-length [] h i l = absurd (omega arith)
-  row-length (row ∷ s) h zero l = h.0
-  row-length (row ∷ s) h (suc i) l = row-length s h.1 i (omega arith)
-
   rows-length : (s : List (List ℕ)) → All (λ row. length row ≡ n) s → (i : ℕ) → i ≤ length s → length (in_a_row (take i s)) ≡ i * n
   rows-length s h zero l = omega arith
   rows-length [] h (suc i) l = absurd (omega arith)
@@ -29,35 +23,13 @@ rows_next (row ∷ s) (suc i) l = rw (rows_next s i (omega arith)) (sym (append_
 
 -- ---- the loop
 
-pub none-laid : (out : List ℕ) (at : ℕ) → out ≡ over out at []
-none-laid out at = paste-zero out at []
-
 module _ (out : List ℕ) (at : ℕ) (s : List (List ℕ)) (square : IsSquare s) (room : at + pair_count ≤ length out) where
-  module _ (i : ℕ) {now : List ℕ} (laid : now ≡ over out at (in_a_row (take i s))) where
-    module _ (h : i < kind_count) where
-      done : length (in_a_row (take i s)) ≡ i * kind_count
-      done = rows-length kind_count s square.numbers i (omega (arith, square.rows))
-
-      pub row_is : kind_count ≡ length (get_or s i [])
-      row_is = sym (row-length kind_count s square.numbers i (omega (arith, square.rows)))
-
-      pub row_room : at + i * kind_count + length (get_or s i []) ≤ length now
-      row_room = rw laid (omega (arith, row_is, done, length_over out at (in_a_row (take i s)) (omega (arith, done))))
-
-      pub row_laid : {after : List ℕ} → after ≡ over now (at + i * kind_count) (get_or s i []) → after ≡ over out at (in_a_row (take (i + 1) s))
-      row_laid e =
-          let rows = in_a_row (take i s) in
-          let next : i + 1 ≡ suc i = omega arith in
-          e ∙ ap (λ d. over d (at + i * kind_count) (get_or s i [])) laid
-          ∙ ap (λ n. over (over out at rows) (at + n) (get_or s i [])) (sym done)
-          ∙ over-over out at rows (omega (arith, done)) (get_or s i [])
-          ∙ ap (over out at) (sym (rows_next s i (omega (arith, square.rows))) ∙ ap (λ n. in_a_row (take n s)) (sym next))
-
-    pub all_laid : kind_count ≤ i → now ≡ over out at (in_a_row s)
-    all_laid h = laid ∙ ap (λ rows. over out at (in_a_row rows)) (take_all i s (omega (arith, square.rows)))
-
-    pub all-length : kind_count ≤ i → length now ≡ length out
-    all-length h =
-        let whole : take i s ≡ s = take_all i s (omega (arith, square.rows)) in
-        let numbers = rows-length kind_count s square.numbers (length s) (omega arith) in
-        ap length (all_laid h) ∙ length_over out at (in_a_row s) (omega (arith, rw take-length at numbers, square.rows))
+  pub row_laid : (i : ℕ) {now after : List ℕ} → now ≡ over out at (in_a_row (take i s)) → i < kind_count → after ≡ over now (at + i * kind_count) (get_or s i []) → after ≡ over out at (in_a_row (take (i + 1) s))
+  row_laid i laid h e =
+      let rows = in_a_row (take i s) in
+      let done : length rows ≡ i * kind_count = rows-length kind_count s square.numbers i (omega (arith, square.rows)) in
+      let next : i + 1 ≡ suc i = omega arith in
+      e ∙ ap (λ d. over d (at + i * kind_count) (get_or s i [])) laid
+      ∙ ap (λ n. over (over out at rows) (at + n) (get_or s i [])) (sym done)
+      ∙ over-over out at rows (omega (arith, done)) (get_or s i [])
+      ∙ ap (over out at) (sym (rows_next s i (omega (arith, square.rows))) ∙ ap (λ n. in_a_row (take n s)) (sym next))

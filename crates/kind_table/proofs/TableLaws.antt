@@ -2,9 +2,21 @@
 -- whole table is right; and the table handed out.
 use Prim.Native.Nat.{ℕ, ◌+◌, ◌*◌, ◌<◌, ◌≤◌}
 use native.Mathlib.Omega.{arith}
-use mathlib.Core.Bool.{true}
+use Rattle.std.specs.Prelude.{Option, Result, Ok, Err}
+use Rattle.std.specs.Result.{result_ok}
+use denote.Enum.Bare.{sameb}
+use Rattle.limits.specs.contracts.codes.Kind.{the_type}
+use Rattle.limits.specs.declared.codes.Kind.{Kind}
+use Rattle.limits.specs.declared.codes.Kind.TheVariants as kinds
+use Rattle.limits.specs.declared.refusal.Reason.{Reason}
+use Rattle.limits.specs.Codes.{code_for, KindOf}
+use Rattle.limits.specs.declared.refusal.Reason.TheVariants.{TooShort}
+use Rattle.format.specs.Outcome.{accepted, deliver}
+use Rattle.lent.specs.Written.{delivered}
+use Rattle.lent.specs.Delivers.{deliver-short}
+use mathlib.Core.Bool.{Bool, true, false, ◌&&◌, cond}
 use mathlib.Core.List.{List, [], ◌∷◌, ◌++◌, append_assoc, append-nil}
-use mathlib.Core.Path.{◌≡◌, refl, sym, ◌∙◌, ap}
+use mathlib.Core.Path.{◌≡◌, refl, sym, ◌∙◌, ap, subst}
 use lib.Dec.{eqb}
 use lib.ListN.{get_or, length, length-append}
 use borrow.Author.Tests.{ne_eqb}
@@ -14,10 +26,12 @@ use Rattle.lent.specs.Over.{over, over-over}
 use Rattle.rules.specs.Order.{code_of, kind_place}
 use Rattle.rules.specs.Scalars.{superset_codes, compatible_codes, superset_of, compatible_scalars, union}
 use Rattle.rules.proofs.ScalarsLaws.{superset_codes-refl}
-use Rattle.rules.specs.KindTable.{kind_count, pair_count, contents_decide, union_number, squares, in_a_row, kind_table}
+use Rattle.rules.specs.KindTable.{kind_count, pair_count, number_count, contents_decide, is_box, union_number, squares, in_a_row, kind_table}
 use Rattle.kind_table.specs.Rows.{RowsLaid}
+use Rattle.kind_table.specs.Union.{united_number}
+use Rattle.kind_table.proofs.KindLaws.{one_kind, no_box}
 use Rattle.rules.specs.KindTableLaws.{number_at, WholeTable}
-use Rattle.rules.proofs.KindTableLaws.{whole_table, union_codes, union-by_codes, table_length, superset_entry, compatible_entry, yes-says}
+use Rattle.rules.proofs.KindTableLaws.{whole_table, coded-below, union_codes, union-by_codes, table_length, superset_entry, compatible_entry, yes-says}
 
 module _ (t : List (List (List ℕ))) (c d : ℕ) (same : t ≡ squares) where
   abbrev whole : WholeTable t
@@ -34,19 +48,34 @@ module _ (t : List (List (List ℕ))) (c d : ℕ) (same : t ≡ squares) where
 
 -- ---- a kind beside itself, which needs no table
 
-module _ (c d : ℕ) (same : c ≡ d) where
-  pub superset_itself : true ≡ superset_codes c d
-  superset_itself = sym (superset_codes-refl c) ∙ ap (superset_codes c) same
+pub superset_itself : (k l : Kind) → true ≡ sameb the_type k l → true ≡ superset_codes (code_for k) (code_for l)
+superset_itself k l e = sym (superset_codes-refl (code_for k)) ∙ ap (λ m. superset_codes (code_for k) (code_for m)) (one_kind k l e)
 
-  pub union_itself : (c ≡ box_code → ⊥) → (k l : Scalar) → c ≡ code_of k → d ≡ code_of l → c ≡ union_number k l
-  union_itself apart k l h g =
-      let is : c ≡ union_codes c c = rw (ne_eqb c box_code apart, superset_codes-refl c) in
-      is ∙ ap (union_codes c) (same ∙ g) ∙ ap (λ n. union_codes n (code_of l)) h ∙ union-by_codes k l
+module _ (k l : Kind) (same : true ≡ sameb the_type k l) (x y : Scalar) (h : code_for k ≡ code_of x) (g : code_for l ≡ code_of y) where
+  by_one : union_codes (code_for k) (code_for k) ≡ union_number x y
+  by_one = ap (λ m. union_codes (code_for k) (code_for m)) (one_kind k l same) ∙ ap (union_codes (code_for k)) g ∙ ap (λ n. union_codes n (code_of y)) h ∙ union-by_codes x y
 
-  pub boxes_themselves : c ≡ box_code → (k l : Scalar) → c ≡ code_of k → d ≡ code_of l → contents_decide ≡ union_number k l
-  boxes_themselves box k l h g =
-      let is : contents_decide ≡ union_codes c c = rw box in
-      is ∙ ap (union_codes c) (same ∙ g) ∙ ap (λ n. union_codes n (code_of l)) h ∙ union-by_codes k l
+  pub union_itself : false ≡ sameb the_type k kinds.Box → code_for k ≡ union_number x y
+  union_itself apart = let is : code_for k ≡ union_codes (code_for k) (code_for k) = rw (ne_eqb (code_for k) box_code (no_box k apart), superset_codes-refl (code_for k)) in is ∙ by_one
+
+  pub boxes_themselves : true ≡ sameb the_type k kinds.Box → contents_decide ≡ union_number x y
+  boxes_themselves box =
+      let is : contents_decide ≡ union_codes (code_for k) (code_for k) = rw (ap code_for (one_kind k kinds.Box box)) in
+      is ∙ by_one
+
+-- ---- a union looked up in the table
+
+-- A number beyond the kinds is the mark.
+undecided : (x y : Scalar) → code_for kinds.Any < union_number x y → contents_decide ≡ union_number x y
+undecided x y = go (is_box x && is_box y)
+  where
+    go : (b : Bool) → code_for kinds.Any < cond b contents_decide (code_of (union x y)) → contents_decide ≡ cond b contents_decide (code_of (union x y))
+    go true h = refl
+    go false h = absurd (omega (arith, coded-below (union x y) refl))
+
+pub united : (r : Result Kind Reason) (o : Option Kind) (n : ℕ) (x y : Scalar) → KindOf n r → o ≡ result_ok r → n ≡ union_number x y → united_number o ≡ union_number x y
+united (Ok k) o n x y says e is = rw e (says ∙ is)
+united (Err d) o n x y says e is = rw e (undecided x y (subst (λ m. code_for kinds.Any < m) is says.1))
 
 -- ---- the table handed out
 
@@ -82,3 +111,7 @@ module _ (a b c : List (List ℕ)) (same : a ∷ b ∷ c ∷ [] ≡ squares) whe
         ∙ ap (λ n. over (over result 0 (x ++ y)) n z) both
         ∙ over-over result 0 (x ++ y) inside z
         ∙ ap (over result 0) all_three
+
+-- no room for it
+pub table_short : (result : List ℕ) → length result < number_count → delivered (Err (record { 0 = TooShort; 1 = 0 })) result ≡ deliver (accepted kind_table) result
+table_short result h = sym (deliver-short result refl (omega (arith, table_length)))

@@ -5,73 +5,71 @@
 
 mod table;
 
-ghost use Rattle.std.specs.Prelude.{◌≡◌, ◌+◌, ◌<◌, ◌≤◌, length};
+ghost use Rattle.std.specs.Prelude.{◌≡◌, ◌+◌, ◌≤◌, length};
 ghost use Rattle.format.specs.Outcome.{accepted, deliver};
+ghost use Rattle.limits.specs.Codes.{code_for};
 ghost use Rattle.lent.specs.Written.{delivered};
 ghost use Rattle.model.specs.Types.{Scalar};
 ghost use Rattle.rules.specs.Order.{code_of};
 ghost use Rattle.rules.specs.Scalars.{superset_codes, compatible_codes};
-ghost use Rattle.rules.specs.KindTable.{kind_count, pair_count, union_number, kind_table};
+ghost use Rattle.rules.specs.KindTable.{pair_count, union_number, kind_table};
 ghost use Rattle.rules.specs.KindTableLaws.{IsSquare};
 ghost use Rattle.kind_table.specs.Rows.{RowsLaid};
+ghost use Rattle.kind_table.specs.Union.{united_number};
 
-use lent::{Written, lay};
-use limits::refusal::TOO_SHORT;
-use limits::{BOX, CONTENTS_DECIDE, KIND_COUNT, KIND_NUMBERS, KIND_PAIRS};
+use lent::lay;
+use limits::refusal::{Reason, Refusal};
+use limits::{KIND_COUNT, KIND_NUMBERS, KIND_PAIRS, Kind};
+use std::convert::TryFrom;
 use table::{COMPATIBLE, KINDS, SUPERSET, UNION};
 
 // Whether the first is a superset of the second.
-pub fn superset_codes(k: u64, l: u64) -> bool
-    requires { (k < kind_count) × (l < kind_count) }
-    ensures { result ≡ superset_codes k l }
+pub fn superset(k: Kind, l: Kind) -> bool
+    ensures { result ≡ superset_codes (code_for k) (code_for l) }
 {
     // Each kind covers itself.
     if k == l {
         return true;
     }
     let superset = KINDS[SUPERSET];
-    superset[k as usize][l as usize] == 1
+    superset[k.code() as usize][l.code() as usize] == 1
 }
 
 // `compatible_with`.
-pub fn compatible_codes(k: u64, l: u64) -> bool
-    requires { (k < kind_count) × (l < kind_count) }
-    ensures { result ≡ compatible_codes k l }
+pub fn compatible(k: Kind, l: Kind) -> bool
+    ensures { result ≡ compatible_codes (code_for k) (code_for l) }
 {
     let compatible = KINDS[COMPATIBLE];
-    compatible[k as usize][l as usize] == 1
+    compatible[k.code() as usize][l.code() as usize] == 1
 }
 
-// The code of the union's kind, or the mark where the boxes' contents decide.
-pub fn union_code(k: u64, l: u64) -> u8
-    requires { (k < kind_count) × (l < kind_count) }
-    ensures { (x y : Scalar) → k ≡ code_of x → l ≡ code_of y → result ≡ union_number x y }
+// The union's kind, or none where the boxes' contents decide.
+pub fn union(k: Kind, l: Kind) -> Option<Kind>
+    ensures { (x y : Scalar) → code_for k ≡ code_of x → code_for l ≡ code_of y → united_number result ≡ union_number x y }
 {
     // A kind with itself is that kind; of two boxes the contents decide.
     if k == l {
-        if k == BOX {
-            return CONTENTS_DECIDE;
+        if k == Kind::Box {
+            return None;
         }
-        return k as u8;
+        return Some(k);
     }
     let union = KINDS[UNION];
-    union[k as usize][l as usize]
+    Kind::try_from(union[k.code() as usize][l.code() as usize]).ok()
 }
 
 // The table's numbers in turn, a byte each, to the front of the result.
-pub fn kinds(res: &mut [u8]) -> Written
+#[tactic(auto, using(crate::proofs::TableLaws::table_short))]
+pub fn kinds(res: &mut [u8]) -> Result<usize, Refusal>
     ensures { delivered result res.new ≡ deliver (accepted kind_table) res.old }
 {
     if res.len() < KIND_NUMBERS {
-        return Written::Refused {
-            number: TOO_SHORT,
-            place: 0,
-        };
+        return Err(Refusal(Reason::TooShort, 0));
     }
     lay_square(KINDS[SUPERSET], &mut *res, SUPERSET * KIND_PAIRS);
     lay_square(KINDS[COMPATIBLE], &mut *res, COMPATIBLE * KIND_PAIRS);
     lay_square(KINDS[UNION], &mut *res, UNION * KIND_PAIRS);
-    Written::Wrote(KIND_NUMBERS)
+    Ok(KIND_NUMBERS)
 }
 
 // Row after row, from `at` on.
@@ -79,10 +77,7 @@ fn lay_square(square: [[u8; KIND_COUNT]; KIND_COUNT], out: &mut [u8], at: usize)
     requires { IsSquare square × (at + pair_count ≤ length out.old) }
     ensures { RowsLaid out.old at square out.new }
 {
-    let mut i = 0;
-    while i < KIND_COUNT {
-        let row = square[i];
-        lay(&row, &mut *out, at + i * KIND_COUNT);
-        i += 1;
+    for i in 0..KIND_COUNT {
+        lay(&square[i], &mut *out, at + i * KIND_COUNT);
     }
 }

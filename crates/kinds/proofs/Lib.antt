@@ -1,2 +1,2 @@
-mod KindLaws
-mod PrintLaws
+pub mod KindLaws
+pub mod PrintLaws

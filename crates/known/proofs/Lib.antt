@@ -1,6 +1,5 @@
 mod ShapeLaws
-mod LookLaws
+mod ScalarLaws
 mod SpanLaws
-mod KindLaws
 pub mod KnownLaws
 pub mod WholeLaws

@@ -1,5 +1,5 @@
 -- Skipping: one law for each way out of a function, and what is known as the fields are passed one by one.
-use Prim.Native.Nat.{ℕ, zero, suc, ◌+◌, ◌-◌, ◌<◌, max}
+use Prim.Native.Nat.{ℕ, suc, ◌+◌, ◌-◌, ◌≤◌, ◌<◌, max}
 use native.Mathlib.Omega.{arith}
 use mathlib.Core.Bool.{Bool}
 use mathlib.Core.List.{List, ◌∷◌, ◌++◌}
@@ -9,46 +9,40 @@ use Rattle.model.specs.Limits.{max_types}
 use Rattle.model.specs.Types.{Scalar, Fields, no_fields, field, Ty, ty, shape_of, scalar_of, field_count, inside, among, below, deepest}
 use Rattle.format.specs.Records.{list_of, write_shape, write_scalar, write_fields, write_ty}
 use Rattle.rules.specs.Types.{field_in, stretch_in}
-use Rattle.known.specs.Known.{TypeAt, ScalarAt, FieldsAt, HasType, HasScalar, HasFields, SpanIs, ScalarSpan, FieldsSpan, FieldIs, Seen}
+use Rattle.known.specs.Known.{TypeAt, ScalarAt, FieldsAt, HasType, HasScalar, HasFields, SpanIs, ScalarSpan, FieldsSpan, FieldIs, SeenPlain, SeenAny, SeenAll, SeenDef}
 use Rattle.known.proofs.KnownLaws.{scalar-behind, behind-ends, first_field, rest-fields}
 use Rattle.known.specs.declared.Span.{Span}
-use Rattle.known.specs.declared.View.{View}
-use Rattle.known.specs.declared.View.TheVariants.{Plain, BoxAny, BoxAll, BoxDef}
 
 -- ---- a scalar that was looked at
 
-module _ (s : List ℕ) (at d : ℕ) (v : View) (looked : (d : ℕ) (k : Scalar) → ScalarAt s at d k → Seen s at d k v) where
-  module _ {w : View} (is : v ≡ w) where
-    seen_as : (k : Scalar) → ScalarAt s at d k → Seen s at d k w
-    seen_as k h = subst (Seen s at d k) is (looked d k h)
+module _ (at : ℕ) (k : Scalar) where
+  pub span_plain : {c end : ℕ} → SeenPlain at k c end → ScalarSpan at k (record { types = 0; depth = 0; end = end })
+  unfolding inside below
+  span_plain seen = record { types = sym (ap inside seen.is); depth = sym (ap below seen.is); ends = seen.ends }
 
-  pub has-content : {c : ℕ} → v ≡ BoxAll c → HasScalar s at d → HasType s c d
-  has-content is h = let seen = seen_as is h.scalar h.there in record { type = ty seen.shape seen.scalar; there = seen.there }
+  pub span_any : {end : ℕ} → SeenAny at k end → ScalarSpan at k (record { types = 0; depth = 0; end = end })
+  unfolding inside below
+  span_any seen = record { types = sym (ap inside seen.is); depth = sym (ap below seen.is); ends = seen.ends }
 
-  pub has-fields : {name fields count : ℕ} {named : Bool} → v ≡ BoxDef name named fields count → HasScalar s at d → HasFields s fields d count
-  has-fields is h = let seen = seen_as is h.scalar h.there in record { fields = seen.held; there = seen.there; counted = sym seen.counted }
+module _ (s : List ℕ) (at d : ℕ) where
+  module _ (h : HasScalar s at d) where
+    pub has_content : {c : ℕ} → ((d : ℕ) (k : Scalar) → ScalarAt s at d k → SeenAll s at d k c) → HasType s c d
+    has_content looked = let seen = looked d h.scalar h.there in record { type = ty seen.shape seen.scalar; there = seen.there }
 
-  module _ (r : Span) (k : Scalar) (h : ScalarAt s at d k) where
-    pub span-plain : {c end : ℕ} → v ≡ Plain c end → r.types ≡ 0 → r.depth ≡ 0 → r.end ≡ end → ScalarSpan at k r
-    unfolding inside below
-    span-plain is types depth end = let seen = seen_as is k h in record { types = types ∙ sym (ap inside seen.is); depth = depth ∙ sym (ap below seen.is); ends = end ∙ seen.ends }
+    pub has_fields : {name fields count : ℕ} {named : Bool} → ((d : ℕ) (k : Scalar) → ScalarAt s at d k → SeenDef s at d k name named fields count) → HasFields s fields d count
+    has_fields looked = let seen = looked d h.scalar h.there in record { fields = seen.held; there = seen.there; counted = sym seen.counted }
 
-    pub span-any : {end : ℕ} → v ≡ BoxAny end → r.types ≡ 0 → r.depth ≡ 0 → r.end ≡ end → ScalarSpan at k r
-    unfolding inside below
-    span-any is types depth end = let seen = seen_as is k h in record { types = types ∙ sym (ap inside seen.is); depth = depth ∙ sym (ap below seen.is); ends = end ∙ seen.ends }
-
-    pub span-all : {c : ℕ} → v ≡ BoxAll c → ((t : Ty) → TypeAt s c d t → SpanIs c t r) → ScalarSpan at k r
+  module _ (k : Scalar) where
+    pub span_all : {c : ℕ} {r : Span} → SeenAll s at d k c → ((t : Ty) → TypeAt s c d t → SpanIs c t r) → ScalarSpan at k r
     unfolding inside below write_scalar write_ty
-    span-all is spans =
-        let seen = seen_as is k h in
+    span_all seen spans =
         let whole = ap (λ k. length (write_scalar k)) seen.is in
         let span = spans (ty seen.shape seen.scalar) seen.there in
         record { types = span.types ∙ sym (ap inside seen.is); depth = span.depth ∙ sym (ap below seen.is); ends = omega (arith, whole, span.ends, seen.place) }
 
-    pub span-def : {name fields count : ℕ} {named : Bool} → v ≡ BoxDef name named fields count → ((f : Fields) → FieldsAt s fields d f → field_count f ≡ count → FieldsSpan fields f r) → ScalarSpan at k r
+    pub span_def : {name fields count : ℕ} {named : Bool} {r : Span} → SeenDef s at d k name named fields count → ((f : Fields) → FieldsAt s fields d f → field_count f ≡ count → FieldsSpan fields f r) → ScalarSpan at k r
     unfolding inside below write_scalar
-    span-def is spans =
-        let seen = seen_as is k h in
+    span_def seen spans =
         let whole = ap (λ k. length (write_scalar k)) seen.is in
         let span = spans seen.held seen.there (sym seen.counted) in
         let long = length-append (list_of seen.label) (field_count seen.held ∷ write_fields seen.held) in
@@ -57,125 +51,131 @@ module _ (s : List ℕ) (at d : ℕ) (v : View) (looked : (d : ℕ) (k : Scalar)
 -- ---- a type, whose scalar begins at `place`
 
 module _ (s : List ℕ) (at d : ℕ) {place : ℕ} (begins : (d : ℕ) (t : Ty) → TypeAt s at d t → place ≡ at + length (write_shape (shape_of t))) (r : Span) (spans : (k : Scalar) → ScalarAt s place (d - 1) k → ScalarSpan place k r) where
-  scalar-span : (t : Ty) → TypeAt s at d t → ScalarSpan place (scalar_of t) r
-  scalar-span t h = spans (scalar_of t) (scalar-behind s at begins d t h)
+  scalar_span : (t : Ty) → TypeAt s at d t → ScalarSpan place (scalar_of t) r
+  scalar_span t h = spans (scalar_of t) (scalar-behind s at begins d t h)
 
-  pub few-inside : HasType s at d → r.types < max_types
-  few-inside h = go h.type h.there
+  pub few_inside : HasType s at d → r.types < max_types
+  few_inside h = go h.type h.there
     where
       go : (t : Ty) → TypeAt s at d t → r.types < max_types
-      go (ty o k) h = omega (arith, h.few, (scalar-span (ty o k) h).types)
+      go (ty o k) h = omega (arith, h.few, (scalar_span (ty o k) h).types)
 
-  pub shallow-inside : HasType s at d → r.depth < d
-  shallow-inside h = go h.type h.there
+  pub shallow_inside : HasType s at d → r.depth < d
+  shallow_inside h = go h.type h.there
     where
       go : (t : Ty) → TypeAt s at d t → r.depth < d
-      go (ty o k) h = omega (arith, h.shallow, (scalar-span (ty o k) h).depth)
+      go (ty o k) h = omega (arith, h.shallow, (scalar_span (ty o k) h).depth)
 
-  pub span-type : (q : Span) → q.types ≡ r.types + 1 → q.depth ≡ r.depth + 1 → q.end ≡ r.end → (t : Ty) → TypeAt s at d t → SpanIs at t q
-  span-type q types depth end (ty o k) h =
-      let span = scalar-span (ty o k) h in
-      record { types = omega (arith, span.types); depth = omega (arith, span.depth); ends = end ∙ span.ends ∙ behind-ends s at begins d (ty o k) h }
+  pub span_type : (t : Ty) → TypeAt s at d t → SpanIs at t (record { types = r.types + 1; depth = r.depth + 1; end = r.end })
+  span_type (ty o k) h =
+      let span = scalar_span (ty o k) h in
+      record { types = omega (arith, span.types); depth = omega (arith, span.depth); ends = span.ends ∙ behind-ends s at begins d (ty o k) h }
 
--- ---- fields, of which `left` are not yet passed
+-- ---- fields, of which i are passed
 
 -- with the rest still to pass
-pub record Passed (s : List ℕ) (start d : ℕ) (f : Fields) (types deep at left : ℕ) (rest : Fields) : Type 0 where
+pub record Passed (s : List ℕ) (start d : ℕ) (f : Fields) (types deep at i : ℕ) (rest : Fields) : Type 0 where
   pub there : FieldsAt s at d rest
-  pub counted : field_count rest ≡ left
+  pub counted : i + field_count rest ≡ field_count f
   pub number : among f ≡ types + among rest
   pub deepest : deepest f ≡ max deep (deepest rest)
   pub ends : start + length (write_fields f) ≡ at + length (write_fields rest)
 
-pub record Skipping (s : List ℕ) (start d : ℕ) (f : Fields) (types deep at left : ℕ) : Type 0 where
+pub record Skipping (s : List ℕ) (start d : ℕ) (f : Fields) (types deep at i : ℕ) : Type 0 where
   pub rest : Fields
-  pub passed : Passed s start d f types deep at left rest
+  pub passed : Passed s start d f types deep at i rest
 
-pub skip_start : (s : List ℕ) (start d : ℕ) (f : Fields) (count : ℕ) → FieldsAt s start d f → field_count f ≡ count → Skipping s start d f 0 0 start count
-skip_start s start d f count h e = record { rest = f; passed = record { there = h; counted = e; number = omega arith; deepest = omega arith; ends = refl } }
+pub skip_start : (s : List ℕ) (start d : ℕ) (f : Fields) → FieldsAt s start d f → Skipping s start d f 0 0 start 0
+skip_start s start d f h = record { rest = f; passed = record { there = h; counted = omega arith; number = omega arith; deepest = omega arith; ends = refl } }
 
-module _ {s : List ℕ} {start d : ℕ} {f : Fields} {types deep at left : ℕ} (g : Skipping s start d f types deep at left) where
-  pub skip_has : 0 < left → HasType s at d
-  skip_has l = go g.rest g.passed
-    where
-      go : (q : Fields) → Passed s start d f types deep at left q → HasType s at d
-      go no_fields h = absurd (omega (arith, h.counted))
-      go (field o k q) h = record { type = ty o k; there = first_field s at d h.there }
-
-  module _ (l : 0 < left) {r : Span} (spans : (t : Ty) → TypeAt s at d t → SpanIs at t r) where
-    pub skip_few : FieldsAt s start d f → types + r.types < max_types
-    unfolding among
-    skip_few whole = go g.rest g.passed
+module _ {s : List ℕ} {start d : ℕ} {f : Fields} {types deep at i : ℕ} (g : Skipping s start d f types deep at i) where
+  module _ (l : i < field_count f) where
+    pub skip_has : HasType s at d
+    skip_has = go g.rest g.passed
       where
-        go : (q : Fields) → Passed s start d f types deep at left q → types + r.types < max_types
+        go : (q : Fields) → Passed s start d f types deep at i q → HasType s at d
         go no_fields h = absurd (omega (arith, h.counted))
-        go (field o k q) h = omega (arith, whole.few, h.number, (spans (ty o k) (first_field s at d h.there)).types)
+        go (field o k q) h = record { type = ty o k; there = first_field s at d h.there }
 
-    pub skip_next : {m : ℕ} → m ≡ max deep r.depth → Skipping s start d f (types + r.types) m r.end (left - 1)
-    unfolding among deepest write_fields write_ty
-    skip_next {m} e = go g.rest g.passed
-      where
-        next : (q : Fields) → Passed s start d f (types + r.types) m r.end (left - 1) q → Skipping s start d f (types + r.types) m r.end (left - 1)
-        next q h = record { rest = q; passed = h }
+    module _ {r : Span} (spans : (t : Ty) → TypeAt s at d t → SpanIs at t r) where
+      pub skip_few : FieldsAt s start d f → types + r.types < max_types
+      unfolding among
+      skip_few whole = go g.rest g.passed
+        where
+          go : (q : Fields) → Passed s start d f types deep at i q → types + r.types < max_types
+          go no_fields h = absurd (omega (arith, h.counted))
+          go (field o k q) h = omega (arith, whole.few, h.number, (spans (ty o k) (first_field s at d h.there)).types)
 
-        go : (q : Fields) → Passed s start d f types deep at left q → Skipping s start d f (types + r.types) m r.end (left - 1)
-        go no_fields h = absurd (omega (arith, h.counted))
-        go (field o k q) h =
-            let span = spans (ty o k) (first_field s at d h.there) in
-            let long = length-append (write_shape o ++ write_scalar k) (write_fields q) in
-            next q (record {
-              there = subst (λ p. FieldsAt s p d q) (sym span.ends) (rest-fields s at d h.there);
-              counted = omega (arith, h.counted);
-              number = omega (arith, h.number, span.types);
-              deepest = omega (arith, h.deepest, e, span.depth);
-              ends = omega (arith, h.ends, span.ends, long);
-            })
+      pub skip_next : {m : ℕ} → m ≡ max r.depth deep → Skipping s start d f (types + r.types) m r.end (i + 1)
+      unfolding among deepest write_fields write_ty
+      skip_next {m} e = go g.rest g.passed
+        where
+          next : (q : Fields) → Passed s start d f (types + r.types) m r.end (i + 1) q → Skipping s start d f (types + r.types) m r.end (i + 1)
+          next q h = record { rest = q; passed = h }
 
-  pub skip_end : left ≡ 0 → (r : Span) → r.types ≡ types → r.depth ≡ deep → r.end ≡ at → FieldsSpan start f r
+          go : (q : Fields) → Passed s start d f types deep at i q → Skipping s start d f (types + r.types) m r.end (i + 1)
+          go no_fields h = absurd (omega (arith, h.counted))
+          go (field o k q) h =
+              let span = spans (ty o k) (first_field s at d h.there) in
+              let long = length-append (write_shape o ++ write_scalar k) (write_fields q) in
+              next q (record {
+                there = subst (λ p. FieldsAt s p d q) (sym span.ends) (rest-fields s at d h.there);
+                counted = omega (arith, h.counted);
+                number = omega (arith, h.number, span.types);
+                deepest = omega (arith, h.deepest, e, span.depth);
+                ends = omega (arith, h.ends, span.ends, long);
+              })
+
+  pub skip_end : field_count f ≤ i → FieldsSpan start f (record { types = types; depth = deep; end = at })
   unfolding among deepest write_fields
-  skip_end z r a b c = go g.rest g.passed
+  skip_end z = go g.rest g.passed
     where
-      go : (q : Fields) → Passed s start d f types deep at left q → FieldsSpan start f r
+      go : (q : Fields) → Passed s start d f types deep at i q → FieldsSpan start f (record { types = types; depth = deep; end = at })
       go no_fields h = record { types = omega (arith, h.number); depth = omega (arith, h.deepest); ends = omega (arith, h.ends) }
-      go (field o k q) h = absurd (omega (arith, z, h.counted))
+      go (field o k q) h = absurd (omega (arith, h.counted))
 
--- ---- field n: `left` fields are passed before it is reached
+-- ---- field n: i fields are passed on the way to it
 
-pub record Reaching (s : List ℕ) (start d n : ℕ) (f : Fields) (at left : ℕ) : Type 0 where
+pub record Reaching (s : List ℕ) (start d n : ℕ) (f : Fields) (at i : ℕ) : Type 0 where
   pub rest : Fields
   pub there : FieldsAt s at d rest
-  pub low : left < field_count rest
-  pub is : field_in n f ≡ field_in left rest
-  pub stretched : stretch_in start n f ≡ stretch_in at left rest
+  pub low : n - i < field_count rest
+  pub is : field_in n f ≡ field_in (n - i) rest
+  pub stretched : stretch_in start n f ≡ stretch_in at (n - i) rest
 
-pub reach_start : (s : List ℕ) (start d n : ℕ) (f : Fields) → FieldsAt s start d f → n < field_count f → Reaching s start d n f start n
-reach_start s start d n f h l = record { rest = f; there = h; low = l; is = refl; stretched = refl }
+pub reach_start : (s : List ℕ) (start d n : ℕ) (f : Fields) → FieldsAt s start d f → n < field_count f → Reaching s start d n f start 0
+reach_start s start d n f h l =
+    let whole : n - 0 ≡ n = omega arith in
+    record { rest = f; there = h; low = rw whole l; is = rw whole; stretched = rw whole }
 
-module _ {s : List ℕ} {start d n : ℕ} {f : Fields} {at left : ℕ} (g : Reaching s start d n f at left) where
+module _ {s : List ℕ} {start d n : ℕ} {f : Fields} {at i : ℕ} (g : Reaching s start d n f at i) where
   pub reach_has : HasType s at d
   reach_has = go g.rest g.there g.low
     where
-      go : (r : Fields) → FieldsAt s at d r → left < field_count r → HasType s at d
+      go : (r : Fields) → FieldsAt s at d r → n - i < field_count r → HasType s at d
       go no_fields h l = absurd (omega arith)
       go (field o k r) h l = record { type = ty o k; there = first_field s at d h }
 
-  pub reach_next : 0 < left → {next : ℕ} → ((t : Ty) → TypeAt s at d t → next ≡ at + length (write_ty t)) → Reaching s start d n f next (left - 1)
+  pub reach_next : i < n → {next : ℕ} → ((t : Ty) → TypeAt s at d t → next ≡ at + length (write_ty t)) → Reaching s start d n f next (i + 1)
   unfolding field_in stretch_in
-  reach_next l {next} ends = go left g.rest l g.there g.low g.is g.stretched
+  reach_next l {next} ends = go (n - (i + 1)) g.rest (omega arith) g.there g.low g.is g.stretched
     where
-      go : (m : ℕ) (r : Fields) → 0 < m → FieldsAt s at d r → m < field_count r → field_in n f ≡ field_in m r → stretch_in start n f ≡ stretch_in at m r → Reaching s start d n f next (m - 1)
-      go zero r l h low is st = absurd (omega arith)
-      go (suc m) no_fields l h low is st = absurd (omega arith)
-      go (suc m) (field o k r) l h low is st =
-          let e = ends (ty o k) (first_field s at d h) in
-          let x : suc m - 1 ≡ m = omega arith in
-          rw (x, e) (record { rest = r; there = rest-fields s at d h; low = omega arith; is = is; stretched = st })
+      go : (m : ℕ) (r : Fields) → n - i ≡ suc m → FieldsAt s at d r → n - i < field_count r → field_in n f ≡ field_in (n - i) r → stretch_in start n f ≡ stretch_in at (n - i) r → Reaching s start d n f next (i + 1)
+      go m no_fields x h low is st = absurd (omega arith)
+      go m (field o k r) x h low is st =
+          let y : n - (i + 1) ≡ m = omega arith in
+          record {
+            rest = r;
+            there = rw (ends (ty o k) (first_field s at d h)) (rest-fields s at d h);
+            low = omega arith;
+            is = rw y (rw x at is);
+            stretched = rw (y, ends (ty o k) (first_field s at d h)) (rw x at st);
+          }
 
-  pub reach_end : left ≡ 0 → FieldIs s start d n f at
+  pub reach_end : n ≤ i → FieldIs s start d n f at
   unfolding field_in stretch_in
-  reach_end z = go left g.rest z g.there g.low g.is g.stretched
+  reach_end z = let none : n - i ≡ 0 = omega arith in go g.rest g.there (rw none at g.low) (rw none at g.is) (rw none at g.stretched)
     where
-      go : (m : ℕ) (r : Fields) → m ≡ 0 → FieldsAt s at d r → m < field_count r → field_in n f ≡ field_in m r → stretch_in start n f ≡ stretch_in at m r → FieldIs s start d n f at
-      go zero no_fields z h low is st = absurd (omega arith)
-      go zero (field o k r) z h low is st = record { type = ty o k; is = is; there = first_field s at d h; stretched = st }
-      go (suc m) r z h low is st = absurd (omega arith)
+      go : (r : Fields) → FieldsAt s at d r → 0 < field_count r → field_in n f ≡ field_in 0 r → stretch_in start n f ≡ stretch_in at 0 r → FieldIs s start d n f at
+      go no_fields h low is st = absurd (omega arith)
+      go (field o k r) h low is st = record { type = ty o k; is = is; there = first_field s at d h; stretched = st }

@@ -9,6 +9,7 @@ use Rattle.format.specs.Records.{code, box_code, box_start, count_of, list_of, w
 use Rattle.format.specs.Views.{Stands}
 use Rattle.rules.specs.Order.{code_of}
 use Rattle.rules.specs.Types.{field_in, stretch, stretch_in}
+use Rattle.limits.specs.Codes.{code_for}
 use Rattle.known.specs.declared.Name.{Name}
 use Rattle.known.specs.declared.Span.{Span}
 use Rattle.known.specs.declared.View.{View}
@@ -158,7 +159,7 @@ pub record SeenDef (s : List ℕ) (at d : ℕ) (k : Scalar) (name : ℕ) (named 
   pub counted : count ≡ field_count held
 
 abbrev pub Seen : List ℕ → ℕ → ℕ → Scalar → View → Type 0
-Seen s at d k (Plain c end) = SeenPlain at k c end
+Seen s at d k (Plain kind end) = SeenPlain at k (code_for kind) end
 Seen s at d k (BoxAny end) = SeenAny at k end
 Seen s at d k (BoxAll content) = SeenAll s at d k content
 Seen s at d k (BoxDef name named fields count) = SeenDef s at d k name named fields count

@@ -8,17 +8,18 @@ mod scalars;
 mod shapes;
 mod spans;
 
+use limits::Kind;
 pub use names::name_at;
 pub use scalars::{form_at, kind_at, look, put_kind};
 pub use shapes::{any_shape_at, closed_at, opening_at, scalar_at, shape_at};
 pub use spans::{field_at, span_at};
 
-// What a scalar is: a kind's code, and the place after it; where an All box's content begins; where the length
+// What a scalar is: a kind, and the place after it; where an All box's content begins; where the length
 // of a Def's name stands, before the name, whether it has one, where its fields begin, and how many they are.
 #[derive(Clone, Copy)]
 pub enum View {
     Plain {
-        code: u64,
+        kind: Kind,
         end: usize,
     },
     BoxAny {

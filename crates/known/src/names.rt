@@ -5,13 +5,12 @@ ghost use Rattle.known.specs.Known.{NameAt, HasName, NameIs};
 
 use crate::Name;
 use limits::ABSENT;
-use record::wide;
 
 pub fn name_at(s: &[u8], at: usize) -> Name
     requires { HasName s.now at }
     ensures { (n : Option (List ℕ)) → NameAt s.now at n → NameIs s.now at n result }
 {
-    let n = wide(s[at]);
+    let n = s[at] as u64;
     let start = at + 1;
     if n == ABSENT {
         return Name {

@@ -1,7 +1,9 @@
-// Scalars: their codes, what they are, and where what they hold begins.
-ghost use Rattle.std.specs.Prelude.{◌≡◌, ℕ, ◌<◌};
-ghost use Rattle.model.specs.Types.{Kind, Scalar, plain};
+// Scalars: their kinds, what they are, and where what they hold begins.
+ghost use Rattle.std.specs.Prelude.{◌≡◌, ℕ};
+ghost use Rattle.model.specs.Types as types;
+ghost use Rattle.model.specs.Types.{Scalar, plain};
 ghost use Rattle.format.specs.Records.{code, box_code, write_scalar};
+ghost use Rattle.limits.specs.Codes.{code_for, form_code};
 ghost use Rattle.lent.specs.Over.{over};
 ghost use Rattle.rules.specs.Order.{code_of};
 ghost use Rattle.rules.specs.Views.{form_of};
@@ -9,55 +11,64 @@ ghost use Rattle.known.specs.Known.{ScalarAt, HasScalar, HasBox, Seen};
 
 use crate::View;
 use crate::names::name_at;
-use limits::{BOX, BOX_ALL, BOX_ANY};
-use record::wide;
+use limits::{Form, Kind};
 
-// The code of a scalar's kind.
-pub fn kind_at(s: &[u8], at: usize) -> u64
+// The kind of a scalar.
+#[tactic(auto, using(crate::proofs::ScalarLaws::kind_inside, crate::proofs::ScalarLaws::kind_there))]
+pub fn kind_at(s: &[u8], at: usize) -> Kind
     requires { (d : ℕ) × HasScalar s.now at d }
-    ensures { (d : ℕ) (k : Scalar) → ScalarAt s.now at d k → result ≡ code_of k }
+    ensures { (d : ℕ) (k : Scalar) → ScalarAt s.now at d k → code_for result ≡ code_of k }
 {
-    wide(s[at + 2])
+    Kind::of_code(s[at + 2])
 }
 
 // The form of a box.
-pub fn form_at(s: &[u8], at: usize) -> u64
+#[tactic(auto, using(crate::proofs::ScalarLaws::form_inside, crate::proofs::ScalarLaws::form_there))]
+pub fn form_at(s: &[u8], at: usize) -> Form
     requires { (d : ℕ) × HasBox s.now at d }
-    ensures { (d : ℕ) (k : Scalar) → ScalarAt s.now at d k → code_of k ≡ box_code → result ≡ form_of k }
+    ensures { (d : ℕ) (k : Scalar) → ScalarAt s.now at d k → code_of k ≡ box_code → form_code result ≡ form_of k }
 {
-    wide(s[at + 5])
+    Form::of_code(s[at + 5])
 }
 
 // What a scalar is, and where what it holds begins.
+#[tactic(auto, using(crate::proofs::ScalarLaws::kind_inside))]
 pub fn look(s: &[u8], at: usize) -> View
     requires { (d : ℕ) × HasScalar s.now at d }
     ensures { (d : ℕ) (k : Scalar) → ScalarAt s.now at d k → Seen s.now at d k result }
 {
-    let code = kind_at(s, at);
-    if code != BOX {
-        return View::Plain { code, end: at + 3 };
+    match kind_at(s, at) {
+        Kind::Box => look_inside(s, at),
+        kind => View::Plain { kind, end: at + 3 },
     }
-    let form = form_at(s, at);
-    if form == BOX_ANY {
-        return View::BoxAny { end: at + 6 };
-    }
-    if form == BOX_ALL {
-        return View::BoxAll { content: at + 6 };
-    }
-    let name = name_at(s, at + 6);
-    let end = name.end;
-    View::BoxDef {
-        name: at + 6,
-        named: name.named,
-        fields: end + 1,
-        count: wide(s[end]),
+}
+
+// The same of a box.
+#[tactic(auto, using(crate::proofs::ScalarLaws::form_inside))]
+fn look_inside(s: &[u8], at: usize) -> View
+    requires { (d : ℕ) × HasBox s.now at d }
+    ensures { (d : ℕ) (k : Scalar) → ScalarAt s.now at d k → code_of k ≡ box_code → Seen s.now at d k result }
+{
+    match form_at(s, at) {
+        Form::Any => View::BoxAny { end: at + 6 },
+        Form::All => View::BoxAll { content: at + 6 },
+        Form::Def => {
+            let name = name_at(s, at + 6);
+            View::BoxDef {
+                name: at + 6,
+                named: name.named,
+                fields: name.end + 1,
+                count: s[name.end] as u64,
+            }
+        }
     }
 }
 
 // Another kind where a kind stands.
-pub fn put_kind(out: &mut [u8], at: usize, kind: u64)
-    requires { ((d : ℕ) × (k : Kind) × ScalarAt out.old at d (plain k)) × (kind < 256) }
-    ensures { (d : ℕ) (k l : Kind) → ScalarAt out.old at d (plain k) → kind ≡ code l → out.new ≡ over out.old at (write_scalar (plain l)) }
+#[tactic(auto, using(crate::proofs::ScalarLaws::kind_inside))]
+pub fn put_kind(out: &mut [u8], at: usize, kind: Kind)
+    requires { (d : ℕ) × (k : types.Kind) × ScalarAt out.old at d (plain k) }
+    ensures { (d : ℕ) (k l : types.Kind) → ScalarAt out.old at d (plain k) → code_for kind ≡ code l → out.new ≡ over out.old at (write_scalar (plain l)) }
 {
-    out[at + 2] = kind as u8;
+    out[at + 2] = kind.code();
 }

@@ -1,5 +1,4 @@
 pub mod Over
 pub mod Written
-pub mod Answers
 pub mod Delivers
 pub mod StandsOver

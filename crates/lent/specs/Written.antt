@@ -1,23 +1,22 @@
--- What a call's answer and its result buffer say together.
-use Rattle.std.specs.Prelude.{ℕ, ◌≤◌, ◌<◌, List, ◌≡◌, length, take}
+-- What a call's answer and its result buffer say together. The answer is how many bytes were written, or the refusal.
+use Rattle.std.specs.Prelude.{ℕ, ◌≤◌, ◌<◌, List, ◌≡◌, length, take, Result, Ok, Err}
 use Rattle.model.specs.Limits.{max_bytes}
-use Rattle.model.specs.Refusals.{too_short}
 use Rattle.format.specs.Outcome.{Outcome, accepted, refused, Delivery, delivery}
-use Rattle.lent.specs.declared.Written.{Written}
-use Rattle.lent.specs.declared.Written.TheVariants.{Wrote, Refused}
+use Rattle.limits.specs.Answers.{number_of, told}
+use Rattle.limits.specs.declared.refusal.Refusal.{Refusal}
+use Rattle.limits.specs.declared.refusal.Reason.TheVariants.{TooShort}
 
-abbrev pub written_of : Written → Outcome ℕ
-written_of (Wrote n) = accepted n
-written_of (Refused k p) = refused k p
+abbrev pub Written : Type 0
+Written = Result ℕ Refusal
 
 abbrev pub delivered : Written → List ℕ → Delivery
-delivered r buffer = delivery (written_of r) buffer
+delivered r buffer = delivery (told r) buffer
 
 -- An answer and a buffer whose other bytes are left open: what was written stands at the front.
 abbrev pub Puts : Written → List ℕ → Outcome (List ℕ) → Type 0
-Puts (Wrote n) out o = (o ≡ accepted (take n out)) × (n ≤ length out)
-Puts (Refused k p) out o = o ≡ refused k p
+Puts (Ok n) out o = (o ≡ accepted (take n out)) × (n ≤ length out)
+Puts (Err r) out o = o ≡ refused (number_of r.0) r.1
 
 -- A buffer that is shorter than some types was found too short. This says nothing of what was to be written.
 abbrev pub Short : Written → List ℕ → Type 0
-Short w out = (w ≡ Refused too_short 0) × (length out < max_bytes)
+Short w out = (w ≡ Err (record { 0 = TooShort; 1 = 0 })) × (length out < max_bytes)

@@ -1,69 +1,30 @@
-// Lent buffers: bytes laid over a part of one, and a result delivered to the front of one or refused. And what calls answer that
-// have no result to write.
+// Lent buffers: bytes laid over a part of one, and a result delivered to the front of one or refused.
 #![tactic(auto)]
 
 ghost use Rattle.std.specs.Prelude.{◌≡◌, ◌+◌, ◌≤◌, length};
 ghost use Rattle.format.specs.Outcome.{accepted, deliver};
-ghost use Rattle.lent.specs.Answers.{tested_of};
 ghost use Rattle.lent.specs.Over.{over};
 ghost use Rattle.lent.specs.Written.{delivered};
 
-use limits::refusal::TOO_SHORT;
-
-// How many bytes a call wrote to its result, or its refusal.
-#[derive(Clone, Copy)]
-pub enum Written {
-    Wrote(usize),
-    Refused { number: u8, place: usize },
-}
-
-// A test, or the refusal of what was to be tested.
-#[derive(Clone, Copy)]
-pub enum Tested {
-    Yes,
-    No,
-    Refused { number: u8, place: usize },
-}
-
-// A number, or a size, all ones for unknown; or a refusal.
-#[derive(Clone, Copy)]
-pub enum Counted {
-    Count(u64),
-    Refused { number: u8, place: usize },
-}
+use limits::refusal::{Reason, Refusal};
 
 // All of src, to dst from `at` on.
 pub fn lay(src: &[u8], dst: &mut [u8], at: usize)
     requires { at + length src.now ≤ length dst.old }
     ensures { dst.new ≡ over dst.old at src.now }
 {
-    let mut i = 0;
-    while i < src.len() {
-        dst[at + i] = src[i];
-        i += 1;
-    }
+    dst[at..at + src.len()].copy_from_slice(src);
 }
 
-// Bytes that a call answers: they go to the front of its result, or the result is too short and stays as lent.
-pub fn hand_over(src: &[u8], res: &mut [u8]) -> Written
+// Bytes that a call answers: they go to the front of its result, or the result is too short and stays as lent. Answers how many they are.
+#[tactic(auto, using(crate::specs::Delivers::deliver_bytes, crate::specs::Delivers::deliver_nothing))]
+pub fn hand_over(src: &[u8], res: &mut [u8]) -> Result<usize, Refusal>
     ensures { delivered result res.new ≡ deliver (accepted src.now) res.old }
 {
     let n = src.len();
     if res.len() < n {
-        return Written::Refused {
-            number: TOO_SHORT,
-            place: 0,
-        };
+        return Err(Refusal(Reason::TooShort, 0));
     }
     lay(src, &mut *res, 0);
-    Written::Wrote(n)
-}
-
-pub fn tell(yes: bool) -> Tested
-    ensures { tested_of result ≡ accepted yes }
-{
-    if yes {
-        return Tested::Yes;
-    }
-    Tested::No
+    Ok(n)
 }

@@ -1,9 +1,12 @@
 // Every limit, every code, every mark, every constant record and every refusal number, named once for all code.
 #![tactic(auto)]
 
+mod codes;
 pub mod marks;
 pub mod records;
 pub mod refusal;
+
+pub use codes::{Form, Kind};
 
 // The version of the library and of the programs: one more with every change that a host or a reader of answers can see.
 pub const VERSION: u64 = 9;
@@ -60,27 +63,6 @@ pub const MAX_SHEET: usize = 49152;
 // The byte for a count that is absent.
 pub const ABSENT: u64 = 255;
 
-// The codes of the kinds.
-pub const BOOL: u64 = 0;
-
-pub const NAT: u64 = 1;
-
-pub const INT: u64 = 2;
-
-pub const NUM: u64 = 3;
-
-pub const COMPLEX: u64 = 4;
-
-pub const ASCII: u64 = 5;
-
-pub const CHAR: u64 = 6;
-
-pub const STREAM: u64 = 7;
-
-pub const BOX: u64 = 8;
-
-pub const ANY: u64 = 9;
-
 // How many kinds there are, how many pairs of them, how many rules the table of kinds has, and how many numbers that makes.
 pub const KIND_COUNT: usize = 10;
 
@@ -92,13 +74,6 @@ pub const KIND_NUMBERS: usize = KIND_RULES * KIND_PAIRS;
 
 // The mark of that table in place of a union's code: the boxes' contents decide.
 pub const CONTENTS_DECIDE: u8 = 255;
-
-// The forms of a box.
-pub const BOX_ANY: u64 = 0;
-
-pub const BOX_ALL: u64 = 1;
-
-pub const BOX_DEF: u64 = 2;
 
 // The greatest flag of a pervading, which has both bits.
 pub const MAX_FLAG: u8 = 3;

@@ -1,24 +1,24 @@
 // Records, and parts of them, that are the same wherever they are written, named once for all code.
-use crate::{ANY, BOX, BOX_ALL, BOX_ANY, marks};
+use crate::{Form, Kind, marks};
 
 // A box that holds anything.
 pub const BOX_ANY_SCALAR: [u8; 6] = [
     marks::SCALAR.first,
     marks::SCALAR.second,
-    BOX as u8,
+    Kind::Box as u8,
     marks::BOX.first,
     marks::BOX.second,
-    BOX_ANY as u8,
+    Form::Any as u8,
 ];
 
 // An All box up to the type in it.
 pub const BOX_ALL_START: [u8; 6] = [
     marks::SCALAR.first,
     marks::SCALAR.second,
-    BOX as u8,
+    Kind::Box as u8,
     marks::BOX.first,
     marks::BOX.second,
-    BOX_ALL as u8,
+    Form::All as u8,
 ];
 
 // [..] of Any: no opening sizes, open with no closing sizes, and the scalar Any.
@@ -29,5 +29,5 @@ pub const ANY_TYPE: [u8; 7] = [
     0,
     marks::SCALAR.first,
     marks::SCALAR.second,
-    ANY as u8,
+    Kind::Any as u8,
 ];

@@ -1,33 +1,36 @@
-// The numbers of the refusals.
+// Why something is refused, and where.
+ghost use Rattle.std.specs.Prelude.{◌≡◌};
+ghost use Rattle.limits.specs.Answers.{number_of};
 
-pub const ENDED: u8 = 1;
+// The reasons by their numbers.
+#[derive(Clone, Copy, Debug, PartialEq, Eq)]
+pub enum Reason {
+    Ended = 1,
+    Unmarked = 2,
+    OutOfRange = 3,
+    Oversized = 4,
+    TooMany = 5,
+    Trailing = 6,
+    TooShort = 7,
+    Unpervaded = 8,
+    WrongScalar = 9,
+    WrongShape = 10,
+    Underflow = 11,
+    Overflow = 12,
+    NotASize = 13,
+    WrongCount = 14,
+    Undeclared = 15,
+    TooManyNames = 16,
+}
 
-pub const UNMARKED: u8 = 2;
+impl Reason {
+    pub fn number(self) -> u8
+        ensures { result ≡ number_of self }
+    {
+        self as u8
+    }
+}
 
-pub const OUT_OF_RANGE: u8 = 3;
-
-pub const OVERSIZED: u8 = 4;
-
-pub const TOO_MANY: u8 = 5;
-
-pub const TRAILING: u8 = 6;
-
-pub const TOO_SHORT: u8 = 7;
-
-pub const UNPERVADED: u8 = 8;
-
-pub const WRONG_SCALAR: u8 = 9;
-
-pub const WRONG_SHAPE: u8 = 10;
-
-pub const UNDERFLOW: u8 = 11;
-
-pub const OVERFLOW: u8 = 12;
-
-pub const NOT_A_SIZE: u8 = 13;
-
-pub const WRONG_COUNT: u8 = 14;
-
-pub const UNDECLARED: u8 = 15;
-
-pub const TOO_MANY_NAMES: u8 = 16;
+// A reason, and the place that the refusal names.
+#[derive(Clone, Copy, Debug, PartialEq, Eq)]
+pub struct Refusal(pub Reason, pub usize);

@@ -1,2 +1,2 @@
 -- Laws that the proofs cite.
-mod LocateLaws
+pub mod LocateLaws

@@ -4,50 +4,51 @@
 mod ends;
 
 ghost use Rattle.std.specs.Prelude.{◌≡◌};
-ghost use Rattle.std.proofs.Math.Option.{some};
 ghost use Rattle.places.specs.Places.{told_step, mark_at, step_of};
+ghost use Rattle.cursor.specs.Answers.{opcode_of};
 ghost use Rattle.locate.specs.Answers.{located_of};
 
-use cursor::{MarkRead, Operation, read_mark};
-use ends::{StepEnd, step_end};
+use cursor::{Operation, read_mark};
+use ends::step_end;
 
-// A step by its number, counted from 1, and what its mark says; or a place that belongs to none.
+// A step by its number, counted from 1, and what its mark says, if it is one.
 #[derive(Clone, Copy)]
-pub enum Located {
-    Step { number: u64, opcode: Operation },
-    Unmarked { number: u64 },
-    Nowhere,
+pub struct Located {
+    pub number: u64,
+    pub operation: Option<Operation>,
 }
 
-pub fn find_step(s: &[u8], place: u64) -> Located
+// The step that a place belongs to, if it belongs to one.
+#[tactic(auto, using(crate::proofs::LocateLaws::from_the_first, crate::proofs::LocateLaws::past_all, crate::proofs::LocateLaws::step_goes, crate::proofs::LocateLaws::no_more, crate::proofs::LocateLaws::in_this, crate::proofs::LocateLaws::in_a_later))]
+pub fn find_step(s: &[u8], place: u64) -> Option<Located>
     ensures { located_of result ≡ step_of s.now place }
 {
-    let mut before = 0u64;
-    let mut at = 0usize;
+    let mut before = 0;
+    let mut at = 0;
     while at < s.len() {
-        let end = step_end(s, at);
-        let StepEnd::At(next) = end else {
+        let Some(next) = step_end(s, at) else {
             // All bytes that are left are the step's, and the place after them.
             if (s.len() as u64) < place {
-                return Located::Nowhere;
+                return None;
             }
-            return name_step(s, at, before + 1);
+            return Some(name_step(s, at, before + 1));
         };
         if place < next as u64 {
-            return name_step(s, at, before + 1);
+            return Some(name_step(s, at, before + 1));
         }
         before += 1;
         at = next;
     }
-    Located::Nowhere
+    None
 }
 
 // The step that begins at a place, by its number and its mark.
 fn name_step(s: &[u8], at: usize, number: u64) -> Located
-    ensures { located_of result ≡ some (told_step number (mark_at s.now at)) }
+    ensures { told_step result.number (opcode_of result.operation) ≡ told_step number (mark_at s.now at) }
 {
-    match read_mark(s, at) {
-        MarkRead::Got { opcode, next: _ } => Located::Step { number, opcode },
-        MarkRead::Refused { number: _ } => Located::Unmarked { number },
-    }
+    let operation = match read_mark(s, at) {
+        Ok((operation, _)) => Some(operation),
+        Err(_) => None,
+    };
+    Located { number, operation }
 }

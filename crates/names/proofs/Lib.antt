@@ -1,1 +1,2 @@
 pub mod NameLaws
+pub mod TableFacts

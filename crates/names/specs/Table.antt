@@ -1,6 +1,7 @@
 -- Names as they stand in a sheet and are kept (document 02, 2026-06): a name stands behind its length, the type that it was declared with
 -- behind the name. Of each name in force, by first declaration, it is known where its length stands and where its type ends.
-use Rattle.std.specs.Prelude.{ℕ, suc, ◌+◌, ◌≤◌, ◌<◌, Bool, true, false, cond, List, [], ◌∷◌, ◌≡◌, length, get_or}
+use Rattle.std.specs.Prelude.{ℕ, suc, ◌+◌, ◌≤◌, cond, List, [], ◌∷◌, ◌≡◌, length, get_or, Result, Ok, Err, Some, None}
+use Rattle.std.specs.Prelude as code
 use Rattle.std.proofs.Math.Option.{Option, none, some}
 use Rattle.model.specs.Types.{Ty}
 use Rattle.model.specs.Within.{Within}
@@ -10,10 +11,9 @@ use Rattle.format.specs.Views.{Stands}
 use Rattle.machine.specs.SheetLimits.{max_names}
 use Rattle.machine.specs.Written.{TableName, write_name, TableNameWithin}
 use Rattle.machine.specs.Names.{same_name, naming, Names}
-use Rattle.names.specs.declared.reading.NameRead.{NameRead}
-use Rattle.names.specs.declared.reading.NameRead.TheVariants.{Got, Refused}
-use Rattle.names.specs.declared.table.LookedUp.{LookedUp}
-use Rattle.names.specs.declared.table.LookedUp.TheVariants.{Declared, Undeclared}
+use Rattle.limits.specs.Answers.{number_of}
+use Rattle.limits.specs.declared.refusal.Refusal.{Refusal}
+use Rattle.names.specs.declared.table.Declared.{Declared}
 
 -- ---- one name
 
@@ -26,15 +26,10 @@ pub record NameStands (s : List ℕ) (at : ℕ) (n : TableName) : Type 0 where
 abbrev pub past_name : ℕ → TableName → ℕ
 past_name at n = at + length (write_name n)
 
--- What was read from a place on is the name that stands there; its refusal names the place p of the step's mark.
-abbrev pub NameReadIs : NameRead → List ℕ → ℕ → ℕ → Read TableName → Type 0
-NameReadIs (Got next) s at p o = (n : TableName) × (o ≡ got n next) × NameStands s at n × (next ≡ past_name at n)
-NameReadIs (Refused k) s at p o = o ≡ stopped k p
-
--- The same bytes from two places on, so many of them, or not.
-abbrev pub SameStretch : Bool → List ℕ → ℕ → ℕ → ℕ → Type 0
-SameStretch true s a b count = (i : ℕ) → i < count → get_or s (a + i) 0 ≡ get_or s (b + i) 0
-SameStretch false s a b count = (i : ℕ) × (i < count) × (get_or s (a + i) 0 ≡ get_or s (b + i) 0 → ⊥)
+-- What was read from a place on is the name that stands there.
+abbrev pub NameReadIs : Result ℕ Refusal → List ℕ → ℕ → Read TableName → Type 0
+NameReadIs (Ok next) s at o = (n : TableName) × (o ≡ got n next) × NameStands s at n × (next ≡ past_name at n)
+NameReadIs (Err r) s at o = o ≡ stopped (number_of r.0) r.1
 
 -- ---- one declaration
 
@@ -74,6 +69,6 @@ place_of [] n = 0
 place_of (naming m u ∷ ns) n = cond (same_name m n) 0 (suc (place_of ns n))
 
 -- The type that was found stands there.
-abbrev pub LookedUpIs : LookedUp → List ℕ → Option Ty → Type 0
-LookedUpIs (Declared start end) s o = (t : Ty) × (o ≡ some t) × Spans s start end t
-LookedUpIs Undeclared s o = o ≡ none
+abbrev pub LookedUpIs : code.Option Declared → List ℕ → Option Ty → Type 0
+LookedUpIs (Some d) s o = (t : Ty) × (o ≡ some t) × Spans s d.start d.end t
+LookedUpIs None s o = o ≡ none

@@ -1,32 +1,30 @@
 -- What stands where a name stands, when two names are the same, and how the names in force are looked through and change.
-use Rattle.std.specs.Prelude.{ℕ, zero, suc, ◌+◌, ◌-◌, ◌≤◌, ◌<◌, Bool, true, false, cond, List, [], ◌∷◌, ◌≡◌, refl, length, get_or, take, drop, set, ltb}
-use Rattle.std.proofs.Common.{arith, sym, ◌∙◌, ap, length-set, ext_get_or, get_or-set_same, get_or-set_other, ltb-true, ltb-false}
+use Rattle.std.specs.Prelude.{ℕ, zero, suc, ◌+◌, ◌-◌, ◌≤◌, ◌<◌, Bool, true, false, ◌&&◌, cond, List, [], ◌∷◌, ◌≡◌, refl, length, get_or, take, drop, set, eqb, Some}
+use Rattle.std.specs.Cmp.Lexicographic.{pointwise}
+use Rattle.std.proofs.Common.{arith, sym, ◌∙◌, ap, length-set, get_or-set_same, get_or-set_other}
 use Rattle.std.proofs.Math.Option.{none, some}
 use Rattle.model.specs.Types.{shape, Ty, ty}
 use Rattle.format.specs.Records.{write_shape, write_ty}
-use Rattle.format.specs.Views.{stands-byte, stands-nth, stands-within, stands-part}
+use Rattle.format.specs.Views.{stands-byte, stands-second, stands-within, stands-part}
 use Rattle.format.specs.Outcome.{accepted, lone}
 use Rattle.format.specs.WriteRead.{write_lone}
 use Rattle.machine.specs.SheetLimits.{max_names}
 use Rattle.machine.specs.Written.{TableName, write_name}
 use Rattle.machine.specs.Names.{same_name, naming, Names, type_in_force, declare}
-use Rattle.machine.proofs.NamesLaws.{same-name, same_name-refl, added, declare-length}
-use Rattle.names.specs.Table.{NameStands, past_name, SameStretch, Spans, Declares, ListedFrom, InForce, place_of, LookedUpIs}
-use Rattle.names.specs.declared.table.LookedUp.TheVariants.{Declared}
+use Rattle.machine.proofs.NamesLaws.{added, declare-length}
+use Rattle.names.specs.Table.{NameStands, past_name, Spans, Declares, ListedFrom, InForce, place_of, LookedUpIs}
 
 -- ---- one name
 
 module _ (s : List ℕ) (at : ℕ) (n : TableName) (h : NameStands s at n) where
-  pub name-length : get_or s at 0 ≡ length n
-  name-length = stands-byte s at (length n) n h.stands
+  pub name_length : get_or s at 0 ≡ length n
+  name_length = stands-byte s at (length n) n h.stands
 
-  pub name-inside : at + 1 + length n ≤ length s
-  name-inside = omega (arith, stands-within s at (write_name n) (omega arith) h.stands)
+  pub name_inside : at + 1 + length n ≤ length s
+  name_inside = omega (arith, stands-within s at (write_name n) (omega arith) h.stands)
 
-  name-byte : (i : ℕ) → i < length n → get_or s (at + 1 + i) 0 ≡ get_or n i 0
-  name-byte i less =
-      let next : at + 1 + i ≡ at + suc i = omega arith in
-      rw next (stands-nth s at (write_name n) (suc i) (omega arith) h.stands)
+  pub name_bytes : take (length n) (drop (at + 1) s) ≡ n
+  name_bytes = stands-part s (at + 1) n (stands-second s at (length n ∷ []) n h.stands)
 
 -- ---- a type
 
@@ -51,38 +49,11 @@ module _ (s : List ℕ) (start end : ℕ) (t : Ty) (h : Spans s start end t) whe
 
 -- ---- two names
 
--- bytes that are alike up to the i-th, and there, are alike up to the next
-pub alike_next : (s : List ℕ) (a b i : ℕ) → ((j : ℕ) → j < i → get_or s (a + j) 0 ≡ get_or s (b + j) 0) → get_or s (a + i) 0 ≡ get_or s (b + i) 0
-    → (j : ℕ) → j < i + 1 → get_or s (a + j) 0 ≡ get_or s (b + j) 0
-alike_next s a b i before here j h = go (ltb j i) refl
-  where
-    go : (t : Bool) → ltb j i ≡ t → get_or s (a + j) 0 ≡ get_or s (b + j) 0
-    go true e = before j (ltb-true j i e)
-    go false e = let same : j ≡ i = omega (arith, ltb-false j i e) in rw same here
-
-not_same : (m n : TableName) → (m ≡ n → ⊥) → same_name m n ≡ false
-not_same m n differ = go (same_name m n) refl
-  where
-    go : (b : Bool) → same_name m n ≡ b → b ≡ false
-    go true e = absurd (differ (same-name m n e))
-    go false e = refl
-
-module _ (s : List ℕ) (a b : ℕ) (m n : TableName) (h : NameStands s a m) (k : NameStands s b n) where
-  -- not of one length
-  pub lengths_differ : (get_or s b 0 ≡ get_or s a 0 → ⊥) → false ≡ same_name m n
-  lengths_differ differ = sym (not_same m n λ e. differ (name-length s b n k ∙ sym (ap length e) ∙ sym (name-length s a m h)))
-
-  -- of one length: by their bytes
-  pub stretch_tells : (r : Bool) → get_or s b 0 ≡ get_or s a 0 → SameStretch r s (a + 1) (b + 1) (get_or s a 0) → r ≡ same_name m n
-  stretch_tells true long same =
-      let equally : length m ≡ length n = omega (arith, name-length s a m h, name-length s b n k) in
-      let x : m ≡ n = ext_get_or 0 m n equally λ i less.
-      sym (name-byte s a m h i less) ∙ same i (omega (arith, name-length s a m h)) ∙ name-byte s b n k i (omega arith) in
-      rw x (sym (same_name-refl n))
-  stretch_tells false long (i, less, differ) =
-      let equally : length m ≡ length n = omega (arith, name-length s a m h, name-length s b n k) in
-      let here : i < length m = omega (arith, name-length s a m h) in
-      sym (not_same m n λ e. differ (name-byte s a m h i here ∙ ap (λ x. get_or x i 0) e ∙ sym (name-byte s b n k i (omega arith))))
+pub same_by_bytes : (m n : TableName) → pointwise eqb m n ≡ same_name m n
+same_by_bytes [] [] = refl
+same_by_bytes [] (y ∷ n) = refl
+same_by_bytes (x ∷ m) [] = refl
+same_by_bytes (x ∷ m) (y ∷ n) = ap (λ t. eqb x y && t) (same_by_bytes m n)
 
 -- ---- the names in force, one after the other
 
@@ -129,21 +100,10 @@ module _ (n m : TableName) (u : Ty) (ns rest : Names) (k : ℕ) (is : drop k ns 
       let here : place_of (drop k ns) n ≡ suc (place_of rest n) = ap (λ x. place_of x n) is ∙ rw (← e) in
       omega (arith, past, here)
 
--- it is none of them
-drop_all : {A : Type 0} (l : List A) → drop (length l) l ≡ []
-drop_all [] = refl
-drop_all (x ∷ l) = drop_all l
-
-pub place_none : (n : TableName) (ns : Names) (k : ℕ) → length ns ≡ k → place_of ns n ≡ k + place_of (drop k ns) n → k ≡ place_of ns n
-place_none n ns k many past =
-    let none_left : drop k ns ≡ [] = rw (← many) (drop_all ns) in
-    let here : place_of (drop k ns) n ≡ 0 = ap (λ x. place_of x n) none_left in
-    omega (arith, past, here)
-
 -- the type in force is that of the name there, or none
-pub type-none : (ns : Names) (n : TableName) → place_of ns n ≡ length ns → type_in_force ns n ≡ none
-type-none [] n e = refl
-type-none (naming m u ∷ ns) n e = go (same_name m n) e (λ k. type-none ns n k)
+pub type_none : (ns : Names) (n : TableName) → place_of ns n ≡ length ns → type_in_force ns n ≡ none
+type_none [] n e = refl
+type_none (naming m u ∷ ns) n e = go (same_name m n) e (λ k. type_none ns n k)
   where
     go : (b : Bool) → cond b 0 (suc (place_of ns n)) ≡ suc (length ns) → (place_of ns n ≡ length ns → type_in_force ns n ≡ none) → cond b (some u) (type_in_force ns n) ≡ none
     go true e f = absurd (omega arith)
@@ -163,7 +123,7 @@ type-there (naming v w ∷ ns) n k m u rest is e = go (same_name v n) k is e (λ
 -- ---- a declaration
 
 declared-more : (ns : Names) (n : TableName) (t : Ty) → place_of ns n ≡ length ns → length (declare ns n t) ≡ length ns + 1
-declared-more ns n t e = omega (arith, declare-length ns n t, ap added (type-none ns n e))
+declared-more ns n t e = omega (arith, declare-length ns n t, ap added (type_none ns n e))
 
 -- a name that is among them has a type in force
 type-some : (ns : Names) (n : TableName) → place_of ns n < length ns → added (type_in_force ns n) ≡ 0
@@ -211,30 +171,17 @@ module _ (s places bounds : List ℕ) (at end : ℕ) where
 
 -- ---- what was found
 
-module _ (s places bounds : List ℕ) {count : ℕ} (ns : Names) (force : InForce s places bounds count ns) (n : TableName) (k : ℕ) (is : k ≡ place_of ns n) where
-  pub found-low : k ≤ count
-  found-low = omega (arith, place-few ns n, is, force.many)
+module _ (s places bounds : List ℕ) {count : ℕ} (ns : Names) (force : InForce s places bounds count ns) (k : ℕ) (less : k < count) where
+  -- the name there stands inside the bytes
+  pub found_inside : get_or places k 0 + 1 + get_or s (get_or places k 0) 0 ≤ length s
+  found_inside = nth_in_force s places bounds ns force k less λ m u is d. omega (arith, name_inside s _ m d.name, name_length s _ m d.name)
 
-  pub found_none : k ≡ count → type_in_force ns n ≡ none
-  found_none e = type-none ns n (omega (arith, is, force.many, e))
-
-  module _ (other : k ≡ count → ⊥) where
-    pub found-less : k < count
-    found-less = go (ltb k count) refl
-      where
-        go : (b : Bool) → ltb k count ≡ b → k < count
-        go true e = ltb-true k count e
-        go false e = absurd (other (omega (arith, ltb-false k count e, found-low)))
-
-    -- the name there, whose type is the one in force
-    pub found-there : {C : Type 0} → ((m : TableName) (u : Ty) → type_in_force ns n ≡ some u → Declares s (get_or places k 0) (get_or bounds k 0) m u → C) → C
-    found-there f = nth_in_force s places bounds ns force k found-less λ m u e d. f m u (type-there ns n k m u (drop (k + 1) ns) e is) d
-
-    pub found-is : (long : ℕ) → long ≡ get_or s (get_or places k 0) 0 → LookedUpIs (Declared (get_or places k 0 + 1 + long) (get_or bounds k 0)) s (type_in_force ns n)
-    found-is long e =
-        found-there λ m u there d.
-        let start : get_or places k 0 + 1 + long ≡ past_name (get_or places k 0) m = omega (arith, e, name-length s (get_or places k 0) m d.name) in
-        (u, there, rw start d.type)
+  -- its type is the one in force
+  pub found_is : (n : TableName) → k ≡ place_of ns n → LookedUpIs (Some (record { start = get_or places k 0 + 1 + get_or s (get_or places k 0) 0; end = get_or bounds k 0 })) s (type_in_force ns n)
+  found_is n is =
+      nth_in_force s places bounds ns force k less λ m u e d.
+      let start : get_or places k 0 + 1 + get_or s (get_or places k 0) 0 ≡ past_name (get_or places k 0) m = omega (arith, name_length s (get_or places k 0) m d.name) in
+      (u, type-there ns n k m u (drop (k + 1) ns) e is, rw start d.type)
 
 -- ---- what a declaration leaves
 
@@ -242,21 +189,14 @@ module _ (s places bounds : List ℕ) {count : ℕ} (ns : Names) (force : InForc
   pub no_room : k ≡ max_names → length (declare ns n t) ≡ max_names + 1
   no_room e = let last : place_of ns n ≡ length ns = omega (arith, place-few ns n, is, e, force.many, force.few) in omega (arith, declared-more ns n t last, last, is, e)
 
-  module _ (d : Declares s at end n t) (other : k ≡ max_names → ⊥) where
-    room-left : k < max_names
-    room-left = go (ltb k max_names) refl
-      where
-        go : (b : Bool) → ltb k max_names ≡ b → k < max_names
-        go true e = ltb-true k max_names e
-        go false e = absurd (other (omega (arith, ltb-false k max_names e, found-low s places bounds ns force n k is, force.few)))
-
-    pub left-again : k < count → (count ≡ length (declare ns n t)) × (count ≤ max_names → InForce s (set places k at) (set bounds k end) count (declare ns n t)) × (count ≤ max_names)
-    left-again less =
+  module _ (d : Declares s at end n t) (room : k < max_names) where
+    pub left_again : k < count → (count ≡ length (declare ns n t)) × (count ≤ max_names → InForce s (set places k at) (set bounds k end) count (declare ns n t))
+    left_again less =
         let many : length (declare ns n t) ≡ count = declared_same ns n t (omega (arith, is, force.many)) ∙ force.many in
-        (sym many, λ few. declared_in_force s places bounds at end ns n t k count force d is room-left many few, force.few)
+        (sym many, λ few. declared_in_force s places bounds at end ns n t k count force d is room many few)
 
-    pub left_new : count ≤ k → (count + 1 ≡ length (declare ns n t)) × (count + 1 ≤ max_names → InForce s (set places k at) (set bounds k end) (count + 1) (declare ns n t)) × (count + 1 ≤ max_names)
+    pub left_new : count ≤ k → (count + 1 ≡ length (declare ns n t)) × (count + 1 ≤ max_names → InForce s (set places k at) (set bounds k end) (count + 1) (declare ns n t))
     left_new past =
         let last : place_of ns n ≡ length ns = omega (arith, place-few ns n, is, force.many) in
         let many : length (declare ns n t) ≡ count + 1 = omega (arith, declared-more ns n t last, force.many) in
-        (sym many, λ few. declared_in_force s places bounds at end ns n t k (count + 1) force d is room-left many few, omega (arith, room-left))
+        (sym many, λ few. declared_in_force s places bounds at end ns n t k (count + 1) force d is room many few)

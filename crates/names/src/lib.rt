@@ -6,5 +6,5 @@ mod reading;
 mod same;
 mod table;
 
-pub use reading::{NameRead, name_number, read_table_name};
-pub use table::{LookedUp, declare, look_up};
+pub use reading::read_table_name;
+pub use table::{Declared, declare, look_up};

@@ -9,31 +9,35 @@ ghost use Rattle.names.specs.Table.{NameStands, Declares, InForce, HasNames, pla
 
 use crate::same::same_name;
 use limits::MAX_NAMES;
-use record::wide;
 
 // Where the type stands that a name was last declared with.
 #[derive(Clone, Copy)]
-pub enum LookedUp {
-    Declared { start: usize, end: usize },
-    Undeclared,
+pub struct Declared {
+    pub start: usize,
+    pub end: usize,
 }
 
 // The type in force for the name whose length stands at a place.
-pub fn look_up(s: &[u8], places: &[usize], bounds: &[usize], count: usize, name: usize) -> LookedUp
+pub fn look_up(
+    s: &[u8],
+    places: &[usize],
+    bounds: &[usize],
+    count: usize,
+    name: usize,
+) -> Option<Declared>
     requires { HasNames s.now places.now bounds.now count × ((n : TableName) × NameStands s.now name n) }
     ensures { (ns : Names) (n : TableName) → InForce s.now places.now bounds.now count ns → NameStands s.now name n
         → LookedUpIs result s.now (type_in_force ns n) }
 {
     let k = find(s, places, count, name);
     if k == count {
-        return LookedUp::Undeclared;
+        return None;
     }
     let at = places[k];
-    let long = wide(s[at]);
-    LookedUp::Declared {
-        start: at + 1 + long as usize,
+    Some(Declared {
+        start: at + 1 + s[at] as usize,
         end: bounds[k],
-    }
+    })
 }
 
 // Declares the name whose length stands at a place, its type being the one behind it. Answers how many names there are then; if there
@@ -64,14 +68,13 @@ pub fn declare(
 // Which of the names it is, or how many there are, if it is none of them.
 fn find(s: &[u8], places: &[usize], count: usize, name: usize) -> usize
     requires { ((bounds : List ℕ) × HasNames s.now places.now bounds count) × ((n : TableName) × NameStands s.now name n) }
-    ensures { (bounds : List ℕ) (ns : Names) (n : TableName) → InForce s.now places.now bounds count ns → NameStands s.now name n → result ≡ place_of ns n }
+    ensures low { result ≤ count }
+    ensures place { (bounds : List ℕ) (ns : Names) (n : TableName) → InForce s.now places.now bounds count ns → NameStands s.now name n → result ≡ place_of ns n }
 {
-    let mut k = 0;
-    while k < count {
+    for k in 0..count {
         if same_name(s, places[k], name) {
             return k;
         }
-        k += 1;
     }
     count
 }

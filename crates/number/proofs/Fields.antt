@@ -68,14 +68,14 @@ module _ (b : ℕ) where
   unfolding of_bits
   by-fields x e = rw e
 
-  pub bits-infinite : exponent ≡ 2047 → digits ≡ 0 → infinite sign ≡ class_of (of_bits binary64 b)
-  bits-infinite e d = sym (fields-infinite sign digits d) ∙ by-fields 2047 e
+  pub bits_infinite : exponent ≡ 2047 → digits ≡ 0 → infinite sign ≡ class_of (of_bits binary64 b)
+  bits_infinite e d = sym (fields-infinite sign digits d) ∙ by-fields 2047 e
 
-  pub bits-nan : exponent ≡ 2047 → (digits ≡ 0 → ⊥) → not_a_number ≡ class_of (of_bits binary64 b)
-  bits-nan e d = sym (fields_nan sign digits d) ∙ by-fields 2047 e
+  pub bits_nan : exponent ≡ 2047 → (digits ≡ 0 → ⊥) → not_a_number ≡ class_of (of_bits binary64 b)
+  bits_nan e d = sym (fields_nan sign digits d) ∙ by-fields 2047 e
 
-  pub bits-zero : exponent ≡ 0 → digits ≡ 0 → whole sign ≡ class_of (of_bits binary64 b)
-  bits-zero e d = sym (fields-zero sign digits d) ∙ by-fields 0 e
+  pub bits_zero : exponent ≡ 0 → digits ≡ 0 → whole sign ≡ class_of (of_bits binary64 b)
+  bits_zero e d = sym (fields-zero sign digits d) ∙ by-fields 0 e
 
   pub bits_tiny : exponent ≡ 0 → (digits ≡ 0 → ⊥) → fraction ≡ class_of (of_bits binary64 b)
   bits_tiny e d = sym (fields_tiny sign digits (omega arith) d) ∙ by-fields 0 e

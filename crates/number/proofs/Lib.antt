@@ -1,7 +1,6 @@
 pub mod Ratio
 pub mod Fields
 pub mod Casts
-pub mod Arms
 pub mod Walk
 pub mod Greatest
 pub mod Examples

@@ -74,10 +74,6 @@ module _ (s : Bool) (q x : ℕ) (l : x ≤ 1075) where
   pub normal_fraction : (q % 2 ^ (1075 - x) ≡ 0 → ⊥) → class_of_ratio s (q * 2 ^ x) (2 ^ 1075) ≡ fraction
   normal_fraction e = normal_units ∙ ratio_fraction s q (2 ^ (1075 - x)) e
 
--- exactly 2 ^ 53, where the number is 2 * q
-pub normal_limit : (s : Bool) (q x : ℕ) → 2 ^ 52 ≤ q → x ≡ 1076 → 2 * q ≤ max_size → class_of_ratio s (q * 2 ^ x) (2 ^ 1075) ≡ whole s
-normal_limit s q x h e l = let k : q ≡ 2 ^ 52 = omega arith in rw (e, k)
-
 -- above 2 ^ 53
 past-limit : (q j : ℕ) → 2 ^ 52 ≤ q → 1 ≤ j → (j ≡ 1 → max_size < 2 * q) → max_size < q * 2 ^ j
 past-limit q zero h a l = absurd (omega arith)

@@ -1,12 +1,11 @@
 -- What the code's answers stand for: for each case of each, the paper's number and values (document 01, last paragraph of "Our forms").
-use Rattle.std.specs.Prelude.{cond, List, ℕ, eqb, take}
+use Rattle.std.specs.Prelude.{cond, ℕ, eqb, take, Result, Ok, Err}
 use Rattle.number.specs.declared.Class as declared
 use Rattle.number.specs.declared.Class.TheVariants.{NotANumber, Infinite, Fraction, Whole, Larger}
-use Rattle.number.specs.declared.Sized.{Sized}
-use Rattle.number.specs.declared.Sized.TheVariants.{Size, Refused}
-use Rattle.number.specs.declared.Listing.{Listing}
-use Rattle.number.specs.declared.Listing.TheVariants.{Count, Refused as RefusedAt}
-use Rattle.number.specs.declared.ListDims.{ListDims}
+use Rattle.limits.specs.Answers.{number_of}
+use Rattle.limits.specs.declared.refusal.Reason.{Reason}
+use Rattle.limits.specs.declared.refusal.Refusal.{Refusal}
+use Rattle.record.specs.declared.Dims.{Dims}
 use Rattle.model.specs.Limits.{ones}
 use Rattle.number.specs.Class.{Class, not_a_number, infinite, fraction, whole, larger}
 use Rattle.number.specs.Size.{SizeOutcome, size, unknown, refused}
@@ -20,18 +19,10 @@ class_outcome (Whole s) = whole s
 class_outcome (Larger s) = larger s
 
 -- all ones is ?
-abbrev pub size_outcome : Sized → SizeOutcome
-size_outcome (Size n) = cond (eqb n ones) unknown (size n)
-size_outcome (Refused k) = refused k
+abbrev pub size_outcome : Result ℕ Reason → SizeOutcome
+size_outcome (Ok n) = cond (eqb n ones) unknown (size n)
+size_outcome (Err r) = refused (number_of r)
 
-abbrev pub answer_outcome : Listing → List ℕ → SizesOutcome
-answer_outcome (Count n) list = sizes (take n list)
-answer_outcome (RefusedAt k p) list = refused_at k p
-
--- how many sizes of the array are meant
-abbrev pub list_count_of : Listing → ℕ
-list_count_of (Count n) = n
-list_count_of (RefusedAt k p) = 0
-
-abbrev pub dims_outcome : ListDims → SizesOutcome
-dims_outcome r = answer_outcome r.answer r.list
+abbrev pub dims_outcome : Result Dims Refusal → SizesOutcome
+dims_outcome (Ok d) = sizes (take d.count d.sizes)
+dims_outcome (Err r) = refused_at (number_of r.0) r.1

@@ -2,7 +2,7 @@
 // same for a list of numbers.
 #![tactic(auto)]
 
-ghost use Rattle.std.specs.Prelude.{◌≡◌, cond, [], ◌∷◌, ◌≤◌, ◌<◌, ◌*◌, ◌^◌};
+ghost use Rattle.std.specs.Prelude.{◌≡◌, cond, [], ◌∷◌, ◌≤◌, ◌<◌, ◌*◌, ◌^◌, IfOk};
 ghost use Rattle.std.specs.Float.Ieee.{of_bits};
 ghost use Rattle.std.specs.Float.{binary64};
 ghost use Rattle.model.specs.Limits.{max_sizes};
@@ -12,10 +12,12 @@ ghost use Rattle.number.specs.Class.{whole, class_of_ratio, class_of, magnitude}
 ghost use Rattle.number.specs.Size.{refused, size_of_whole, as_dim, listed_dim};
 ghost use Rattle.number.specs.Sizes.{refused_at, listed_dims};
 ghost use Rattle.number.specs.Kind.{kind_of_numbers};
-ghost use Rattle.number.specs.Answers.{class_outcome, size_outcome, dims_outcome, list_count_of};
+ghost use Rattle.limits.specs.Codes.{code_for};
+ghost use Rattle.number.specs.Answers.{class_outcome, size_outcome, dims_outcome};
 
-use limits::refusal::{NOT_A_SIZE, OUT_OF_RANGE, OVERSIZED};
-use limits::{BOOL, INT, MAX_SIZE, MAX_SIZES, NAT, NUM, UNKNOWN};
+use limits::refusal::{Reason, Refusal};
+use limits::{Kind, MAX_SIZE, MAX_SIZES, UNKNOWN};
+use record::Dims;
 
 // An f64 is, from its highest bit down, a sign, 11 bits of exponent and 52 digits below a leading one.
 const SIGN: u64 = 9223372036854775808;
@@ -45,6 +47,7 @@ enum Class {
     Larger { negative: bool },
 }
 
+#[tactic(auto, using(crate::proofs::Casts::own_nan, crate::proofs::Casts::own_bits, crate::proofs::Casts::no_nan))]
 fn classify(x: f64) -> Class
     ensures { class_outcome result ≡ class_of x }
 {
@@ -55,6 +58,7 @@ fn classify(x: f64) -> Class
     classify_bits(f64::to_bits(x))
 }
 
+#[tactic(auto, using(crate::proofs::Fields::bits_infinite, crate::proofs::Fields::bits_nan, crate::proofs::Fields::bits_zero, crate::proofs::Fields::bits_tiny, crate::proofs::Fields::bits_normal))]
 fn classify_bits(bits: u64) -> Class
     ensures { class_outcome result ≡ class_of (of_bits binary64 bits) }
 {
@@ -78,6 +82,7 @@ fn classify_bits(bits: u64) -> Class
 }
 
 // The number significand * 2^(exponent - 1075).
+#[tactic(auto, using(crate::proofs::Ratio::shifted, crate::proofs::Ratio::normal_below, crate::proofs::Ratio::normal_whole, crate::proofs::Ratio::normal_fraction, crate::proofs::Ratio::normal_larger))]
 fn classify_normal(negative: bool, exponent: u64, significand: u64) -> Class
     requires { (2 ^ 52 ≤ significand) × (significand < 2 ^ 53) }
     ensures { class_outcome result ≡ class_of_ratio negative (significand * 2 ^ exponent) (2 ^ 1075) }
@@ -102,137 +107,102 @@ fn classify_normal(negative: bool, exponent: u64, significand: u64) -> Class
     Class::Larger { negative }
 }
 
-// A size, UNKNOWN among them, or a refusal's number.
-#[derive(Clone, Copy)]
-pub enum Sized {
-    Size(u64),
-    Refused(u8),
-}
-
-// The size that a number alone stands for: either infinity is unknown.
-pub fn as_dim(x: f64) -> Sized
+// The size that a number alone stands for, UNKNOWN for either infinity.
+pub fn as_dim(x: f64) -> Result<u64, Reason>
     ensures { size_outcome result ≡ as_dim x }
 {
     if let Class::Infinite { negative: _ } = classify(x) {
-        return Sized::Size(UNKNOWN);
+        return Ok(UNKNOWN);
     }
     listed_dim(x)
 }
 
 // The size that a number of a list stands for: minus infinity is a negative number.
-pub fn listed_dim(x: f64) -> Sized
+pub fn listed_dim(x: f64) -> Result<u64, Reason>
     ensures { size_outcome result ≡ listed_dim x }
 {
     match classify(x) {
-        Class::NotANumber | Class::Fraction => Sized::Refused(NOT_A_SIZE),
-        Class::Infinite { negative } => refuse_negative(negative, Sized::Size(UNKNOWN)),
+        Class::NotANumber | Class::Fraction => Err(Reason::NotASize),
+        Class::Infinite { negative } => refuse_negative(negative, Ok(UNKNOWN)),
         Class::Whole { negative } => cast_whole(x, negative),
-        Class::Larger { negative } => refuse_negative(negative, Sized::Refused(OVERSIZED)),
+        Class::Larger { negative } => refuse_negative(negative, Err(Reason::Oversized)),
     }
 }
 
-fn refuse_negative(negative: bool, otherwise: Sized) -> Sized
+fn refuse_negative(negative: bool, otherwise: Result<u64, Reason>) -> Result<u64, Reason>
     ensures { size_outcome result ≡ cond negative (refused not_a_size) (size_outcome otherwise) }
 {
     if negative {
-        return Sized::Refused(NOT_A_SIZE);
+        return Err(Reason::NotASize);
     }
     otherwise
 }
 
-fn cast_whole(x: f64, negative: bool) -> Sized
+#[tactic(auto, using(crate::proofs::Casts::size_of_zero, crate::proofs::Casts::may_cast, crate::proofs::Casts::size_of_minus, crate::proofs::Casts::size_of_cast))]
+fn cast_whole(x: f64, negative: bool) -> Result<u64, Reason>
     requires { class_of x ≡ whole negative }
     ensures { size_outcome result ≡ size_of_whole negative (magnitude x) }
 {
     // -0 has the sign of a negative number, and is size 0 all the same.
     if x == 0.0 {
-        return Sized::Size(0);
+        return Ok(0);
     }
     if negative {
-        return Sized::Refused(NOT_A_SIZE);
+        return Err(Reason::NotASize);
     }
-    Sized::Size(x as u64)
+    Ok(x as u64)
 }
 
-// How many sizes there are, or a refusal.
-#[derive(Clone, Copy)]
-pub enum Listing {
-    Count(usize),
-    Refused { number: u8, place: usize },
-}
-
-// An enum cannot hold an array, so the sizes stand beside it: the first Count of the list.
-#[derive(Clone, Copy)]
-pub struct ListDims {
-    pub answer: Listing,
-    pub list: [u64; MAX_SIZES],
-}
-
-pub fn dims_of(xs: &[f64]) -> ListDims
-    ensures { (dims_outcome result ≡ listed_dims xs.now) × (list_count_of result.answer ≤ max_sizes) }
+// The sizes that a list of numbers stands for.
+#[tactic(auto, using(crate::proofs::Walk::room_after, crate::proofs::Walk::walk_puts, crate::proofs::Walk::walk_refuses, crate::proofs::Walk::walk_ends, std::proofs::lemmas::Bool::Decides::nat_tests))]
+pub fn dims_of(xs: &[f64]) -> Result<Dims, Refusal>
+    ensures listed { dims_outcome result ≡ listed_dims xs.now }
+    ensures few { IfOk result (λ d. d.count ≤ max_sizes) }
 {
     // Before any number is looked at.
     if MAX_SIZES < xs.len() {
-        return refuse_dims(OUT_OF_RANGE, 0);
+        return Err(Refusal(Reason::OutOfRange, 0));
     }
-    let mut list = [0u64; MAX_SIZES];
-    let mut i = 0;
-    while i < xs.len() {
+    let mut sizes = [0u64; MAX_SIZES];
+    for i in 0..xs.len() {
         match listed_dim(xs[i]) {
-            Sized::Size(n) => {
-                list[i] = n;
-            }
-            Sized::Refused(number) => {
-                return refuse_dims(number, i);
-            }
+            Ok(size) => sizes[i] = size,
+            Err(reason) => return Err(Refusal(reason, i)),
         }
-        i += 1;
     }
-    ListDims {
-        answer: Listing::Count(i),
-        list,
-    }
+    Ok(Dims {
+        sizes,
+        count: xs.len(),
+    })
 }
 
-fn refuse_dims(number: u8, place: usize) -> ListDims
-    ensures { (dims_outcome result ≡ refused_at number place) × (list_count_of result.answer ≡ 0) }
-{
-    ListDims {
-        answer: Listing::Refused { number, place },
-        list: [0u64; MAX_SIZES],
-    }
-}
-
-// The code of the kind of a number alone: that of the list of this one number.
-pub fn kind_of_number(x: f64) -> u64
-    ensures { result ≡ code (kind_of_numbers (x ∷ [])) }
+// The kind of a number alone: that of the list of this one number.
+#[tactic(auto, using(crate::proofs::Greatest::kind_unwhole, crate::proofs::Greatest::kind_negative, crate::proofs::Greatest::kind_above_one, crate::proofs::Greatest::kind_bit))]
+pub fn kind_of_number(x: f64) -> Kind
+    ensures { code_for result ≡ code (kind_of_numbers (x ∷ [])) }
 {
     match classify(x) {
-        Class::NotANumber | Class::Infinite { negative: _ } | Class::Fraction => NUM,
+        Class::NotANumber | Class::Infinite { negative: _ } | Class::Fraction => Kind::Num,
         Class::Whole { negative: _ } | Class::Larger { negative: _ } => {
             if x < 0.0 {
-                return INT;
+                return Kind::Int;
             }
             if 1.0 < x {
-                return NAT;
+                return Kind::Nat;
             }
-            BOOL
+            Kind::Bool
         }
     }
 }
 
-// The code of a list's kind. Codes are in the order in which one number's kind outweighs another's, so the list has the greatest.
-pub fn kind_of(xs: &[f64]) -> u64
-    ensures { result ≡ code (kind_of_numbers xs.now) }
+// A list's kind. Kinds stand in the order in which one number's outweighs another's, so the list has the greatest.
+#[tactic(auto, using(crate::proofs::Greatest::greater, crate::proofs::Greatest::greatest_next, crate::proofs::Greatest::greatest_ends))]
+pub fn kind_of(xs: &[f64]) -> Kind
+    ensures { code_for result ≡ code (kind_of_numbers xs.now) }
 {
-    let mut kind = BOOL;
-    let mut i = 0;
-    while i < xs.len() {
-        let k = kind_of_number(xs[i]);
-        if kind < k {
-            kind = k;
-        }
-        i += 1;
+    let mut kind = Kind::Bool;
+    for &x in xs {
+        kind = kind.max(kind_of_number(x));
     }
     kind
 }

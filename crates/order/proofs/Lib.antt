@@ -1,3 +1,3 @@
 pub mod AnswerLaws
-mod ListLaws
+pub mod ListLaws
 pub mod TypeLaws

@@ -1,5 +1,5 @@
 -- The order of types in their bytes: one law for each way out of a function.
-use Prim.Native.Nat.{ℕ, suc, ◌+◌, ◌-◌, ◌≤◌, ◌<◌}
+use Prim.Native.Nat.{ℕ, ◌+◌, ◌-◌, ◌≤◌, ◌<◌}
 use native.Mathlib.Omega.{arith}
 use mathlib.Core.Bool.{Bool}
 use mathlib.Core.List.{List, ◌∷◌, ◌++◌}
@@ -10,34 +10,27 @@ use Rattle.model.specs.Limits.{max_depth}
 use Rattle.model.specs.Types.{Shape, Kind, Scalar, plain, box_any, box_all, box_def, Fields, no_fields, field, Ty, ty, shape_of, scalar_of, field_count}
 use Rattle.format.specs.Records.{code, box_code, count_of, list_of, write_shape, write_scalar, write_fields, write_ty}
 use Rattle.format.specs.Reader.{Bytes}
-use Rattle.format.specs.Outcome.{accepted, both, lone}
+use Rattle.format.specs.Outcome.{accepted, both, unrefused, refusal_of, lone}
 use Rattle.record.specs.Answers.{nothings}
+use Rattle.limits.specs.Codes.{code_for}
+use Rattle.limits.specs.declared.codes.Kind as codes
+use Rattle.std.specs.declared.cmp.Ordering.{Ordering}
+use Rattle.std.specs.declared.cmp.Ordering.TheVariants as orders
+use Rattle.shape.specs.Answers.{order_of}
 use Rattle.rules.specs.Sizes.{Order, less, same, more}
-use Rattle.rules.specs.Order.{code_of, kind_place, cmp_kind, then_by, cmp_shape, cmp_name, cmp_scalar, cmp_fields, compare}
-use Rattle.rules.proofs.SizesLaws.{cmp_number-less, cmp_number-more, cmp_number-refl}
+use Rattle.rules.specs.Order.{code_of, cmp_kind, then_by, cmp_shape, cmp_name, cmp_scalar, cmp_fields, compare}
 use Rattle.rules.proofs.OrderLaws.{code-box, cmp_kind-same, compare_same}
-use Rattle.known.specs.Known.{ScalarAt, TypeAt, NameAt, FieldsAt, HasType, HasName, HasFields, SeenDef, Seen}
+use Rattle.known.specs.Known.{ScalarAt, TypeAt, NameAt, FieldsAt, HasType, HasScalar, HasName, HasFields, SeenDef, Seen}
 use Rattle.known.proofs.KnownLaws.{first_field, rest-fields, type-within, scalar-behind, behind-ends}
 use Rattle.known.specs.Whole.{of_types}
-use Rattle.known.proofs.WholeLaws.{types-there}
+use Rattle.known.proofs.WholeLaws.{types-there, has-types}
+use Rattle.record.proofs.LoneLaws.{whichever_of, whichever_both}
 use Rattle.known.specs.declared.View.{View}
 use Rattle.known.specs.declared.View.TheVariants.{Plain, BoxAny, BoxAll, BoxDef}
 use Rattle.order.specs.Answers.{ranking_of, FieldsRanked}
 use Rattle.order.proofs.AnswerLaws.{ranking_less, ranking_same, ranking_more}
 use Rattle.order.specs.declared.Ranking.{Ranking}
 use Rattle.order.specs.declared.Ranking.TheVariants.{Less, Same, More}
-
--- ---- kinds by their places x and y
-
-module _ (k l : ℕ) {x y : ℕ} (first : x ≡ kind_place k) (second : y ≡ kind_place l) (end : ℕ) where
-  pub kinds_less : x < y → Less ≡ ranking_of (cmp_kind k l) end
-  kinds_less h = let low : kind_place k < kind_place l = omega arith in rw (cmp_number-less (kind_place k) (kind_place l) low)
-
-  pub kinds_more : y < x → More ≡ ranking_of (cmp_kind k l) end
-  kinds_more h = let high : kind_place l < kind_place k = omega arith in rw (cmp_number-more (kind_place k) (kind_place l) high)
-
-  pub kinds_same : y ≤ x → x ≤ y → Same end ≡ ranking_of (cmp_kind k l) end
-  kinds_same h i = let level : kind_place k ≡ kind_place l = omega arith in rw (level, cmp_number-refl (kind_place l))
 
 -- ---- scalars by their views
 
@@ -87,55 +80,56 @@ module _ (s : List ℕ) (at d : ℕ) {v : View} (looked : Looked s at v) where
   pub seen : {x : View} → v ≡ x → (k : Scalar) → ScalarAt s at d k → Seen s at d k x
   seen e k h = subst (Seen s at d k) e (looked d k h)
 
-  kind : {c e : ℕ} (m : ℕ) {r : Ranking} → v ≡ Plain c e → r ≡ ranking_of (cmp_kind box_code c) m → (k l : Scalar) → code_of k ≡ box_code → ScalarAt s at d l → (n : ℕ) → r ≡ ranking_of (cmp_scalar k l) n
+  kind : {c : codes.Kind} {e : ℕ} (m : ℕ) {r : Ranking} → v ≡ Plain c e → r ≡ ranking_of (cmp_kind box_code (code_for c)) m → (k l : Scalar) → code_of k ≡ box_code → ScalarAt s at d l → (n : ℕ) → r ≡ ranking_of (cmp_scalar k l) n
   kind {c} {e} m f is k l boxed g n =
       let y = seen f l g in
-      let other : ranking_of (cmp_kind box_code c) m ≡ ranking_of (cmp_kind box_code c) n = subst (λ x. ranking_of (cmp_kind box_code x) m ≡ ranking_of (cmp_kind box_code x) n) y.coded (never_same y.kind m n) in
-      is ∙ (other ∙ ap (λ o. ranking_of o n) (sym (box-kind k l y.kind boxed y.is y.coded)))
+      let other : (x : ℕ) → code y.kind ≡ x → ranking_of (cmp_kind box_code x) m ≡ ranking_of (cmp_kind box_code x) n = λ x h. rw (← h) (never_same y.kind m n) in
+      is ∙ (other (code_for c) y.coded ∙ ap (λ o. ranking_of o n) (sym (box-kind k l y.kind boxed y.is y.coded)))
 
 module _ (a : List ℕ) (i : ℕ) (b : List ℕ) (j d : ℕ) where
   abbrev pub Ranked : Ranking → Type 0
   Ranked r = (k l : Scalar) → ScalarAt a i d k → ScalarAt b j d l → r ≡ ranking_of (cmp_scalar k l) (i + length (write_scalar k))
 
   module _ {v : View} (first : Looked a i v) where
-    pub by_kinds : {c end y : ℕ} {r : Ranking} → v ≡ Plain c end → ((d : ℕ) (l : Scalar) → ScalarAt b j d l → y ≡ code_of l) → r ≡ ranking_of (cmp_kind c y) end → Ranked r
-    by_kinds {c} {end} {y} e code_is is k l h g =
+    pub by_kinds : {c : codes.Kind} (y : codes.Kind) {end : ℕ} {r : Ranking} → v ≡ Plain c end → ((d : ℕ) (l : Scalar) → ScalarAt b j d l → code_for y ≡ code_of l) → r ≡ ranking_of (cmp_kind (code_for c) (code_for y)) end → Ranked r
+    by_kinds {c} y {end} e code_is is k l h g =
         let x = seen a i d first e k h in
-        is ∙ (ap (ranking_of (cmp_kind c y)) x.ends ∙ ap (λ o. ranking_of o (i + length (write_scalar k))) (plain-kind k l x.kind x.is x.coded (code_is d l g)))
+        let kinds = plain-kind k l x.kind x.is x.coded (code_is d l g) in
+        is ∙ (ap (ranking_of (cmp_kind (code_for c) (code_for y))) x.ends ∙ ap (λ o. ranking_of o (i + length (write_scalar k))) kinds)
 
     module _ {w : View} (second : Looked b j w) where
       -- box Any
       module _ {end : ℕ} (e : v ≡ BoxAny end) where
-        pub any-kind : {c n : ℕ} {r : Ranking} → w ≡ Plain c n → r ≡ ranking_of (cmp_kind box_code c) end → Ranked r
+        pub any_kind : {c : codes.Kind} {n : ℕ} {r : Ranking} → w ≡ Plain c n → r ≡ ranking_of (cmp_kind box_code (code_for c)) end → Ranked r
         unfolding code_of
-        any-kind f is k l h g = kind b j d second end f is k l (rw (seen a i d first e k h).is) g (i + length (write_scalar k))
+        any_kind f is k l h g = kind b j d second end f is k l (rw (seen a i d first e k h).is) g (i + length (write_scalar k))
 
-        pub any-any : {n : ℕ} → w ≡ BoxAny n → Ranked (Same end)
+        pub any_any : {n : ℕ} → w ≡ BoxAny n → Ranked (Same end)
         unfolding cmp_scalar
-        any-any f k l h g =
+        any_any f k l h g =
             let x = seen a i d first e k h in
             ap Same x.ends ∙ rw (x.is, (seen b j d second f l g).is)
 
-        pub any-all : {c : ℕ} → w ≡ BoxAll c → Ranked Less
+        pub any_all : {c : ℕ} → w ≡ BoxAll c → Ranked Less
         unfolding cmp_scalar
-        any-all f k l h g = rw ((seen a i d first e k h).is, (seen b j d second f l g).is)
+        any_all f k l h g = rw ((seen a i d first e k h).is, (seen b j d second f l g).is)
 
-        pub any-def : {n s c : ℕ} {t : Bool} → w ≡ BoxDef n t s c → Ranked Less
+        pub any_def : {n s c : ℕ} {t : Bool} → w ≡ BoxDef n t s c → Ranked Less
         unfolding cmp_scalar
-        any-def f k l h g = rw ((seen a i d first e k h).is, (seen b j d second f l g).is)
+        any_def f k l h g = rw ((seen a i d first e k h).is, (seen b j d second f l g).is)
 
       -- All
       module _ {content : ℕ} (e : v ≡ BoxAll content) where
-        pub all-kind : {c n : ℕ} {r : Ranking} → w ≡ Plain c n → r ≡ ranking_of (cmp_kind box_code c) content → Ranked r
+        pub all_kind : {c : codes.Kind} {n : ℕ} {r : Ranking} → w ≡ Plain c n → r ≡ ranking_of (cmp_kind box_code (code_for c)) content → Ranked r
         unfolding code_of
-        all-kind f is k l h g = kind b j d second content f is k l (rw (seen a i d first e k h).is) g (i + length (write_scalar k))
+        all_kind f is k l h g = kind b j d second content f is k l (rw (seen a i d first e k h).is) g (i + length (write_scalar k))
 
         pub all_any : {n : ℕ} → w ≡ BoxAny n → Ranked More
         unfolding cmp_scalar
         all_any f k l h g = rw ((seen a i d first e k h).is, (seen b j d second f l g).is)
 
-        pub all-all : {c : ℕ} {r : Ranking} → w ≡ BoxAll c → ((t u : Ty) → TypeAt a content d t → TypeAt b c d u → r ≡ ranking_of (compare t u) (content + length (write_ty t))) → Ranked r
-        all-all f contents k l h g =
+        pub all_all : {c : ℕ} {r : Ranking} → w ≡ BoxAll c → ((t u : Ty) → TypeAt a content d t → TypeAt b c d u → r ≡ ranking_of (compare t u) (content + length (write_ty t))) → Ranked r
+        all_all f contents k l h g =
             let x = seen a i d first e k h in
             let y = seen b j d second f l g in
             let t : Ty = ty x.shape x.scalar in
@@ -144,38 +138,38 @@ module _ (a : List ℕ) (i : ℕ) (b : List ℕ) (j d : ℕ) where
             contents t (ty y.shape y.scalar) x.there y.there
             ∙ (ap (λ o. ranking_of o (content + length (write_ty t))) (by-content k l x.shape y.shape x.scalar y.scalar x.is y.is) ∙ ap (ranking_of (cmp_scalar k l)) place)
 
-        pub all-def : {n s c : ℕ} {t : Bool} → w ≡ BoxDef n t s c → Ranked Less
+        pub all_def : {n s c : ℕ} {t : Bool} → w ≡ BoxDef n t s c → Ranked Less
         unfolding cmp_scalar
-        all-def f k l h g = rw ((seen a i d first e k h).is, (seen b j d second f l g).is)
+        all_def f k l h g = rw ((seen a i d first e k h).is, (seen b j d second f l g).is)
 
       -- Def
       module _ {name start count : ℕ} {named : Bool} (e : v ≡ BoxDef name named start count) where
-        pub def-kind : {c n : ℕ} {r : Ranking} → w ≡ Plain c n → r ≡ ranking_of (cmp_kind box_code c) start → Ranked r
+        pub def_kind : {c : codes.Kind} {n : ℕ} {r : Ranking} → w ≡ Plain c n → r ≡ ranking_of (cmp_kind box_code (code_for c)) start → Ranked r
         unfolding code_of
-        def-kind f is k l h g = kind b j d second start f is k l (rw (seen a i d first e k h).is) g (i + length (write_scalar k))
+        def_kind f is k l h g = kind b j d second start f is k l (rw (seen a i d first e k h).is) g (i + length (write_scalar k))
 
-        pub def-any : {n : ℕ} → w ≡ BoxAny n → Ranked More
+        pub def_any : {n : ℕ} → w ≡ BoxAny n → Ranked More
         unfolding cmp_scalar
-        def-any f k l h g = rw ((seen a i d first e k h).is, (seen b j d second f l g).is)
+        def_any f k l h g = rw ((seen a i d first e k h).is, (seen b j d second f l g).is)
 
-        pub def-all : {c : ℕ} → w ≡ BoxAll c → Ranked More
+        pub def_all : {c : ℕ} → w ≡ BoxAll c → Ranked More
         unfolding cmp_scalar
-        def-all f k l h g = rw ((seen a i d first e k h).is, (seen b j d second f l g).is)
+        def_all f k l h g = rw ((seen a i d first e k h).is, (seen b j d second f l g).is)
 
-        module _ {title other number : ℕ} {titled : Bool} (f : w ≡ BoxDef title titled other number) {o : Order} (names : (m n : Option (List ℕ)) → NameAt a name m → NameAt b title n → o ≡ cmp_name m n) where
+        module _ {title other number : ℕ} {titled : Bool} (f : w ≡ BoxDef title titled other number) (o : Ordering) (names : (m n : Option (List ℕ)) → NameAt a name m → NameAt b title n → order_of o ≡ cmp_name m n) where
           -- the names decide
-          by_name : (k l : Scalar) (x : SeenDef a i d k name named start count) (y : SeenDef b j d l title titled other number) → cmp_scalar k l ≡ then_by o (cmp_fields x.held y.held)
+          by_name : (k l : Scalar) (x : SeenDef a i d k name named start count) (y : SeenDef b j d l title titled other number) → cmp_scalar k l ≡ then_by (order_of o) (cmp_fields x.held y.held)
           unfolding cmp_scalar
-          by_name k l x y = rw (names x.label y.label x.titled y.titled, x.is, y.is)
+          by_name k l x y = rw (x.is, y.is, names x.label y.label x.titled y.titled)
 
-          pub def-less : o ≡ less → Ranked Less
-          def-less q k l h g = rw (by_name k l (seen a i d first e k h) (seen b j d second f l g), q)
+          pub def_less : o ≡ orders.Less → Ranked Less
+          def_less q k l h g = rw (by_name k l (seen a i d first e k h) (seen b j d second f l g), q)
 
-          pub def-more : o ≡ more → Ranked More
-          def-more q k l h g = rw (by_name k l (seen a i d first e k h) (seen b j d second f l g), q)
+          pub def_more : o ≡ orders.Greater → Ranked More
+          def_more q k l h g = rw (by_name k l (seen a i d first e k h) (seen b j d second f l g), q)
 
-          pub def-same : {r : Ranking} → o ≡ same → FieldsRanked a start count b other number d r → Ranked r
-          def-same q contents k l h g =
+          pub def_same : {r : Ranking} → o ≡ orders.Equal → FieldsRanked a start count b other number d r → Ranked r
+          def_same q contents k l h g =
               let x = seen a i d first e k h in
               let y = seen b j d second f l g in
               let long : length (write_scalar k) ≡ length (write_scalar (box_def x.label x.held)) = ap (λ m. length (write_scalar m)) x.is in
@@ -192,13 +186,16 @@ module _ (s : List ℕ) (at d : ℕ) {k : Scalar} (h : ScalarAt s at d k) {v : V
     def : SeenDef s at d k name named start count
     def = seen s at d looked e k h
 
-    pub name-there : HasName s name
-    name-there = record { name = def.label; there = def.titled }
+    pub name_there : HasName s name
+    name_there = record { name = def.label; there = def.titled }
 
-    pub fields-there : HasFields s start d count
-    fields-there = record { fields = def.held; there = def.there; counted = sym def.counted }
+    pub fields_there : HasFields s start d count
+    fields_there = record { fields = def.held; there = def.there; counted = sym def.counted }
 
 -- ---- types: the scalars decide, then the shapes
+
+pub scalar_there : (s : List ℕ) (at d : ℕ) {p : ℕ} → HasType s at d → Starts s at p → HasScalar s p (d - 1)
+scalar_there s at d h starts = record { scalar = scalar_of h.type; there = scalar-behind s at starts d h.type h.there }
 
 by_scalar : (t u : Ty) → compare t u ≡ then_by (cmp_scalar (scalar_of t) (scalar_of u)) (cmp_shape (shape_of t) (shape_of u))
 unfolding compare
@@ -216,86 +213,77 @@ module _ (a : List ℕ) (i : ℕ) (b : List ℕ) (j d : ℕ) where
     scalars : (t u : Ty) → TypeAt a i d t → TypeAt b j d u → r ≡ ranking_of (cmp_scalar (scalar_of t) (scalar_of u)) (end t)
     scalars t u h g = call (scalar_of t) (scalar_of u) (scalar-behind a i first d t h) (scalar-behind b j second d u g)
 
-    pub types-less : r ≡ Less → TypesRanked Less
-    types-less f t u h g = sym (rw (by_scalar t u, ranking_less (cmp_scalar (scalar_of t) (scalar_of u)) (end t) (scalars t u h g) f))
+    pub types_less : r ≡ Less → TypesRanked Less
+    types_less f t u h g = sym (rw (by_scalar t u, ranking_less (cmp_scalar (scalar_of t) (scalar_of u)) (end t) (scalars t u h g) f))
 
     pub types_more : r ≡ More → TypesRanked More
     types_more f t u h g = sym (rw (by_scalar t u, ranking_more (cmp_scalar (scalar_of t) (scalar_of u)) (end t) (scalars t u h g) f))
 
-    module _ {next : ℕ} (f : r ≡ Same next) {x : Order} {o o' : Shape} (shapes : x ≡ cmp_shape o o') (one : Shaped a i o) (two : Shaped b j o') where
+    module _ {next : ℕ} (f : r ≡ Same next) (x : Ordering) {o o' : Shape} (shapes : order_of x ≡ cmp_shape o o') (one : Shaped a i o) (two : Shaped b j o') where
       -- the scalars are the same, and the first ends at `next`
-      by_shape : (t u : Ty) → TypeAt a i d t → TypeAt b j d u → (compare t u ≡ x) × (next ≡ i + length (write_ty t))
+      by_shape : (t u : Ty) → TypeAt a i d t → TypeAt b j d u → (compare t u ≡ order_of x) × (next ≡ i + length (write_ty t))
       by_shape t u h g =
           let (alike, place) = ranking_same (cmp_scalar (scalar_of t) (scalar_of u)) (end t) (scalars t u h g) f in
           (by_scalar t u ∙ rw (alike, shapes, one d t h, two d u g), place ∙ behind-ends a i first d t h)
 
-      pub shapes-less : x ≡ less → TypesRanked Less
-      shapes-less e t u h g = rw ((by_shape t u h g).0, e)
+      pub shapes_less : x ≡ orders.Less → TypesRanked Less
+      shapes_less e t u h g = rw ((by_shape t u h g).0, e)
 
-      pub shapes-same : x ≡ same → TypesRanked (Same next)
-      shapes-same e t u h g = rw ((by_shape t u h g).0, e) (ap Same (by_shape t u h g).1)
+      pub shapes_same : x ≡ orders.Equal → TypesRanked (Same next)
+      shapes_same e t u h g = rw ((by_shape t u h g).0, e) (ap Same (by_shape t u h g).1)
 
-      pub shapes-more : x ≡ more → TypesRanked More
-      shapes-more e t u h g = rw ((by_shape t u h g).0, e)
+      pub shapes_more : x ≡ orders.Greater → TypesRanked More
+      shapes_more e t u h g = rw ((by_shape t u h g).0, e)
 
--- ---- fields, one after the other: what is left of both, and that it decides
+-- ---- fields, one after the other: what is left of both after k pairs, and that it decides
 
-pub record PairsLeft (a : List ℕ) (i : ℕ) (b : List ℕ) (j d : ℕ) (more others : ℕ) (r : Ranking) : Type 0 where
+pub record PairsLeft (a : List ℕ) (i : ℕ) (b : List ℕ) (j d k count number : ℕ) (r : Ranking) : Type 0 where
   f : Fields
   g : Fields
   first : FieldsAt a i d f
   second : FieldsAt b j d g
-  count : more ≡ field_count f
-  count' : others ≡ field_count g
+  counted : count ≡ k + field_count f
+  numbered : number ≡ k + field_count g
   is : ranking_of (cmp_fields f g) (i + length (write_fields f)) ≡ r
 
-pub left-start :
-    (a : List ℕ) (i : ℕ) (b : List ℕ) (j d : ℕ) {x y : ℕ} (f g : Fields) →
-    FieldsAt a i d f →
-    FieldsAt b j d g →
-    field_count f ≡ x →
-    field_count g ≡ y →
-    PairsLeft a i b j d x y (ranking_of (cmp_fields f g) (i + length (write_fields f)))
-left-start a i b j d f g h k u v = record { f = f; g = g; first = h; second = k; count = sym u; count' = sym v; is = refl }
-
-module _ {a : List ℕ} {i : ℕ} {b : List ℕ} {j d more others : ℕ} {r : Ranking} (left : PairsLeft a i b j d more others r) where
-  pub left-types : 0 < more → (others ≡ 0 → ⊥) → HasType a i d × HasType b j d
-  left-types m n = go left.f left.g left.first left.second left.count left.count'
+module _ {a : List ℕ} {i : ℕ} {b : List ℕ} {j d k count number : ℕ} {r : Ranking} (left : PairsLeft a i b j d k count number r) where
+  left-types : k < count → (k ≡ number → ⊥) → HasType a i d × HasType b j d
+  left-types m n = go left.f left.g left.first left.second left.counted left.numbered
     where
-      go : (f g : Fields) → FieldsAt a i d f → FieldsAt b j d g → more ≡ field_count f → others ≡ field_count g → HasType a i d × HasType b j d
-      go no_fields g h k e f = absurd (omega arith)
-      go (field o l f) no_fields h k e c = absurd (n c)
-      go (field o l f) (field p q g) h k e c = (record { type = ty o l; there = first_field a i d h }, record { type = ty p q; there = first_field b j d k })
+      go : (f g : Fields) → FieldsAt a i d f → FieldsAt b j d g → count ≡ k + field_count f → number ≡ k + field_count g → HasType a i d × HasType b j d
+      go no_fields g h h' e c = absurd (omega arith)
+      go (field o l f) no_fields h h' e c = absurd (n (omega arith))
+      go (field o l f) (field p q g) h h' e c = (record { type = ty o l; there = first_field a i d h }, record { type = ty p q; there = first_field b j d h' })
 
-  pub left-more : 0 < more → others ≡ 0 → r ≡ More
+  left-more : k < count → k ≡ number → More ≡ r
   unfolding cmp_fields
-  left-more m n = go left.f left.g left.count left.count' left.is
+  left-more m n = go left.f left.g left.counted left.numbered left.is
     where
-      go : (f g : Fields) → more ≡ field_count f → others ≡ field_count g → ranking_of (cmp_fields f g) (i + length (write_fields f)) ≡ r → r ≡ More
+      go : (f g : Fields) → count ≡ k + field_count f → number ≡ k + field_count g → ranking_of (cmp_fields f g) (i + length (write_fields f)) ≡ r → More ≡ r
       go no_fields g e c z = absurd (omega arith)
-      go (field o l f) no_fields e c z = sym z
+      go (field o l f) no_fields e c z = z
       go (field o l f) (field p q g) e c z = absurd (omega arith)
 
-  pub left_less : more ≤ 0 → 0 < others → r ≡ Less
+  left-less : count ≤ k → count < number → Less ≡ r
   unfolding cmp_fields
-  left_less m n = go left.f left.g left.count left.count' left.is
+  left-less m n = go left.f left.g left.counted left.numbered left.is
     where
-      go : (f g : Fields) → more ≡ field_count f → others ≡ field_count g → ranking_of (cmp_fields f g) (i + length (write_fields f)) ≡ r → r ≡ Less
+      go : (f g : Fields) → count ≡ k + field_count f → number ≡ k + field_count g → ranking_of (cmp_fields f g) (i + length (write_fields f)) ≡ r → Less ≡ r
       go no_fields no_fields e c z = absurd (omega arith)
-      go no_fields (field p q g) e c z = sym z
+      go no_fields (field p q g) e c z = z
       go (field o l f) g e c z = absurd (omega arith)
 
-  pub left_end : more ≤ 0 → others ≤ 0 → r ≡ Same i
+  left-end : count ≤ k → number ≤ count → Same i ≡ r
   unfolding cmp_fields write_fields
-  left_end m n = go left.f left.g left.count left.count' left.is
+  left-end m n = go left.f left.g left.counted left.numbered left.is
     where
-      go : (f g : Fields) → more ≡ field_count f → others ≡ field_count g → ranking_of (cmp_fields f g) (i + length (write_fields f)) ≡ r → r ≡ Same i
-      go no_fields no_fields e c z = sym z ∙ ap Same (omega arith)
+      go : (f g : Fields) → count ≡ k + field_count f → number ≡ k + field_count g → ranking_of (cmp_fields f g) (i + length (write_fields f)) ≡ r → Same i ≡ r
+      go no_fields no_fields e c z = ap Same (omega arith) ∙ z
       go no_fields (field p q g) e c z = absurd (omega arith)
       go (field o l f) g e c z = absurd (omega arith)
 
   -- the next two types were compared
-  module _ (m : 0 < more) (n : others ≡ 0 → ⊥) {q : Ranking} (call : TypesRanked a i b j d q) where
+  module _ (m : k < count) (n : k ≡ number → ⊥) {q : Ranking} (call : TypesRanked a i b j d q) where
     -- the next two, and the rest of both
     abbrev Step : Type 0 → Type 0
     Step C =
@@ -304,61 +292,116 @@ module _ {a : List ℕ} {i : ℕ} {b : List ℕ} {j d more others : ℕ} {r : Ra
         TypeAt b j d u →
         FieldsAt a (i + length (write_ty t)) d f →
         FieldsAt b (j + length (write_ty u)) d g →
-        more ≡ suc (field_count f) →
-        others ≡ suc (field_count g) →
+        count ≡ k + 1 + field_count f →
+        number ≡ k + 1 + field_count g →
         ranking_of (then_by (compare t u) (cmp_fields f g)) (i + length (write_ty t) + length (write_fields f)) ≡ r →
         C
 
     step : {C : Type 0} → Step C → C
     unfolding cmp_fields compare write_fields write_ty
-    step {C} k₀ = go left.f left.g left.first left.second left.count left.count' left.is
+    step {C} k₀ = go left.f left.g left.first left.second left.counted left.numbered left.is
       where
-        go : (f g : Fields) → FieldsAt a i d f → FieldsAt b j d g → more ≡ field_count f → others ≡ field_count g → ranking_of (cmp_fields f g) (i + length (write_fields f)) ≡ r → C
-        go no_fields g h k e c z = absurd (omega arith)
-        go (field o l f) no_fields h k e c z = absurd (n c)
-        go (field o l f) (field p x g) h k e c z =
+        go : (f g : Fields) → FieldsAt a i d f → FieldsAt b j d g → count ≡ k + field_count f → number ≡ k + field_count g → ranking_of (cmp_fields f g) (i + length (write_fields f)) ≡ r → C
+        go no_fields g h h' e c z = absurd (omega arith)
+        go (field o l f) no_fields h h' e c z = absurd (n (omega arith))
+        go (field o l f) (field p x g) h h' e c z =
             let place : i + length (write_ty (ty o l)) + length (write_fields f) ≡ i + length (write_fields (field o l f)) = omega (arith, length-append (write_shape o ++ write_scalar l) (write_fields f)) in
-            k₀ (ty o l) (ty p x) f g (first_field a i d h) (first_field b j d k) (rest-fields a i d h) (rest-fields b j d k) e c (ap (ranking_of (cmp_fields (field o l f) (field p x g))) place ∙ z)
+            k₀ (ty o l) (ty p x) f g (first_field a i d h) (first_field b j d h') (rest-fields a i d h) (rest-fields b j d h')
+            (omega arith) (omega arith) (ap (ranking_of (cmp_fields (field o l f) (field p x g))) place ∙ z)
 
-    pub next-less : q ≡ Less → r ≡ Less
-    next-less e = step λ t u f g h k h' k' c c' z. sym (rw (ranking_less (compare t u) (i + length (write_ty t)) (call t u h k) e) at z)
+    next-less : q ≡ Less → Less ≡ r
+    next-less e = step λ t u f g h k h' k' c c' z. rw (ranking_less (compare t u) (i + length (write_ty t)) (call t u h k) e) at z
 
-    pub next_more : q ≡ More → r ≡ More
-    next_more e = step λ t u f g h k h' k' c c' z. sym (rw (ranking_more (compare t u) (i + length (write_ty t)) (call t u h k) e) at z)
+    next-more : q ≡ More → More ≡ r
+    next-more e = step λ t u f g h k h' k' c c' z. rw (ranking_more (compare t u) (i + length (write_ty t)) (call t u h k) e) at z
 
     module _ {next : ℕ} (e : q ≡ Same next) where
-      pub next_place : (i ≤ next) × (j + (next - i) ≤ length b)
-      next_place = step λ t u f g h k h' k' c c' z.
-          let (alike, place) = ranking_same (compare t u) (i + length (write_ty t)) (call t u h k) e in
+      next-place : (i ≤ next) × (j + (next - i) ≤ length b)
+      next-place = step λ t u f g h h' v v' c c' z.
+          let (alike, place) = ranking_same (compare t u) (i + length (write_ty t)) (call t u h h') e in
           let both : t ≡ u = compare_same t u alike in
           let long : length (write_ty t) ≡ length (write_ty u) = ap (λ v. length (write_ty v)) both in
-          (omega arith, omega (arith, type-within b j d u k))
+          (omega arith, omega (arith, type-within b j d u h'))
 
-      pub next-left : PairsLeft a next b (j + (next - i)) d (more - 1) (others - 1) r
-      next-left = step λ t u f g h k h' k' c c' z.
-          let (alike, place) = ranking_same (compare t u) (i + length (write_ty t)) (call t u h k) e in
+      next-left : PairsLeft a next b (j + (next - i)) d (k + 1) count number r
+      next-left = step λ t u f g h h' v v' c c' z.
+          let (alike, place) = ranking_same (compare t u) (i + length (write_ty t)) (call t u h h') e in
           let both : t ≡ u = compare_same t u alike in
           let long : length (write_ty t) ≡ length (write_ty u) = ap (λ v. length (write_ty v)) both in
           let place' : j + (next - i) ≡ j + length (write_ty u) = omega arith in
           record {
             f = f;
             g = g;
-            first = subst (λ p. FieldsAt a p d f) (sym place) h';
-            second = subst (λ p. FieldsAt b p d g) (sym place') k';
-            count = omega arith;
-            count' = omega arith;
+            first = subst (λ p. FieldsAt a p d f) (sym place) v;
+            second = subst (λ p. FieldsAt b p d g) (sym place') v';
+            counted = c;
+            numbered = c';
             is = rw place (rw alike at z);
           }
 
+-- the walk over the fields that two scalars have
+pub record Walked (a : List ℕ) (start : ℕ) (b : List ℕ) (other d count number i j k : ℕ) : Type 0 where
+  pub left :
+      (f g : Fields) →
+      FieldsAt a start d f →
+      FieldsAt b other d g →
+      field_count f ≡ count →
+      field_count g ≡ number →
+      PairsLeft a i b j d k count number (ranking_of (cmp_fields f g) (start + length (write_fields f)))
+
+pub walk_begun : (a : List ℕ) (start : ℕ) (b : List ℕ) (other d count number : ℕ) → Walked a start b other d count number start other 0
+walk_begun a start b other d count number =
+    record { left = λ f g h h' u v. record { f = f; g = g; first = h; second = h'; counted = omega arith; numbered = omega arith; is = refl } }
+
+module _ {a : List ℕ} {start : ℕ} {b : List ℕ} {other d count number i j k : ℕ} (walked : Walked a start b other d count number i j k) where
+  pub walk_more : k < count → k ≡ number → FieldsRanked a start count b other number d More
+  walk_more m n f g h h' u v = left-more (walked.left f g h h' u v) m n
+
+  pub walk_less : count ≤ k → count < number → FieldsRanked a start count b other number d Less
+  walk_less m n f g h h' u v = left-less (walked.left f g h h' u v) m n
+
+  pub walk_end : count ≤ k → number ≤ count → FieldsRanked a start count b other number d (Same i)
+  walk_end m n f g h h' u v = left-end (walked.left f g h h' u v) m n
+
+  pub walk_types : HasFields a start d count → HasFields b other d number → k < count → (k ≡ number → ⊥) → HasType a i d × HasType b j d
+  walk_types x y m n = left-types (walked.left x.fields y.fields x.there y.there x.counted y.counted) m n
+
+  module _ (m : k < count) (n : k ≡ number → ⊥) {q : Ranking} (call : TypesRanked a i b j d q) where
+    pub pair_less : q ≡ Less → FieldsRanked a start count b other number d Less
+    pair_less e f g h h' u v = next-less (walked.left f g h h' u v) m n call e
+
+    pub pair_more : q ≡ More → FieldsRanked a start count b other number d More
+    pair_more e f g h h' u v = next-more (walked.left f g h h' u v) m n call e
+
+    module _ {next : ℕ} (e : q ≡ Same next) where
+      pub pair_place : HasFields a start d count → HasFields b other d number → i ≤ next
+      pair_place x y = (next-place (walked.left x.fields y.fields x.there y.there x.counted y.counted) m n call e).0
+
+      pub pair_within : HasFields a start d count → HasFields b other d number → j + (next - i) ≤ length b
+      pair_within x y = (next-place (walked.left x.fields y.fields x.there y.there x.counted y.counted) m n call e).1
+
+      pub pair_walked : Walked a start b other d count number next (j + (next - i)) (k + 1)
+      pair_walked = record { left = λ f g h h' u v. next-left (walked.left f g h h' u v) m n call e }
+
+pub ruleset walking = (walk_begun, walk_more, walk_less, walk_end, walk_types, pair_less, pair_more, pair_within, pair_walked)
+
 -- ---- two whole types
 
-module _ (a b : List ℕ) (good : both nothings (lone a) (lone b) ≡ accepted 0) (small : Bytes a) (small' : Bytes b) where
+module _ (a b : List ℕ) (read : unrefused ≡ refusal_of (lone a) (lone b)) (small : Bytes a) (small' : Bytes b) where
+  read-good : both nothings (lone a) (lone b) ≡ accepted 0
+  read-good = sym (ap whichever_of read ∙ whichever_both (lone a) (lone b))
+
+  pub whole_types : HasType a 0 max_depth × HasType b 0 max_depth
+  whole_types = has-types a b read-good small small'
+
   module _ {r : Ranking} (call : TypesRanked a 0 b 0 max_depth r) where
-    pub whole-less : r ≡ Less → accepted less ≡ of_types compare a b
-    whole-less f = types-there a b good small small' compare λ t u h g e. sym (e ∙ ap accepted (ranking_less (compare t u) (0 + length (write_ty t)) (call t u h g) f))
+    pub whole_less : r ≡ Less → accepted less ≡ of_types compare a b
+    whole_less f = types-there a b read-good small small' compare λ t u h g e. sym (e ∙ ap accepted (ranking_less (compare t u) (0 + length (write_ty t)) (call t u h g) f))
 
     pub whole_same : {n : ℕ} → r ≡ Same n → accepted same ≡ of_types compare a b
-    whole_same f = types-there a b good small small' compare λ t u h g e. sym (e ∙ ap accepted (ranking_same (compare t u) (0 + length (write_ty t)) (call t u h g) f).0)
+    whole_same f = types-there a b read-good small small' compare λ t u h g e. sym (e ∙ ap accepted (ranking_same (compare t u) (0 + length (write_ty t)) (call t u h g) f).0)
 
-    pub whole-more : r ≡ More → accepted more ≡ of_types compare a b
-    whole-more f = types-there a b good small small' compare λ t u h g e. sym (e ∙ ap accepted (ranking_more (compare t u) (0 + length (write_ty t)) (call t u h g) f))
+    pub whole_more : r ≡ More → accepted more ≡ of_types compare a b
+    whole_more f = types-there a b read-good small small' compare λ t u h g e. sym (e ∙ ap accepted (ranking_more (compare t u) (0 + length (write_ty t)) (call t u h g) f))
+
+pub ruleset ways_out = (whole_types, whole_less, whole_more)

@@ -2,14 +2,11 @@
 use Rattle.std.specs.Prelude.{ℕ, ◌+◌, List, ◌≡◌, length}
 use Rattle.model.specs.Types.{Fields, field_count}
 use Rattle.format.specs.Records.{write_fields}
-use Rattle.format.specs.Outcome.{Outcome, accepted, refused}
 use Rattle.rules.specs.Sizes.{Order, less, same, more}
 use Rattle.rules.specs.Order.{cmp_fields}
 use Rattle.known.specs.Known.{FieldsAt}
 use Rattle.order.specs.declared.Ranking.{Ranking}
 use Rattle.order.specs.declared.Ranking.TheVariants.{Less, Same, More}
-use Rattle.order.specs.declared.Comparison.{Comparison}
-use Rattle.order.specs.declared.Comparison.TheVariants.{Less as Smaller, Same as Equal, More as Greater, Refused}
 
 -- an order, with the place after the first
 abbrev pub ranking_of : Order → ℕ → Ranking
@@ -21,9 +18,3 @@ ranking_of more n = More
 abbrev pub FieldsRanked : List ℕ → ℕ → ℕ → List ℕ → ℕ → ℕ → ℕ → Ranking → Type 0
 FieldsRanked a i count b j number d r =
     (f g : Fields) → FieldsAt a i d f → FieldsAt b j d g → field_count f ≡ count → field_count g ≡ number → r ≡ ranking_of (cmp_fields f g) (i + length (write_fields f))
-
-abbrev pub comparison_of : Comparison → Outcome Order
-comparison_of Smaller = accepted less
-comparison_of Equal = accepted same
-comparison_of Greater = accepted more
-comparison_of (Refused k p) = refused k p

@@ -16,12 +16,3 @@ pub enum Ranking {
     Same(usize),
     More,
 }
-
-// How two whole types compare.
-#[derive(Clone, Copy)]
-pub enum Comparison {
-    Less,
-    Same,
-    More,
-    Refused { number: u8, place: usize },
-}

@@ -6,61 +6,51 @@ ghost use Rattle.rules.specs.Order.{cmp_list, cmp_option, cmp_shape};
 ghost use Rattle.shape.specs.Answers.{order_of};
 
 use record::{Dims, DynShape};
-use shape::{Order, cmp};
+use shape::cmp;
+use std::cmp::Ordering;
 use writer::size_count;
 
 // Opening sizes before closing ones.
-pub fn cmp_shape(a: DynShape, b: DynShape) -> Order
+#[tactic(auto, unfolding(rules::specs::Order::cmp_shape))]
+pub fn cmp_shape(a: DynShape, b: DynShape) -> Ordering
     ensures { order_of result ≡ cmp_shape (shape_for a) (shape_for b) }
 {
-    let first = a.dims;
-    let second = b.dims;
-    match cmp_dims(first, second) {
-        Order::Less => Order::Less,
-        Order::Same => cmp_closing(a, b),
-        Order::More => Order::More,
+    match cmp_dims(a.dims, b.dims) {
+        Ordering::Equal => cmp_closing(a, b),
+        unequal => unequal,
     }
 }
 
 // Closed before open.
-fn cmp_closing(a: DynShape, b: DynShape) -> Order
+fn cmp_closing(a: DynShape, b: DynShape) -> Ordering
     ensures { order_of result ≡ cmp_option (cmp_list cmp_dim) (closing_for a) (closing_for b) }
 {
-    if a.closed {
-        if b.closed {
-            return Order::Same;
-        }
-        return Order::Less;
+    match (a.closed, b.closed) {
+        (true, true) => Ordering::Equal,
+        (true, false) => Ordering::Less,
+        (false, true) => Ordering::Greater,
+        (false, false) => cmp_dims(a.suffix, b.suffix),
     }
-    if b.closed {
-        return Order::More;
-    }
-    let first = a.suffix;
-    let second = b.suffix;
-    cmp_dims(first, second)
 }
 
-fn cmp_dims(a: Dims, b: Dims) -> Order
+#[tactic(auto, using(crate::proofs::ListLaws::walking))]
+fn cmp_dims(a: Dims, b: Dims) -> Ordering
     ensures { order_of result ≡ cmp_list cmp_dim (dims_of a) (dims_of b) }
 {
     let m = size_count(a);
     let n = size_count(b);
-    let mut i = 0;
-    while i < m {
+    for i in 0..m {
         if i == n {
-            return Order::More;
+            return Ordering::Greater;
         }
         match cmp(a.sizes[i], b.sizes[i]) {
-            Order::Less => {
-                return Order::Less;
-            }
-            Order::Same => {
-                i += 1;
-            }
-            Order::More => {
-                return Order::More;
-            }
+            Ordering::Equal => {}
+            unequal => return unequal,
         }
     }
-    if m < n { Order::Less } else { Order::Same }
+    if m < n {
+        Ordering::Less
+    } else {
+        Ordering::Equal
+    }
 }

@@ -4,48 +4,38 @@ ghost use Rattle.std.specs.Prelude.{◌≡◌, ◌+◌, length};
 ghost use Rattle.model.specs.Types.{Scalar, Ty};
 ghost use Rattle.format.specs.Records.{write_scalar, write_ty};
 ghost use Rattle.format.specs.Outcome.{mapped};
-ghost use Rattle.record.specs.Answers.{lone_of};
-ghost use Rattle.rules.specs.Sizes.{same};
+ghost use Rattle.limits.specs.Answers.{told};
+ghost use Rattle.limits.specs.Codes.{code_for};
 ghost use Rattle.rules.specs.Order.{cmp_kind, cmp_scalar, compare};
 ghost use Rattle.known.specs.Known.{ScalarAt, TypeAt, HasScalar, HasType, HasFields};
 ghost use Rattle.known.specs.Whole.{of_types};
-ghost use Rattle.order.specs.Answers.{ranking_of, comparison_of, FieldsRanked};
+ghost use Rattle.shape.specs.Answers.{order_of};
+ghost use Rattle.order.specs.Answers.{ranking_of, FieldsRanked};
 
+use crate::Ranking;
 use crate::kinds::kind_place;
 use crate::names::cmp_names;
 use crate::shapes::cmp_shape;
-use crate::{Comparison, Ranking};
 use known::{View, kind_at, look, scalar_at, shape_at};
-use limits::{BOX, MAX_DEPTH};
-use record::{Lone, read_two, whichever};
-use shape::Order;
+use limits::refusal::Refusal;
+use limits::{Kind, MAX_DEPTH};
+use record::read_two;
+use std::cmp::Ordering;
 
-pub fn compare(a: &[u8], b: &[u8]) -> Comparison
-    ensures { comparison_of result ≡ of_types compare a.now b.now }
+#[tactic(auto, using(crate::proofs::TypeLaws::ways_out))]
+pub fn compare(a: &[u8], b: &[u8]) -> Result<Ordering, Refusal>
+    ensures { mapped order_of (told result) ≡ of_types compare a.now b.now }
 {
-    let read = whichever(read_two(a, b));
-    let Lone::Accepted = read else {
-        return as_comparison(read);
-    };
+    read_two(a, b)?;
     match compare_types(a, 0, b, 0, MAX_DEPTH) {
-        Ranking::Less => Comparison::Less,
-        Ranking::Same(_) => Comparison::Same,
-        Ranking::More => Comparison::More,
-    }
-}
-
-// A reading as an answer: what was refused as it was read stays refused.
-fn as_comparison(read: Lone) -> Comparison
-    ensures { comparison_of result ≡ mapped (λ _. same) (lone_of read) }
-{
-    match read {
-        Lone::Accepted => Comparison::Same,
-        Lone::Refused { number, place } => Comparison::Refused { number, place },
+        Ranking::Less => Ok(Ordering::Less),
+        Ranking::Same(_) => Ok(Ordering::Equal),
+        Ranking::More => Ok(Ordering::Greater),
     }
 }
 
 // Two types inside bytes.
-#[cycle(compare_fields_compare_scalars_compare_types)]
+#[cycle(comparing)]
 pub fn compare_types(a: &[u8], i: usize, b: &[u8], j: usize, depth: u64) -> Ranking
     requires { HasType a.now i depth × HasType b.now j depth }
     ensures { (t u : Ty) → TypeAt a.now i depth t → TypeAt b.now j depth u → result ≡ ranking_of (compare t u) (i + length (write_ty t)) }
@@ -53,24 +43,24 @@ pub fn compare_types(a: &[u8], i: usize, b: &[u8], j: usize, depth: u64) -> Rank
     match compare_scalars(a, scalar_at(a, i), b, scalar_at(b, j), depth - 1) {
         Ranking::Less => Ranking::Less,
         Ranking::Same(next) => match cmp_shape(shape_at(a, i), shape_at(b, j)) {
-            Order::Less => Ranking::Less,
-            Order::Same => Ranking::Same(next),
-            Order::More => Ranking::More,
+            Ordering::Less => Ranking::Less,
+            Ordering::Equal => Ranking::Same(next),
+            Ordering::Greater => Ranking::More,
         },
         Ranking::More => Ranking::More,
     }
 }
 
 // By kinds; of two boxes box Any, All, Def; then their contents.
-#[cycle(compare_fields_compare_scalars_compare_types)]
+#[cycle(comparing)]
 fn compare_scalars(a: &[u8], i: usize, b: &[u8], j: usize, depth: u64) -> Ranking
     requires { HasScalar a.now i depth × HasScalar b.now j depth }
     ensures { (k l : Scalar) → ScalarAt a.now i depth k → ScalarAt b.now j depth l → result ≡ ranking_of (cmp_scalar k l) (i + length (write_scalar k)) }
 {
     match look(a, i) {
-        View::Plain { code, end } => rank_kinds(code, kind_at(b, j), end),
+        View::Plain { kind, end } => rank_kinds(kind, kind_at(b, j), end),
         View::BoxAny { end } => match look(b, j) {
-            View::Plain { code, end: _ } => rank_kinds(BOX, code, end),
+            View::Plain { kind, end: _ } => rank_kinds(Kind::Box, kind, end),
             View::BoxAny { end: _ } => Ranking::Same(end),
             View::BoxAll { content: _ } => Ranking::Less,
             View::BoxDef {
@@ -81,7 +71,7 @@ fn compare_scalars(a: &[u8], i: usize, b: &[u8], j: usize, depth: u64) -> Rankin
             } => Ranking::Less,
         },
         View::BoxAll { content } => match look(b, j) {
-            View::Plain { code, end: _ } => rank_kinds(BOX, code, content),
+            View::Plain { kind, end: _ } => rank_kinds(Kind::Box, kind, content),
             View::BoxAny { end: _ } => Ranking::More,
             View::BoxAll { content: other } => compare_types(a, content, b, other, depth),
             View::BoxDef {
@@ -97,7 +87,7 @@ fn compare_scalars(a: &[u8], i: usize, b: &[u8], j: usize, depth: u64) -> Rankin
             fields,
             count,
         } => match look(b, j) {
-            View::Plain { code, end: _ } => rank_kinds(BOX, code, fields),
+            View::Plain { kind, end: _ } => rank_kinds(Kind::Box, kind, fields),
             View::BoxAny { end: _ } => Ranking::More,
             View::BoxAll { content: _ } => Ranking::More,
             View::BoxDef {
@@ -106,31 +96,28 @@ fn compare_scalars(a: &[u8], i: usize, b: &[u8], j: usize, depth: u64) -> Rankin
                 fields: other,
                 count: others,
             } => match cmp_names(a, name, b, title) {
-                Order::Less => Ranking::Less,
-                Order::Same => compare_fields(a, fields, count, b, other, others, depth),
-                Order::More => Ranking::More,
+                Ordering::Less => Ranking::Less,
+                Ordering::Equal => compare_fields(a, fields, count, b, other, others, depth),
+                Ordering::Greater => Ranking::More,
             },
         },
     }
 }
 
 // Two kinds by their places in the order, and the place after the first.
-fn rank_kinds(k: u64, l: u64, end: usize) -> Ranking
-    ensures { result ≡ ranking_of (cmp_kind k l) end }
+fn rank_kinds(k: Kind, l: Kind, end: usize) -> Ranking
+    ensures { result ≡ ranking_of (cmp_kind (code_for k) (code_for l)) end }
 {
-    let x = kind_place(k);
-    let y = kind_place(l);
-    if x < y {
-        return Ranking::Less;
+    match kind_place(k).cmp(&kind_place(l)) {
+        Ordering::Less => Ranking::Less,
+        Ordering::Equal => Ranking::Same(end),
+        Ordering::Greater => Ranking::More,
     }
-    if y < x {
-        return Ranking::More;
-    }
-    Ranking::Same(end)
 }
 
 // So many fields from their first on.
-#[cycle(compare_fields_compare_scalars_compare_types)]
+#[cycle(comparing)]
+#[tactic(auto, using(crate::proofs::TypeLaws::walking))]
 fn compare_fields(
     a: &[u8],
     start: usize,
@@ -143,12 +130,10 @@ fn compare_fields(
     requires { HasFields a.now start depth count × HasFields b.now other depth number }
     ensures { FieldsRanked a.now start count b.now other number depth result }
 {
-    let mut left = count;
-    let mut others = number;
     let mut i = start;
     let mut j = other;
-    while 0 < left {
-        if others == 0 {
+    for k in 0..count {
+        if k == number {
             return Ranking::More;
         }
         match compare_types(a, i, b, j, depth) {
@@ -163,10 +148,8 @@ fn compare_fields(
                 return Ranking::More;
             }
         }
-        left -= 1;
-        others -= 1;
     }
-    if 0 < others {
+    if count < number {
         return Ranking::Less;
     }
     Ranking::Same(i)

@@ -4,11 +4,15 @@ use native.Mathlib.Omega.{arith}
 use native.Mathlib.Nat.{add-zero}
 use mathlib.Core.List.{List, [], ◌++◌, append_assoc, append-nil}
 use mathlib.Core.Path.{◌≡◌, refl, sym, ◌∙◌, ap, subst}
-use lib.ListN.{length, length-append}
+use lib.ListN.{length, drop, length-append}
 use lib.Seq.{paste-zero}
 use Rattle.format.specs.Views.{Stands, stands-first, stands-second}
 use Rattle.lent.specs.Over.{over, length_over, over-over}
 use Rattle.packing.specs.Parts.{After}
+
+-- A law that the check is to find begins with a part that says nothing, and that shows which bytes stand there.
+abbrev pub At_bytes : List ℕ → ℕ → List ℕ → Type 0 → Type 0
+At_bytes s at w P = (w ++ drop (at + length w) s ≡ w ++ drop (at + length w) s) × P
 
 -- ---- one part
 

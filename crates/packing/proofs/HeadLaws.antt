@@ -7,7 +7,6 @@ use Rattle.format.specs.Views.{Stands, stands-first}
 use Rattle.packing.specs.Packed.{pack_shape, pack_scalar, pack_fields, pack_ty}
 use Rattle.packing.specs.Heads.{one_field, and_fields, contents}
 use Rattle.packing.specs.Layouts.{Layout, as_record, as_packed, shape_in, form_in, def_head, head_in, scalar_in, fields_in, type_in}
-use Rattle.packing.specs.Parts.{ScalarThere}
 
 -- ---- fields, one after the other
 
@@ -68,7 +67,7 @@ fields_in-head v o k f =
     ∙ ap (λ x. shape_in v o ++ x) (scalar_in-head v k f)
 
 -- What stands there with its contents stands there without them.
-pub head-stands : (v : Layout) (s : List ℕ) (from : ℕ) (k : Scalar) → ScalarThere v s from k → Stands s from (head_in v k)
+pub head-stands : (v : Layout) (s : List ℕ) (from : ℕ) (k : Scalar) → Stands s from (scalar_in v k) → Stands s from (head_in v k)
 head-stands v s from k h =
     let parts : scalar_in v k ≡ head_in v k ++ fields_in v (contents k no_fields) = sym (ap (λ x. scalar_in v k ++ x) (fields_in-none v) ∙ append-nil (scalar_in v k)) ∙ scalar_in-head v k no_fields in
-    stands-first s from (head_in v k) (fields_in v (contents k no_fields)) (rw parts at h.stands)
+    stands-first s from (head_in v k) (fields_in v (contents k no_fields)) (rw parts at h)

@@ -1,10 +1,10 @@
-mod Stores
-mod Halfway
-mod SizeLaws
-mod ShapeLaws
-mod PackHeadLaws
-mod UnpackHeadLaws
-mod TypeLaws
+pub mod Stores
+pub mod Halfway
+pub mod SizeLaws
+pub mod ShapeLaws
+pub mod PackHeadLaws
+pub mod UnpackHeadLaws
+pub mod TypeLaws
 pub mod Coming
 pub mod Examples
 pub mod HeadLaws

@@ -1,5 +1,5 @@
 -- Sizes, one after the other, from one layout to the other.
-use Prim.Native.Nat.{ℕ, ◌+◌, ◌-◌, ◌≤◌, ◌<◌}
+use Prim.Native.Nat.{ℕ, ◌+◌, ◌≤◌, ◌<◌}
 use native.Mathlib.Nat.{add-zero}
 use native.Mathlib.Omega.{arith}
 use mathlib.Core.List.{List, [], ◌∷◌, ◌++◌}
@@ -20,7 +20,7 @@ use Rattle.packing.proofs.PackedOnce.{number_small, sizes_once_at}
 use Rattle.packing.specs.PackedSizes.{seven_bytes, unpacked_number, low_seven, unpacked-number}
 use Rattle.packing.specs.Parts.{SizesThere, HasSizes, After}
 use Rattle.packing.proofs.PackedShapeLaws.{length-size_in, sizes_in-none, sizes_in-first}
-use Rattle.packing.proofs.Halfway.{Before, before-first, Halfway, halfway-none, halfway-length, halfway-before, halfway-more, halfway-all}
+use Rattle.packing.proofs.Halfway.{Before, before-first, Halfway, halfway-none, halfway-before, halfway-more, halfway-all}
 
 -- ---- one size
 
@@ -94,27 +94,24 @@ none_left : (ds : List Dim) → length ds ≡ 0 → ds ≡ []
 none_left [] e = refl
 none_left (d ∷ ds) e = absurd (omega arith)
 
--- Of the sizes asked for, so many are left.
-pub record SizesLeft (v w : Layout) (s : List ℕ) (start : ℕ) (out₀ : List ℕ) (place count : ℕ) (out : List ℕ) (from to left : ℕ) : Type 0 where
+-- Of the sizes asked for, i are done.
+pub record SizesLeft (v w : Layout) (s : List ℕ) (start : ℕ) (out₀ : List ℕ) (place count : ℕ) (out : List ℕ) (from to i : ℕ) : Type 0 where
   pub asked : HasSizes v w s start out₀ place count
   pub rest : List Dim
   pub within : All DimWithin rest
-  pub counted : length rest ≡ left
+  pub counted : i + length rest ≡ count
   pub halfway : Halfway start (sizes_in v asked.dims) out₀ place (sizes_in w asked.dims) out from to (sizes_in v rest) (sizes_in w rest)
 
 module _ {v w : Layout} {s : List ℕ} {start : ℕ} {out₀ : List ℕ} {place count : ℕ} where
-  pub sizes-none : HasSizes v w s start out₀ place count → SizesLeft v w s start out₀ place count out₀ start place count
-  sizes-none h = record { asked = h; rest = h.dims; within = h.there.within; counted = h.there.counted; halfway = halfway-none }
+  pub sizes-none : HasSizes v w s start out₀ place count → SizesLeft v w s start out₀ place count out₀ start place 0
+  sizes-none h = record { asked = h; rest = h.dims; within = h.there.within; counted = omega (arith, h.there.counted); halfway = halfway-none }
 
-  module _ {out : List ℕ} {from to left : ℕ} (h : SizesLeft v w s start out₀ place count out from to left) where
+  module _ {out : List ℕ} {from to i : ℕ} (h : SizesLeft v w s start out₀ place count out from to i) where
     whole : Before s start (sizes_in v h.asked.dims) out₀ place (sizes_in w h.asked.dims)
     whole = record { stands = h.asked.there.stands; room = h.asked.room }
 
-    pub sizes-length : length out ≡ length out₀
-    sizes-length = halfway-length whole h.halfway
-
     -- the next size
-    module _ (more : 0 < left) where
+    module _ (more : i < count) where
       abbrev Reached : List ℕ → List ℕ → Type 0
       Reached x y = Halfway start (sizes_in v h.asked.dims) out₀ place (sizes_in w h.asked.dims) out from to x y
 
@@ -137,7 +134,7 @@ module _ {v w : Layout} {s : List ℕ} {start : ℕ} {out₀ : List ℕ} {place 
           {out₁ : List ℕ}
           {from₁ to₁ : ℕ} →
           ((d : Dim) → DimWithin d → Before s from (size_in v d) out to (size_in w d) → After from (size_in v d) out to (size_in w d) out₁ from₁ to₁) →
-          SizesLeft v w s start out₀ place count out₁ from₁ to₁ (left - 1)
+          SizesLeft v w s start out₀ place count out₁ from₁ to₁ (i + 1)
       next-done done = next-size λ d ds is one each way. record {
         asked = h.asked;
         rest = ds;
@@ -146,9 +143,9 @@ module _ {v w : Layout} {s : List ℕ} {start : ℕ} {out₀ : List ℕ} {place 
         halfway = halfway-more whole (size_in v d) (size_in w d) way (done d one (here d ds way));
       }
 
-    pub sizes-all : left ≡ 0 → (ds : List Dim) → SizesThere v s start count ds → After start (sizes_in v ds) out₀ place (sizes_in w ds) out from to
+    pub sizes-all : count ≤ i → (ds : List Dim) → SizesThere v s start count ds → After start (sizes_in v ds) out₀ place (sizes_in w ds) out from to
     sizes-all ended ds t =
-        let none : h.rest ≡ [] = none_left h.rest (h.counted ∙ ended) in
+        let none : h.rest ≡ [] = none_left h.rest (omega (arith, h.counted, ended)) in
         let all : SizesThere v s start count h.asked.dims = h.asked.there in
         let same : ds ≡ h.asked.dims = sizes_once_at v s start ds h.asked.dims t.within all.within (t.counted ∙ sym all.counted) t.stands all.stands in
         rw same (halfway-all (rw (none, sizes_in-none v, sizes_in-none w) at h.halfway))

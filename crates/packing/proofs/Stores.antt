@@ -5,7 +5,7 @@ use mathlib.Core.List.{List, [], ◌∷◌}
 use mathlib.Core.Path.{◌≡◌, ◌∙◌}
 use lib.ListN.{length, set}
 use lib.Seq.{sets, sets-eq}
-use Rattle.lent.specs.Over.{over}
+use Rattle.lent.specs.Over.{over, over-over}
 
 pub one_store : (out : List ℕ) (at a : ℕ) → at + 1 ≤ length out → set out at a ≡ over out at (a ∷ [])
 one_store out at a fits = sets-eq (a ∷ []) out at fits
@@ -23,3 +23,7 @@ module _ (out : List ℕ) (at a b c d e f g : ℕ) where
   seven_stores fits =
       let stores : stored ≡ sets out at (a ∷ b ∷ c ∷ d ∷ e ∷ f ∷ g ∷ []) = simp unary_clauses in
       stores ∙ sets-eq (a ∷ b ∷ c ∷ d ∷ e ∷ f ∷ g ∷ []) out at fits
+
+-- and others behind two of them
+pub two_and_more : (out : List ℕ) (at a b : ℕ) (w : List ℕ) → at + 2 ≤ length out → over (over out at (a ∷ b ∷ [])) (at + 2) w ≡ over out at (a ∷ b ∷ w)
+two_and_more out at a b w fits = over-over out at (a ∷ b ∷ []) fits w

@@ -7,7 +7,7 @@ use lib.ListN.{length}
 use Rattle.model.specs.Limits.{max_types}
 use Rattle.model.specs.Types.{Shape, Scalar, Fields, no_fields, field, Ty, field_count}
 use Rattle.model.specs.Within.{Within}
-use Rattle.format.specs.Views.{Stands, stands-all, stands-first}
+use Rattle.format.specs.Views.{Stands, stands-all, stands-first, stands-within}
 use Rattle.format.specs.Records.{write_ty}
 use Rattle.lent.specs.Over.{over}
 use Rattle.packing.proofs.Coming.{count-contents, Coming, coming-one_field, coming-contents, coming-shape, coming-scalar, coming-few, coming-shallow, coming-count, count-one_field, none-coming, some-coming}
@@ -18,7 +18,7 @@ use Rattle.packing.specs.Packed.{Packable, Packs, Unpackable, Unpacks}
 use Rattle.packing.proofs.PackedOnce.{type_once_at}
 use Rattle.packing.specs.Parts.{ShapeThere, ScalarThere, HasShape, HasHead, After}
 use Rattle.packing.proofs.Halfway.{Before, before-first, Halfway, halfway-none, halfway-length, halfway-before, halfway-more, halfway-all}
-use Rattle.packing.proofs.ShapeLaws.{counts_length_least, shape_least, shape-reads}
+use Rattle.packing.proofs.ShapeLaws.{shape_least}
 
 -- A type that lies in one layout, and room for it in the other.
 pub record TypeAsked (v w : Layout) (s : List ℕ) (from : ℕ) (out : List ℕ) (to : ℕ) : Type 0 where
@@ -119,7 +119,7 @@ module _ {v w : Layout} {s : List ℕ} {start : ℕ} {out₀ : List ℕ} {place 
           next-falls = next λ o k f coming counted way.
               let shape = shaped o (shape-stands o k f coming way) in
               let head = (headed k (scalar-stands o k f coming way)).0 in
-              omega (arith, shape.read, head.read, shape_least v o, shape-reads v w s from out to next-shape, counts_length_least v)
+              omega (arith, shape.read, head.read, shape_least v o, stands-within s from (shape_in v o) (omega (arith, shape_least v o)) (shape-before o k f coming way).stands)
 
     types-all : left ≡ 0 → (t : Ty) → Within t → Stands s start (type_in v t) → out ≡ over out₀ place (type_in w t)
     types-all ended t within stands =

@@ -1,5 +1,5 @@
 -- A size as a number: packed it is the seven low bytes of its record's number, and the packed number tells the record's.
-use Rattle.std.specs.Prelude.{ℕ, ◌+◌, ◌*◌, ◌≤◌, cond, List, ◌≡◌, refl, eqb, get_or}
+use Rattle.std.specs.Prelude.{ℕ, ◌+◌, ◌*◌, cond, List, ◌≡◌, refl, eqb, get_or}
 use Rattle.std.proofs.Common.{arith, ne_eqb}
 use Rattle.model.specs.Limits.{ones}
 use Rattle.model.specs.Types.{Dim, static, unknown}

@@ -1,5 +1,6 @@
 // From what lies in the scratch to a type's record.
-ghost use Rattle.std.specs.Prelude.{◌≡◌, ◌+◌, ◌≤◌, length};
+ghost use Rattle.std.specs.Prelude.{◌≡◌, ◌+◌, ◌-◌, ◌≤◌, ◌<◌, length, slice_index, take, drop};
+ghost use Rattle.lent.specs.Over.{over};
 ghost use Rattle.packing.specs.Layouts.{as_record, as_packed};
 ghost use Rattle.packing.specs.Packed.{packed_size, Unpackable, Unpacks};
 ghost use Rattle.packing.specs.PackedSizes.{seven_bytes, unpacked_number};
@@ -8,8 +9,8 @@ ghost use Rattle.packing.specs.Parts.{HasSizes, HasShape, HasHead, HasDef, Sizes
 use crate::{Head, Places};
 use known::name_at;
 use lent::lay;
-use limits::{BOX, BOX_ALL, BOX_ANY, PACKED_SIZE, PACKED_UNKNOWN, UNKNOWN};
-use record::{list_count, wide};
+use limits::{Form, Kind, PACKED_SIZE, PACKED_UNKNOWN, UNKNOWN};
+use record::list_count;
 use writer::{put_box, put_head, put_number, put_plain};
 
 // The record of the type that lies packed from `start` on, to `out` from `place` on.
@@ -30,6 +31,7 @@ pub fn unpack(packed: &[u8], start: usize, out: &mut [u8], place: usize)
 }
 
 // A shape: its counts and its sizes.
+#[tactic(auto, using(crate::proofs::ShapeLaws::packed_inside, crate::proofs::ShapeLaws::record_long))]
 fn unpack_shape(s: &[u8], from: usize, out: &mut [u8], to: usize) -> Places
     requires { HasShape as_packed as_record s.now from out.old to }
     ensures { ShapeDone as_packed as_record s.now from out.old to out.new result }
@@ -37,7 +39,7 @@ fn unpack_shape(s: &[u8], from: usize, out: &mut [u8], to: usize) -> Places
     let opening = s[from];
     let closing = s[from + 1];
     put_head(&mut *out, to, opening, closing);
-    let count = wide(opening) + list_count(wide(closing));
+    let count = opening as u64 + list_count(closing as u64);
     unpack_sizes(s, from + 2, &mut *out, to + 4, count)
 }
 
@@ -48,12 +50,10 @@ fn unpack_sizes(s: &[u8], start: usize, out: &mut [u8], place: usize, count: u64
 {
     let mut from = start;
     let mut to = place;
-    let mut left = count;
-    while 0 < left {
+    for _ in 0..count {
         put_number(&mut *out, to, unpack_number(seven_at(s, from)));
         from += PACKED_SIZE;
         to += 8;
-        left -= 1;
     }
     Places { from, to }
 }
@@ -63,13 +63,13 @@ fn seven_at(s: &[u8], at: usize) -> u64
     requires { at + packed_size ≤ length s.now }
     ensures { result ≡ seven_bytes s.now at }
 {
-    let a = wide(s[at]);
-    let b = wide(s[at + 1]);
-    let c = wide(s[at + 2]);
-    let d = wide(s[at + 3]);
-    let e = wide(s[at + 4]);
-    let f = wide(s[at + 5]);
-    let g = wide(s[at + 6]);
+    let a = s[at] as u64;
+    let b = s[at + 1] as u64;
+    let c = s[at + 2] as u64;
+    let d = s[at + 3] as u64;
+    let e = s[at + 4] as u64;
+    let f = s[at + 5] as u64;
+    let g = s[at + 6] as u64;
     a + 256 * (b + 256 * (c + 256 * (d + 256 * (e + 256 * (f + 256 * g)))))
 }
 
@@ -78,41 +78,42 @@ fn unpack_number(packed: u64) -> u64
     ensures { result ≡ unpacked_number packed }
 {
     if packed == PACKED_UNKNOWN {
-        return UNKNOWN;
+        UNKNOWN
+    } else {
+        packed
     }
-    packed
 }
 
 // A scalar up to its contents.
+#[tactic(auto, using(crate::proofs::UnpackHeadLaws::code_inside, crate::proofs::UnpackHeadLaws::form_inside, crate::proofs::UnpackHeadLaws::record_least, crate::proofs::UnpackHeadLaws::box_record), unfolding(crate::specs::Layouts::head_in, rules::specs::Order::code_of, rules::specs::Views::form_of, format::specs::Records::code))]
 fn unpack_scalar(s: &[u8], from: usize, out: &mut [u8], to: usize) -> Head
     requires { HasHead as_packed as_record s.now from out.old to }
     ensures { HeadDone as_packed as_record s.now from out.old to out.new result }
 {
-    let code = s[from];
-    if code != BOX as u8 {
-        return Head {
+    match Kind::of_code(s[from]) {
+        Kind::Box => {
+            let form = Form::of_code(s[from + 1]);
+            let next = put_box(&mut *out, to, form);
+            match form {
+                Form::Any => Head {
+                    from: from + 2,
+                    to: next,
+                    contents: 0,
+                },
+                Form::All => Head {
+                    from: from + 2,
+                    to: next,
+                    contents: 1,
+                },
+                Form::Def => unpack_def(s, from + 2, &mut *out, next),
+            }
+        }
+        kind => Head {
             from: from + 1,
-            to: put_plain(&mut *out, to, code),
+            to: put_plain(&mut *out, to, kind),
             contents: 0,
-        };
+        },
     }
-    let form = wide(s[from + 1]);
-    let next = put_box(&mut *out, to, form);
-    if form == BOX_ANY {
-        return Head {
-            from: from + 2,
-            to: next,
-            contents: 0,
-        };
-    }
-    if form == BOX_ALL {
-        return Head {
-            from: from + 2,
-            to: next,
-            contents: 1,
-        };
-    }
-    unpack_def(s, from + 2, &mut *out, next)
 }
 
 // The length of a Def's name, the name and the number of its fields.
@@ -121,12 +122,21 @@ fn unpack_def(s: &[u8], from: usize, out: &mut [u8], to: usize) -> Head
     ensures { DefDone s.now from out.old to out.new result }
 {
     let name = name_at(s, from);
-    let last = name.end;
+    copy_def(s, from, name.end, &mut *out, to)
+}
+
+// The same where the number of its fields stands at `last`, behind its name.
+fn copy_def(s: &[u8], from: usize, last: usize, out: &mut [u8], to: usize) -> Head
+    requires { (from ≤ last) × (last < length s.now) × (to + (last + 1 - from) ≤ length out.old) }
+    ensures reached { (result.from ≡ last + 1) × (result.to ≡ to + (last + 1 - from)) }
+    ensures counted { result.contents ≡ slice_index s.now last }
+    ensures laid { out.new ≡ over out.old to (take (last + 1 - from) (drop from s.now)) }
+{
     let next = last + 1;
     lay(&s[from..next], &mut *out, to);
     Head {
         from: next,
         to: to + (next - from),
-        contents: wide(s[last]),
+        contents: s[last] as u64,
     }
 }

@@ -1,11 +1,12 @@
 -- From what the sheet check answered to the call's outcome, and the types left as their bytes stand in the result.
-use Prim.Native.Nat.{ℕ, ◌+◌, ◌*◌, ◌≤◌}
+use Prim.Native.Nat.{ℕ, ◌*◌, ◌≤◌}
 use native.Mathlib.Omega.{arith}
 use native.Mathlib.Nat.{mul-le-mul_right}
 use mathlib.Core.Bool.{Bool, true, false, cond}
 use mathlib.Core.List.{List, map}
 use mathlib.Core.Path.{◌≡◌, refl, sym, ◌∙◌, ap, subst}
 use lib.ListN.{length, take, length-take}
+use lib.Seq.{length-take-le}
 use lib.Dec.{leb, ltb}
 use Rattle.model.specs.Refusals.{too_short}
 use Rattle.model.specs.Types.{Ty}
@@ -19,10 +20,6 @@ use Rattle.machine.proofs.CallLaws.{LeftBy, call-left}
 use Rattle.report.specs.Laid.{Laid}
 use Rattle.report.specs.Left.{LeftIs, Left}
 use Rattle.report.specs.Report.{reported, if_room, call_outcome}
-use Rattle.report.specs.Room.{number_room, text_room}
-use Rattle.run.specs.Answers.{Measures, called_of}
-use Rattle.run.specs.declared.SheetAnswer.{SheetAnswer}
-use Rattle.run.specs.declared.SheetAnswer.TheVariants.{Accepted, Refused}
 
 -- ---- the outcome of a call with buffers of any length
 
@@ -68,67 +65,44 @@ module _ (s result scratch : List ℕ) where
       by true e = let z : ◌≡◌ {A = ℕ} 0 1 = cc in absurd (omega arith)
       by false e = fits (leb (length (write_types ts)) (length result)) e
 
+  abbrev outcome : Outcome (List Ty)
+  outcome = call_outcome s (length result) (length scratch)
+
   module _ (out after : List ℕ) where
-    refused-outcome : {k p : ℕ} → called (refused k p) out after ≡ sheet_call s result scratch → call_outcome s (length result) (length scratch) ≡ refused k p
-    refused-outcome {k} {p} e = by (call_outcome s (length result) (length scratch)) (ap answer_of e ∙ call_answers)
+    pub refused_outcome : (k p : ℕ) → called (refused k p) out after ≡ sheet_call s result scratch → call_outcome s (length result) (length scratch) ≡ refused k p
+    refused_outcome k p e = by outcome (ap answer_of e ∙ call_answers)
       where
         by : (o : Outcome (List Ty)) → refused k p ≡ mapped tallied o → o ≡ refused k p
         by (refused j q) e = let x : j ≡ k = cc in let y : q ≡ p = cc in rw (x, y)
         by (accepted ts) e = let z : ◌≡◌ {A = ℕ} 0 1 = cc in absurd (omega arith)
 
-    left-outcome : {n b : ℕ} {ts : List Ty} → called (accepted (tally n b)) out after ≡ sheet_call s result scratch → LeftBy s n b out ts → call_outcome s (length result) (length scratch) ≡ accepted ts
-    left-outcome {n} {b} {ts} e l = by (call_outcome s (length result) (length scratch)) refl (ap answer_of e ∙ call_answers)
+    left-outcome : {n b : ℕ} {ts : List Ty} → called (accepted (tally n b)) out after ≡ sheet_call s result scratch → LeftBy s n b out ts → outcome ≡ accepted ts
+    left-outcome {n} {b} {ts} e l = by outcome refl (ap answer_of e ∙ call_answers)
       where
-        by : (o : Outcome (List Ty)) → call_outcome s (length result) (length scratch) ≡ o → accepted (tally n b) ≡ mapped tallied o → o ≡ accepted ts
+        by : (o : Outcome (List Ty)) → outcome ≡ o → accepted (tally n b) ≡ mapped tallied o → o ≡ accepted ts
         by (refused j q) is e = let z : ◌≡◌ {A = ℕ} 0 1 = cc in absurd (omega arith)
         by (accepted us) is e = ap accepted (accepted-run is l.run)
 
-    abbrev outcome : Outcome (List Ty)
-    outcome = call_outcome s (length result) (length scratch)
+    -- ---- what the check answered
 
-    module _ (between : List ℕ) {r : ℕ} {d d₁ : List ℕ} where
-      pub laid-refused : {k p : ℕ} → called (refused k p) out after ≡ sheet_call s result scratch → Reports between r d d₁ (refused k p) → Reports between r d d₁ outcome
-      laid-refused e h = subst (Reports between r d d₁) (sym (refused-outcome e)) h
+    module _ (n b : ℕ) (small : Bytes s) (e : called (accepted (tally n b)) out after ≡ sheet_call s result scratch) where
+      -- The bytes of the types left are in the result, and few.
+      pub left_front : (called (accepted (tally n b)) out after ≡ sheet_call s result scratch) × (length (take b out) ≡ b) × (b ≤ length out) × ((k : ℕ) → n * k ≤ max_stack * k) × (b ≤ result_bytes max_stack)
+      left_front =
+          call-left s result scratch small e λ ts l.
+          let inside : b ≤ length out = omega (arith, l.bytes, ap length l.front, length-take b out) in
+          let few : n ≤ max_stack = omega (arith, l.count, l.kept.few) in
+          (e, length-take-le b out inside, inside, λ k. mul-le-mul_right k few, omega (arith, l.bytes, l.kept.suffices))
 
-      pub laid-left : {n b : ℕ} {ts : List Ty} → called (accepted (tally n b)) out after ≡ sheet_call s result scratch → LeftBy s n b out ts → Reports between r d d₁ (accepted ts) → Reports between r d d₁ outcome
-      laid-left e l h = subst (Reports between r d d₁) (sym (left-outcome e l)) h
+      module _ (lengths : List ℕ) (measured : (ts : List Ty) → sheet_run s ≡ accepted ts → take n lengths ≡ map (λ t. length (write_ty t)) ts) where
+        pub left_there : Left (take b out) lengths n
+        left_there =
+            call-left s result scratch small e λ ts l.
+            record { types = ts; there = record { bytes = l.front; count = l.count; sizes = measured ts l.run } }
 
--- ---- what the check answered
+        pub left_reported : (between : List ℕ) (r : ℕ) (d d₁ : List ℕ) → ((ts : List Ty) → LeftIs (take b out) lengths n ts → Reports between r d d₁ (accepted ts)) → Reports between r d d₁ outcome
+        left_reported between r d d₁ f =
+            call-left s result scratch small e λ ts l.
+            subst (Reports between r d d₁) (sym (left-outcome e l)) (f ts record { bytes = l.front; count = l.count; sizes = measured ts l.run })
 
--- There are types left, and these are their lengths.
-pub record TypesLeft (s : List ℕ) (n b : ℕ) (out lengths : List ℕ) : Type 0 where
-  pub types : List Ty
-  pub left : LeftBy s n b out types
-  pub sizes : take n lengths ≡ map (λ t. length (write_ty t)) types
-
-module _ (s result scratch out after : List ℕ) (a : SheetAnswer) (e : called_of a out after ≡ sheet_call s result scratch) where
-  pub answered-called : {n b : ℕ} → a ≡ Accepted n b → called (accepted (tally n b)) out after ≡ sheet_call s result scratch
-  answered-called is = rw is at e
-
-  pub refused-called : {k p : ℕ} → a ≡ Refused k p → called (refused k p) out after ≡ sheet_call s result scratch
-  refused-called is = rw is at e
-
-  pub types-left : (lengths : List ℕ) {n b : ℕ} → Bytes s → Measures a lengths (sheet_run s) → a ≡ Accepted n b → TypesLeft s n b out lengths
-  types-left lengths {n} {b} small m is =
-      call-left s result scratch small (answered-called is) λ ts l.
-      record { types = ts; left = l; sizes = measured (rw is at m) ts l.run }
-    where
-      measured : Measures (Accepted n b) lengths (sheet_run s) → (ts : List Ty) → sheet_run s ≡ accepted ts → take n lengths ≡ map (λ t. length (write_ty t)) ts
-      measured m = m
-
-module _ {s : List ℕ} {n b : ℕ} {out lengths : List ℕ} (t : TypesLeft s n b out lengths) where
-  pub left_is : LeftIs (take b out) lengths n t.types
-  left_is = let l = t.left in record { bytes = l.front; count = l.count; sizes = t.sizes }
-
-  pub left_there : Left (take b out) lengths n
-  left_there = record { types = t.types; there = left_is }
-
-  pub left-inside : b ≤ length out
-  left-inside = let l = t.left in omega (arith, l.bytes, ap length l.front, length-take b out)
-
-  pub left-room : (k : ℕ) → text_room k n (length (take b out)) ≤ text_room k max_stack (result_bytes max_stack)
-  left-room k =
-      let l = t.left in
-      let few : n ≤ max_stack = omega (arith, l.count, l.kept.few) in
-      let each : n * (k + number_room + 1) ≤ max_stack * (k + number_room + 1) = mul-le-mul_right (k + number_room + 1) few in
-      omega (arith, each, ap length l.front, l.kept.suffices)
+pub ruleset calling = (refused_outcome, left_front, left_there)

@@ -8,6 +8,7 @@ use lib.ListN.{length, take}
 use lib.Seq.{take_all, length-take-le}
 use lib.Dec.{ltb}
 use borrow.Author.Tests.{ltb-true, ltb-false}
+use Rattle.std.specs.Prelude.{Some, None}
 use Rattle.machine.specs.SheetLimits.{program_bytes}
 use Rattle.report.specs.Laid.{Laid}
 use Rattle.report.specs.Report.{line_feed, reported, buffers, buffers_of, program_call, printed}
@@ -15,8 +16,7 @@ use Rattle.streams.specs.Streams.{ToTheEnd}
 use Rattle.streams.specs.declared.Answered.{Answered}
 use Rattle.streams.specs.declared.Answered.TheVariants.{Bytes, Nothing, Failed}
 use Rattle.printer.specs.Input.{ReadFrom, TextOf, Prints}
-use Rattle.printer.specs.declared.Printed.TheVariants.{Text, Unread}
-use Rattle.printer.proofs.ProgramLaws.{outcome-long, call_long}
+use Rattle.printer.proofs.ProgramLaws.{outcome_long, call_long}
 
 -- ---- one text for the input and for what was read of it
 
@@ -28,7 +28,7 @@ data Alike (s t : List ℕ) : Type 0 where
 alike-printed : {s t : List ℕ} → Alike s t → printed s ≡ printed t
 unfolding printed
 alike-printed (equal e) = ap printed e
-alike-printed {s} {t} (long h k) = ap (λ o. reported line_feed o ++ line_feed) (outcome-long s h ∙ sym (outcome-long t k))
+alike-printed {s} {t} (long h k) = ap (λ o. reported line_feed o ++ line_feed) (outcome_long s h ∙ sym (outcome_long t k))
 
 alike-left : {s t : List ℕ} (result scratch : List ℕ) → Alike s t → buffers_of (program_call s result scratch) ≡ buffers_of (program_call t result scratch)
 alike-left result scratch (equal e) = ap (λ s. buffers_of (program_call s result scratch)) e
@@ -54,12 +54,12 @@ read_alike input buf count (Bytes n) ok wide t h = by (ltb count (length buf)) r
 -- ---- what is printed
 
 module _ (buf : List ℕ) (count : ℕ) (result scratch out : List ℕ) where
-  pub prints_nothing : (last : Answered) → last ≡ Failed → Prints last buf count Unread result result scratch scratch out out
+  pub prints_nothing : (last : Answered) → last ≡ Failed → Prints last buf count None result result scratch scratch out out
   prints_nothing last h = rw h (refl, refl, refl)
 
   module _ (result₁ scratch₁ out₁ : List ℕ) {r : ℕ} (wide : program_bytes < length buf)
       (laid : Laid r 0 out out₁ (printed (take count buf))) (left : buffers result₁ scratch₁ ≡ buffers_of (program_call (take count buf) result scratch)) where
-    text_of : {input : List ℕ} → Alike (take count buf) input → TextOf input (Text r) result result₁ scratch scratch₁ out out₁
+    text_of : {input : List ℕ} → Alike (take count buf) input → TextOf input (Some r) result result₁ scratch scratch₁ out out₁
     text_of a =
         record {
           size = r;
@@ -68,7 +68,7 @@ module _ (buf : List ℕ) (count : ℕ) (result scratch out : List ℕ) where
           left = left ∙ alike-left result scratch a;
         }
 
-    pub prints_text : (last : Answered) → (last ≡ Failed → ⊥) → ToTheEnd count last (length buf) → Prints last buf count (Text r) result result₁ scratch scratch₁ out out₁
+    pub prints_text : (last : Answered) → (last ≡ Failed → ⊥) → ToTheEnd count last (length buf) → Prints last buf count (Some r) result result₁ scratch scratch₁ out out₁
     prints_text (Bytes n) h t = λ input f. text_of (read_alike input buf count (Bytes n) h wide t f)
     prints_text Nothing h t = λ input f. text_of (read_alike input buf count Nothing h wide t f)
     prints_text Failed h t = absurd (h refl)

@@ -1,3 +1,3 @@
-mod CallLaws
-mod ProgramLaws
-mod InputLaws
+pub mod CallLaws
+pub mod ProgramLaws
+pub mod InputLaws

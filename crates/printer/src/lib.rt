@@ -10,10 +10,10 @@ ghost use Rattle.report.specs.Report.{line_feed, reported, call_outcome, program
 ghost use Rattle.report.specs.Room.{text_room, print_room};
 ghost use Rattle.streams.specs.Streams.{ToTheEnd};
 
-use limits::refusal::TOO_SHORT;
+use limits::refusal::{Reason, Refusal};
 use limits::{MAX_SHEET, MAX_STACK, RESULT_BYTES};
 use report::{HEAD_ROOM, LINE_ROOM, put, put_left, put_refusal};
-use run::{SheetAnswer, measure_sheet};
+use run::measure_sheet;
 use stack::clear;
 use streams::{Answered, Moved};
 
@@ -24,22 +24,15 @@ pub const TEXT: usize = HEAD_ROOM + MAX_STACK * (1 + LINE_ROOM) + 2 * RESULT_BYT
 // Bytes that suffice for the text of a call, where up to three bytes stand between two lines.
 pub const CALL_TEXT: usize = HEAD_ROOM + MAX_STACK * (3 + LINE_ROOM) + 2 * RESULT_BYTES;
 
-// What the program prints: a text of so many bytes, or nothing, since a read failed.
-#[derive(Clone, Copy)]
-pub enum Printed {
-    Text(usize),
-    Unread,
-}
-
 // The text of what reading to the end left in a buffer, told by what that answered: so many bytes, and what the last read said. The
-// buffer is longer than a sheet may be, so that a longer one is told.
+// buffer is longer than a sheet may be, so that a longer one is told. Answers how many bytes the text has; none, where a read failed.
 pub fn print_input(
     buf: &[u8],
     read: Moved,
     res: &mut [u8],
     scratch: &mut [u8],
     out: &mut [u8],
-) -> Printed
+) -> Option<usize>
     requires program_bytes_in_bounds { program_bytes < length buf.now }
     requires to_the_end { ToTheEnd read.count read.last (length buf.now) }
     requires max_stack_in_bounds { result_bytes max_stack ≤ length res.old }
@@ -48,15 +41,14 @@ pub fn print_input(
     ensures prints { Prints read.last buf.now read.count result res.old res.new scratch.old scratch.new out.old out.new }
     ensures inside { Inside result out.new }
 {
-    let count = read.count;
-    let last = read.last;
-    match last {
-        Answered::Failed => Printed::Unread,
-        _ => Printed::Text(print_sheet(&buf[..count], res, scratch, out)),
+    match read.last {
+        Answered::Failed => None,
+        _ => Some(print_sheet(&buf[..read.count], res, scratch, out)),
     }
 }
 
 // The text of a sheet, to the front of `out`. Answers how many bytes it has.
+#[tactic(auto, using(crate::proofs::ProgramLaws::reported_room))]
 fn print_sheet(sheet: &[u8], res: &mut [u8], scratch: &mut [u8], out: &mut [u8]) -> usize
     requires max_stack_in_bounds { result_bytes max_stack ≤ length res.old }
     requires scratch_bytes_in_bounds { scratch_bytes ≤ length scratch.old }
@@ -69,6 +61,7 @@ fn print_sheet(sheet: &[u8], res: &mut [u8], scratch: &mut [u8], out: &mut [u8])
 }
 
 // The same without the last line feed.
+#[tactic(auto, using(crate::proofs::ProgramLaws::outcomes))]
 fn put_outcome(sheet: &[u8], res: &mut [u8], scratch: &mut [u8], out: &mut [u8]) -> usize
     requires max_stack_in_bounds { result_bytes max_stack ≤ length res.old }
     requires scratch_bytes_in_bounds { scratch_bytes ≤ length scratch.old }
@@ -78,12 +71,13 @@ fn put_outcome(sheet: &[u8], res: &mut [u8], scratch: &mut [u8], out: &mut [u8])
 {
     if MAX_SHEET < sheet.len() {
         clear(scratch);
-        return put_refusal(TOO_SHORT as u64, 0, out, 0);
+        return put_refusal(Refusal(Reason::TooShort, 0), out, 0);
     }
     put_call(sheet, res, scratch, b"\n", out)
 }
 
 // What a call with these buffers answers, to the front of `out`, with `between` between two lines. Answers how many bytes it has.
+#[tactic(auto, using(crate::proofs::CallLaws::calling))]
 pub fn put_call(
     sheet: &[u8],
     res: &mut [u8],
@@ -96,13 +90,8 @@ pub fn put_call(
     ensures scratch_after { buffers res.new scratch.new ≡ buffers_of (sheet_call sheet.now res.old scratch.old) }
 {
     let mut lengths = [0usize; MAX_STACK];
-    let answer = measure_sheet(sheet, &mut *res, scratch, &mut lengths);
-    match answer {
-        SheetAnswer::Accepted { types, bytes } => {
-            put_left(types, &lengths, &res[..bytes], between, out, 0)
-        }
-        SheetAnswer::Refused { number, place } => {
-            put_refusal(number as u64, place as u64, out, 0)
-        }
+    match measure_sheet(sheet, &mut *res, scratch, &mut lengths) {
+        Ok(left) => put_left(left.types, &lengths, &res[..left.bytes], between, out, 0),
+        Err(refusal) => put_refusal(refusal, out, 0),
     }
 }

@@ -1,19 +1,20 @@
--- Lone types: one law for each way out of a function.
-use Prim.Native.Nat.{ℕ, ◌≤◌, ◌<◌}
+-- Lone types: what the reading of one, and of two, says of a call's outcome.
+use Prim.Native.Nat.{ℕ}
 use native.Mathlib.Omega.{arith}
-use mathlib.Core.Path.{◌≡◌, refl, ◌∙◌, ap}
+use mathlib.Core.Path.{◌≡◌, refl, sym, ◌∙◌, ap}
 use mathlib.Core.List.{List}
-use lib.ListN.{length}
-use borrow.Author.Tests.{lt-ltb, le-ltb}
-use Rattle.model.specs.Refusals.{trailing}
+use Rattle.std.specs.Prelude.{◌⊎◌, Result, Err}
+use Rattle.std.proofs.Common.{inl, inr}
 use Rattle.model.specs.Types.{Ty}
 use Rattle.format.specs.Reader.{Read, got, stopped, map_read}
 use Rattle.format.specs.Records.{read_type}
-use Rattle.format.specs.Outcome.{Outcome, accepted, refused, mapped, both, unrefused, first, second, refusal_of, lone, place_after, type_length}
-use Rattle.record.specs.Answers.{nothing, nothings, lone_of, two_of, whichever_of}
-use Rattle.record.specs.declared.Lone.{Lone}
-use Rattle.record.specs.declared.Two.{Two}
-use Rattle.record.proofs.ReadingLaws.{stopped-map, got-map}
+use Rattle.format.specs.Outcome as format
+use Rattle.format.specs.Outcome.{Outcome, accepted, refused, delivery, mapped, bound, both, deliver, unrefused, first, second, refusal_of, lone, place_after, type_length}
+use Rattle.limits.specs.Answers.{told}
+use Rattle.limits.specs.declared.refusal.Refusal.{Refusal}
+use Rattle.record.specs.Answers.{nothing, nothings, lone_of, two_of, refusal_in, Misreads}
+use Rattle.record.specs.declared.Misread.{Misread}
+use Rattle.record.specs.declared.Misread.TheVariants.{First, Second}
 
 -- ---- outcomes whose value is passed over
 
@@ -27,6 +28,20 @@ passed-refused (refused j q) {k} {p} e = let x : j ≡ k = cc in let y : q ≡ p
 
 pub mapped-refused : {A B : Type 0} (f : A → B) {o : Outcome A} {k p : ℕ} → o ≡ refused k p → mapped f o ≡ refused k p
 mapped-refused f e = ap (mapped f) e
+
+-- the exit of a `?` after the reading of a type: the call's outcome is the refusal that the reading had
+module _ {A B : Type 0} (o : Outcome A) (r : Refusal) (read : lone_of (Err r) ≡ mapped nothing o) where
+  pub mapped_refusal : (f : A → B) → told (Err r) ≡ mapped f o
+  mapped_refusal f = sym (ap (mapped f) (passed-refused o (sym read)))
+
+  pub bound_refusal : (f : A → Outcome B) → told (Err r) ≡ bound f o
+  bound_refusal f = sym (ap (bound f) (passed-refused o (sym read)))
+
+-- the same as a check finds it, of bytes to deliver: the reading was accepted, or what is delivered is its refusal
+pub delivered_reading : {A : Type 0} (f : A → List ℕ) (o : Outcome A) (buffer : List ℕ) → (deliver (mapped f o) buffer ≡ deliver (mapped f o) buffer) × ((mapped nothing o ≡ accepted 0) ⊎ (deliver (mapped f o) buffer ≡ delivery (mapped nothing o) buffer))
+unfolding deliver
+delivered_reading f (accepted a) buffer = (refl, inl refl)
+delivered_reading f (refused k p) buffer = (refl, inr refl)
 
 module _ {A B : Type 0} (x : Outcome A) (y : Outcome B) where
   pub both-refused : {C : Type 0} (f : A → B → Outcome C) {k p : ℕ} → both nothings x y ≡ refused k p → both f x y ≡ refused k p
@@ -48,19 +63,16 @@ module _ {A B : Type 0} (x : Outcome A) (y : Outcome B) where
   pub both-passed : both nothings x y ≡ accepted 0 → (mapped nothing x ≡ accepted 0) × (mapped nothing y ≡ accepted 0)
   both-passed e = both-accepted e λ a b g h. (ap (mapped nothing) g, ap (mapped nothing) h)
 
-  -- ---- which of the two was refused
+-- ---- which of two was refused
 
-  pub refusal-first : {k p : ℕ} → mapped nothing x ≡ refused k p → refusal_of x y ≡ first k p
-  refusal-first e = rw (passed-refused x e)
+-- the refusal, whichever of the two it is of
+abbrev pub whichever_of : format.Refusal → Outcome ℕ
+whichever_of unrefused = accepted 0
+whichever_of (first k p) = refused k p
+whichever_of (second k p) = refused k p
 
-  module _ (good : mapped nothing x ≡ accepted 0) where
-    pub refusal-second : {k p : ℕ} → mapped nothing y ≡ refused k p → refusal_of x y ≡ second k p
-    refusal-second e = passed-accepted x good λ a h. rw (h, passed-refused y e)
-
-    pub refusal-unrefused : mapped nothing y ≡ accepted 0 → refusal_of x y ≡ unrefused
-    refusal-unrefused e = passed-accepted x good λ a h. passed-accepted y e λ b g. rw (h, g)
-
-  whichever_both : whichever_of (refusal_of x y) ≡ both nothings x y
+module _ {A B : Type 0} (x : Outcome A) (y : Outcome B) where
+  pub whichever_both : whichever_of (refusal_of x y) ≡ both nothings x y
   whichever_both = go x y
     where
       go : (x : Outcome A) (y : Outcome B) → whichever_of (refusal_of x y) ≡ both nothings x y
@@ -69,9 +81,16 @@ module _ {A B : Type 0} (x : Outcome A) (y : Outcome B) where
       go (refused k p) y = refl
 
   -- what reading the two answered, for a call that need not say which of them was refused
-  module _ (two : Two) (read : two_of two ≡ refusal_of x y) where
-    pub both_read : (l : Lone) → lone_of l ≡ whichever_of (two_of two) → lone_of l ≡ both nothings x y
-    both_read l e = e ∙ ap whichever_of read ∙ whichever_both
+  pub both_read : (two : Result (Unit {0}) Misread) → two_of two ≡ refusal_of x y → whichever_of (two_of two) ≡ both nothings x y
+  both_read two read = ap whichever_of read ∙ whichever_both
+
+  -- the exit of a `?` after the reading of the two
+  pub both_refusal : {C : Type 0} (m : Misread) (r : Refusal) → two_of (Err m) ≡ refusal_of x y → Misreads m r → (f : A → B → Outcome C) → told (Err r) ≡ both f x y
+  both_refusal {C} m r read misreads f = rw misreads (go m read)
+    where
+      go : (m : Misread) → two_of (Err m) ≡ refusal_of x y → told (Err (refusal_in m)) ≡ both f x y
+      go (First q) e = sym (both-refused x y f (sym (both_read (Err (First q)) e)))
+      go (Second q) e = sym (both-refused x y f (sym (both_read (Err (Second q)) e)))
 
 -- ---- the type that begins some bytes
 
@@ -82,18 +101,3 @@ after_map f (stopped k p) = refl
 pub front_read : (s : List ℕ) (f : Ty → ℕ) {m : Read ℕ} → m ≡ map_read f (read_type s 0) → place_after m ≡ type_length s
 unfolding type_length
 front_read s f e = ap place_after e ∙ after_map f (read_type s 0)
-
--- ---- a lone type
-
-module _ (s : List ℕ) (f : Ty → ℕ) where
-  pub lone-trailing : {v n : ℕ} → map_read f (read_type s 0) ≡ got v n → n < length s → mapped nothing (lone s) ≡ refused trailing n
-  unfolding lone
-  lone-trailing {v} {n} e h = got-map f (read_type s 0) e λ t g _. rw (g, lt-ltb n (length s) h)
-
-  pub lone-whole : {v n : ℕ} → map_read f (read_type s 0) ≡ got v n → length s ≤ n → mapped nothing (lone s) ≡ accepted 0
-  unfolding lone
-  lone-whole {v} {n} e h = got-map f (read_type s 0) e λ t g _. rw (g, le-ltb n (length s) h)
-
-  pub lone-stopped : {k p : ℕ} → map_read f (read_type s 0) ≡ stopped k p → mapped nothing (lone s) ≡ refused k p
-  unfolding lone
-  lone-stopped e = rw (stopped-map f (read_type s 0) e)

@@ -1,203 +1,195 @@
--- Types, scalars, boxes and fields: one law for each way out of a function.
-use Prim.Native.Nat.{ℕ, zero, suc, ◌-◌, ◌≤◌, ◌<◌}
+-- Types, scalars, boxes and fields that are passed over: how many types may still follow each. The first part of each law says
+-- nothing: it shows a tactic the reading to match.
+use Prim.Native.Nat.{ℕ, zero, suc, ◌-◌, ◌<◌}
 use native.Mathlib.Omega.{arith}
 use native.Mathlib.Nat.{sub-zero}
+use mathlib.Core.Bool.{Bool, true, false, cond}
 use mathlib.Core.List.{List}
-use mathlib.Core.Option.{Option, none, some}
-use mathlib.Core.Path.{◌≡◌, refl, ◌∙◌, ap}
-use borrow.Author.Tests.{eq-eqb, ne_eqb}
+use mathlib.Core.Path.{◌≡◌, refl, ap}
+use lib.Dec.{eqb, leb}
+use borrow.Author.Tests.{eqb-false, lt-leb}
 use Rattle.model.specs.Limits.{max_name, max_fields}
 use Rattle.model.specs.Refusals.{out_of_range, too_many}
-use Rattle.model.specs.Types.{Shape, Kind, bool, nat, int, num, complex, ascii, char, stream, any, Scalar, plain, box_any, box_def, Fields, Ty, ty, box_of, field_of, types, inside, among}
-use Rattle.format.specs.Reader.{Read, got, stopped, Reader, and_then, map_read, give, stop, byte, judged}
-use Rattle.format.specs.Records.{scalar_mark, box_mark, box_code, kind_of, optional, list_count, is_count, is_optional, form, or_stop, read_mark, read_shape, read_name, read_fields, def_from, all_from, box_from, scalar_from, read_ty}
+use Rattle.model.specs.Types.{Shape, Scalar, box_any, box_def, Fields, Ty, ty, box_of, field_of, types, inside, among}
+use Rattle.format.specs.Reader.{Read, got, stopped, Reader, and_then, map_read, give, stop, here, byte, judged}
+use Rattle.format.specs.Records.{scalar_mark, box_mark, box_code, kind_of, optional, list_count, is_count, is_optional, form, read_mark, read_shape, read_name, read_fields, def_from, all_from, box_from, plain_from, scalar_from, read_ty}
 use Rattle.record.specs.Answers.{nothing}
-use Rattle.record.proofs.ReadingLaws.{stopped-map, got-map}
-use Rattle.record.proofs.ShapeLaws.{passed_over}
 
--- ---- codes
+-- ---- types
 
-kind-there : (c : ℕ) → c ≤ 9 → (c ≡ box_code → ⊥) → (k : Kind) × (kind_of c ≡ some k)
-unfolding kind_of
-kind-there zero h e = (bool, refl)
-kind-there (suc zero) h e = (nat, refl)
-kind-there (suc (suc zero)) h e = (int, refl)
-kind-there (suc (suc (suc zero))) h e = (num, refl)
-kind-there (suc (suc (suc (suc zero)))) h e = (complex, refl)
-kind-there (suc (suc (suc (suc (suc zero))))) h e = (ascii, refl)
-kind-there (suc (suc (suc (suc (suc (suc zero)))))) h e = (char, refl)
-kind-there (suc (suc (suc (suc (suc (suc (suc zero))))))) h e = (stream, refl)
-kind-there (suc (suc (suc (suc (suc (suc (suc (suc zero)))))))) h e = absurd (e refl)
-kind-there (suc (suc (suc (suc (suc (suc (suc (suc (suc zero))))))))) h e = (any, refl)
-kind-there (suc (suc (suc (suc (suc (suc (suc (suc (suc (suc c)))))))))) h e = absurd (omega arith)
+module _ (s : List ℕ) (d n at : ℕ) where
+  -- A type at most d deep, of at most n types, is passed over as r.
+  abbrev Passes : Read ℕ → Type 0
+  Passes r = (read_ty s d n at ≡ read_ty s d n at) × (map_read (λ t. n - types t) (read_ty s d n at) ≡ r)
 
-kind-none : (c : ℕ) → 9 < c → kind_of c ≡ none
-unfolding kind_of
-kind-none zero h = absurd (omega arith)
-kind-none (suc zero) h = absurd (omega arith)
-kind-none (suc (suc zero)) h = absurd (omega arith)
-kind-none (suc (suc (suc zero))) h = absurd (omega arith)
-kind-none (suc (suc (suc (suc zero)))) h = absurd (omega arith)
-kind-none (suc (suc (suc (suc (suc zero))))) h = absurd (omega arith)
-kind-none (suc (suc (suc (suc (suc (suc zero)))))) h = absurd (omega arith)
-kind-none (suc (suc (suc (suc (suc (suc (suc zero))))))) h = absurd (omega arith)
-kind-none (suc (suc (suc (suc (suc (suc (suc (suc zero)))))))) h = absurd (omega arith)
-kind-none (suc (suc (suc (suc (suc (suc (suc (suc (suc zero))))))))) h = absurd (omega arith)
-kind-none (suc (suc (suc (suc (suc (suc (suc (suc (suc (suc c)))))))))) h = refl
-
-module _ (s : List ℕ) where
-  -- ---- types
-
-  pub type-deep : (d n at : ℕ) → d ≡ 0 → map_read (λ t. n - types t) (read_ty s d n at) ≡ stopped too_many at
+  pub type_deep : d ≡ 0 → Passes (stopped too_many at)
   unfolding read_ty
-  type-deep d n at e = rw e
+  type_deep e = (refl, rw e)
 
-  pub type-many : (d n at : ℕ) → n ≡ 0 → map_read (λ t. n - types t) (read_ty s d n at) ≡ stopped too_many at
+  pub type_many : n ≡ 0 → Passes (stopped too_many at)
   unfolding read_ty
-  type-many zero n at e = refl
-  type-many (suc d) n at e = rw e
+  type_many e = (refl, go d n e)
+    where
+      go : (d n : ℕ) → n ≡ 0 → map_read (λ t. n - types t) (read_ty s d n at) ≡ stopped too_many at
+      go zero n e = refl
+      go (suc d) n e = rw e
 
-  module _ (d n at : ℕ) (deep : d ≡ 0 → ⊥) (many : n ≡ 0 → ⊥) where
-    type-from : read_ty s d n at ≡ and_then (read_shape s at) (λ t m. and_then (scalar_from s (read_ty s (d - 1)) (n - 1) m m) (λ k. give (ty t k)))
-    unfolding read_ty
-    type-from = go d n deep many
-      where
-        go : (d n : ℕ) → (d ≡ 0 → ⊥) → (n ≡ 0 → ⊥) → read_ty s d n at ≡ and_then (read_shape s at) (λ t m. and_then (scalar_from s (read_ty s (d - 1)) (n - 1) m m) (λ k. give (ty t k)))
-        go zero n e f = absurd (e refl)
-        go (suc d) zero e f = absurd (f refl)
-        go (suc d) (suc n) e f =
-            let x : suc d - 1 ≡ d = omega arith in
-            let y : suc n - 1 ≡ n = omega arith in
-            rw (x, y)
+  pub type_passed : 0 < d → 0 < n → Passes (and_then (map_read nothing (read_shape s at)) (λ _ m. map_read (λ k. (n - 1) - inside k) (scalar_from s (read_ty s (d - 1)) (n - 1) m m)))
+  unfolding read_ty
+  type_passed deep many = (refl, go d n deep many)
+    where
+      last : (n : ℕ) (t : Shape) (r : Read Scalar) → map_read (λ t. suc n - types t) (and_then r (λ k. give (ty t k))) ≡ map_read (λ k. n - inside k) r
+      last n t (got k m) = ap (λ v. got v m) (omega arith)
+      last n t (stopped j q) = refl
 
-    pub type_unshaped : {k q : ℕ} → map_read nothing (read_shape s at) ≡ stopped k q → map_read (λ t. n - types t) (read_ty s d n at) ≡ stopped k q
-    type_unshaped e = rw (type-from, stopped-map nothing (read_shape s at) e)
+      first :
+          (d n : ℕ) (r : Read Shape) →
+          map_read (λ t. suc n - types t) (and_then r (λ t m. and_then (scalar_from s (read_ty s d) n m m) (λ k. give (ty t k))))
+          ≡ and_then (map_read nothing r) (λ _ m. map_read (λ k. n - inside k) (scalar_from s (read_ty s d) n m m))
+      first d n (got t m) = last n t (scalar_from s (read_ty s d) n m m)
+      first d n (stopped j q) = refl
 
-    pub type-shaped : {u m : ℕ} → map_read nothing (read_shape s at) ≡ got u m → map_read (λ t. n - types t) (read_ty s d n at) ≡ map_read (λ k. (n - 1) - inside k) (scalar_from s (read_ty s (d - 1)) (n - 1) m m)
-    type-shaped {u} {m} e = got-map nothing (read_shape s at) e λ t f _. rw (type-from, f) (go t (scalar_from s (read_ty s (d - 1)) (n - 1) m m))
-      where
-        go : (t : Shape) (r : Read Scalar) → map_read (λ t. n - types t) (and_then r (λ k. give (ty t k))) ≡ map_read (λ k. (n - 1) - inside k) r
-        go t (got k m') = ap (λ v. got v m') (omega arith)
-        go t (stopped j q) = refl
+      go : (d n : ℕ) → 0 < d → 0 < n → map_read (λ t. n - types t) (read_ty s d n at) ≡ and_then (map_read nothing (read_shape s at)) (λ _ m. map_read (λ k. (n - 1) - inside k) (scalar_from s (read_ty s (d - 1)) (n - 1) m m))
+      go zero n e f = absurd (omega arith)
+      go (suc d) zero e f = absurd (omega arith)
+      go (suc d) (suc n) e f =
+          let x : suc d - 1 ≡ d = omega arith in
+          let y : suc n - 1 ≡ n = omega arith in
+          rw (x, y) (first d n (read_shape s at))
 
-  -- ---- scalars; `go n` reads a type of at most n types
+-- ---- scalars; `go n` reads a type of at most n types
 
-  module _ (go : ℕ → Reader Ty) (n : ℕ) where
-    abbrev Left : Read Scalar → Read ℕ
-    Left r = map_read (λ k. n - inside k) r
+-- what follows the code of a kind that is no box's
+plain_passed : (s : List ℕ) (n c p at : ℕ) → (c ≡ box_code → ⊥) → map_read (λ k. n - inside k) (plain_from s c p at) ≡ cond (leb c 9) (got n at) (stopped out_of_range p)
+unfolding inside kind_of
+plain_passed s n zero p at e = rw sub-zero
+plain_passed s n (suc zero) p at e = rw sub-zero
+plain_passed s n (suc (suc zero)) p at e = rw sub-zero
+plain_passed s n (suc (suc (suc zero))) p at e = rw sub-zero
+plain_passed s n (suc (suc (suc (suc zero)))) p at e = rw sub-zero
+plain_passed s n (suc (suc (suc (suc (suc zero))))) p at e = rw sub-zero
+plain_passed s n (suc (suc (suc (suc (suc (suc zero)))))) p at e = rw sub-zero
+plain_passed s n (suc (suc (suc (suc (suc (suc (suc zero))))))) p at e = rw sub-zero
+plain_passed s n (suc (suc (suc (suc (suc (suc (suc (suc zero)))))))) p at e = absurd (e refl)
+plain_passed s n (suc (suc (suc (suc (suc (suc (suc (suc (suc zero))))))))) p at e = rw sub-zero
+plain_passed s n (suc (suc (suc (suc (suc (suc (suc (suc (suc (suc c)))))))))) p at e = let past : leb (suc (suc (suc (suc (suc (suc (suc (suc (suc (suc c)))))))))) 9 ≡ false = lt-leb _ 9 (omega arith) in rw past
 
-    module _ (at : ℕ) where
-      pub scalar-unmarked : {k q : ℕ} → map_read nothing (read_mark s scalar_mark at at) ≡ stopped k q → Left (scalar_from s go n at at) ≡ stopped k q
-      unfolding scalar_from
-      scalar-unmarked e = rw (stopped-map nothing (read_mark s scalar_mark at at) e)
+module _ (s : List ℕ) (go : ℕ → Reader Ty) (n at : ℕ) where
+  -- what follows a scalar's mark, read and passed over
+  abbrev coded : Read ℕ → Read Scalar
+  coded r = and_then r (λ c. cond (eqb c box_code) (here (box_from s go n)) (plain_from s c at))
 
-      module _ {u a : ℕ} (marked : map_read nothing (read_mark s scalar_mark at at) ≡ got u a) where
-        pub scalar-ended : {k q : ℕ} → byte s at a ≡ stopped k q → Left (scalar_from s go n at at) ≡ stopped k q
-        unfolding scalar_from
-        scalar-ended e = rw (passed_over (read_mark s scalar_mark at at) marked, e)
+  abbrev past_code : Read ℕ → Read ℕ
+  past_code r = and_then r (λ c b. cond (eqb c box_code) (map_read (λ k. n - inside k) (box_from s go n b b)) (cond (leb c 9) (got n b) (stopped out_of_range at)))
 
-        module _ {c b : ℕ} (coded : byte s at a ≡ got c b) where
-          pub scalar-boxed : c ≡ box_code → Left (scalar_from s go n at at) ≡ Left (box_from s go n b b)
-          unfolding scalar_from
-          scalar-boxed e = rw (passed_over (read_mark s scalar_mark at at) marked, coded, eq-eqb c box_code e)
+  code_passed : (r : Read ℕ) → map_read (λ k. n - inside k) (coded r) ≡ past_code r
+  code_passed (got c b) = kind (eqb c box_code) refl
+    where
+      kind : (t : Bool) → eqb c box_code ≡ t → map_read (λ k. n - inside k) (cond t (here (box_from s go n)) (plain_from s c at) b) ≡ cond t (map_read (λ k. n - inside k) (box_from s go n b b)) (cond (leb c 9) (got n b) (stopped out_of_range at))
+      kind true e = refl
+      kind false e = plain_passed s n c at b (eqb-false c box_code e)
+  code_passed (stopped k q) = refl
 
-          scalar-plain : (o : Option Kind) → kind_of c ≡ o → (c ≡ box_code → ⊥) → Left (scalar_from s go n at at) ≡ Left (and_then (or_stop o out_of_range at b) (λ k. give (plain k)))
-          unfolding scalar_from
-          scalar-plain o f e = rw (passed_over (read_mark s scalar_mark at at) marked, coded, ne_eqb c box_code e, f)
+  pub scalar_passed : (scalar_from s go n at at ≡ scalar_from s go n at at) × (map_read (λ k. n - inside k) (scalar_from s go n at at) ≡ and_then (read_mark s scalar_mark at at) (λ _ a. past_code (byte s at a)))
+  unfolding scalar_from
+  scalar_passed = (refl, marked (read_mark s scalar_mark at at))
+    where
+      marked : (r : Read (Unit {0})) → map_read (λ k. n - inside k) (and_then r (λ _ a. coded (byte s at a))) ≡ and_then r (λ _ a. past_code (byte s at a))
+      marked (got u a) = code_passed (byte s at a)
+      marked (stopped k q) = refl
 
-          pub scalar-kind : (c ≡ box_code → ⊥) → c ≤ 9 → Left (scalar_from s go n at at) ≡ got n b
-          unfolding inside
-          scalar-kind e h = let (k, f) = kind-there c h e in scalar-plain (some k) f e ∙ rw sub-zero
+  -- ---- boxes
 
-          pub scalar-unknown : 9 < c → Left (scalar_from s go n at at) ≡ stopped out_of_range at
-          scalar-unknown h = scalar-plain none (kind-none c h) (λ e. omega arith)
+  -- what follows a box's mark
+  abbrev formed : Read ℕ → Read Scalar
+  formed r = and_then r (λ c b. form c (give box_any) (all_from s go n) (def_from s go n at) (stop out_of_range at) b)
 
-      -- ---- boxes
+  abbrev past_form : Read ℕ → Read ℕ
+  past_form r = and_then r (λ c b. form c (got n b) (map_read (λ t. n - types t) (go n b)) (map_read (λ k. n - inside k) (def_from s go n at b)) (stopped out_of_range at))
 
-      pub box-unmarked : {k q : ℕ} → map_read nothing (read_mark s box_mark at at) ≡ stopped k q → Left (box_from s go n at at) ≡ stopped k q
-      unfolding box_from
-      box-unmarked e = rw (stopped-map nothing (read_mark s box_mark at at) e)
+  form_passed : (r : Read ℕ) → map_read (λ k. n - inside k) (formed r) ≡ past_form r
+  unfolding inside
+  form_passed (got zero b) = rw sub-zero
+  form_passed (got (suc zero) b) = content (go n b)
+    where
+      content : (r : Read Ty) → map_read (λ k. n - inside k) (and_then r (λ t. give (box_of t))) ≡ map_read (λ t. n - types t) r
+      content (got (ty t k) m) = refl
+      content (stopped j q) = refl
+  form_passed (got (suc (suc zero)) b) = refl
+  form_passed (got (suc (suc (suc c))) b) = refl
+  form_passed (stopped k q) = refl
 
-      module _ {u a : ℕ} (marked : map_read nothing (read_mark s box_mark at at) ≡ got u a) where
-        pub box-ended : {k q : ℕ} → byte s at a ≡ stopped k q → Left (box_from s go n at at) ≡ stopped k q
-        unfolding box_from
-        box-ended e = rw (passed_over (read_mark s box_mark at at) marked, e)
+  pub box_passed : (box_from s go n at at ≡ box_from s go n at at) × (map_read (λ k. n - inside k) (box_from s go n at at) ≡ and_then (read_mark s box_mark at at) (λ _ a. past_form (byte s at a)))
+  unfolding box_from
+  box_passed = (refl, marked (read_mark s box_mark at at))
+    where
+      marked : (r : Read (Unit {0})) → map_read (λ k. n - inside k) (and_then r (λ _ a. formed (byte s at a))) ≡ and_then r (λ _ a. past_form (byte s at a))
+      marked (got u a) = form_passed (byte s at a)
+      marked (stopped k q) = refl
 
-        module _ {c b : ℕ} (coded : byte s at a ≡ got c b) where
-          box-formed : Left (box_from s go n at at) ≡ Left (form c (give box_any) (all_from s go n) (def_from s go n at) (stop out_of_range at) b)
-          unfolding box_from
-          box-formed = rw (passed_over (read_mark s box_mark at at) marked, coded)
+-- ---- the rest of a Def, whose box begins at p
 
-          pub box-any : c ≡ 0 → Left (box_from s go n at at) ≡ got n b
-          unfolding inside
-          box-any e = box-formed ∙ rw (e, sub-zero)
+module _ (s : List ℕ) (go : ℕ → Reader Ty) (n p at : ℕ) where
+  -- what follows the count of its fields
+  abbrev counted : ℕ → List ℕ → Read ℕ → Read Scalar
+  counted c name r = and_then r (λ k d. and_then (read_fields s go k n d) (λ f. give (box_def (optional c name) f)))
 
-          pub box-all : c ≡ 1 → Left (box_from s go n at at) ≡ map_read (λ t. n - types t) (go n b)
-          unfolding inside
-          box-all e = box-formed ∙ rw e (content (go n b))
-            where
-              content : (r : Read Ty) → Left (and_then r (λ t. give (box_of t))) ≡ map_read (λ t. n - types t) r
-              content (got (ty t k) m) = refl
-              content (stopped j q) = refl
+  abbrev past_count : Read ℕ → Read ℕ
+  past_count r = and_then r (λ k d. map_read (λ f. n - among f) (read_fields s go k n d))
 
-          pub box-def : c ≡ 2 → Left (box_from s go n at at) ≡ Left (def_from s go n at b)
-          box-def e = box-formed ∙ rw e
+  count_passed : (c : ℕ) (name : List ℕ) (r : Read ℕ) → map_read (λ k. n - inside k) (counted c name r) ≡ past_count r
+  unfolding inside
+  count_passed c name (got k d) = fields (read_fields s go k n d)
+    where
+      fields : (r : Read Fields) → map_read (λ k. n - inside k) (and_then r (λ f. give (box_def (optional c name) f))) ≡ map_read (λ f. n - among f) r
+      fields (got f m) = refl
+      fields (stopped j q) = refl
+  count_passed c name (stopped k q) = refl
 
-          pub box-unformed : (c ≡ 0 → ⊥) → (c ≡ 1 → ⊥) → (c ≡ 2 → ⊥) → Left (box_from s go n at at) ≡ stopped out_of_range at
-          box-unformed e f g = box-formed ∙ unformed c e f g
-            where
-              unformed : (c : ℕ) → (c ≡ 0 → ⊥) → (c ≡ 1 → ⊥) → (c ≡ 2 → ⊥) → Left (form c (give box_any) (all_from s go n) (def_from s go n at) (stop out_of_range at) b) ≡ stopped out_of_range at
-              unformed zero e f g = absurd (e refl)
-              unformed (suc zero) e f g = absurd (f refl)
-              unformed (suc (suc zero)) e f g = absurd (g refl)
-              unformed (suc (suc (suc c))) e f g = refl
+  pub def_passed :
+      (def_from s go n p at ≡ def_from s go n p at)
+      × (map_read (λ k. n - inside k) (def_from s go n p at)
+      ≡ and_then (judged s (is_optional max_name) p at) (λ c a. and_then (map_read nothing (read_name s (list_count c) p a)) (λ _ b. past_count (judged s (is_count max_fields) p b))))
+  unfolding def_from
+  def_passed = (refl, lengthened (judged s (is_optional max_name) p at))
+    where
+      named : (c : ℕ) (r : Read (List ℕ)) → map_read (λ k. n - inside k) (and_then r (λ name b. counted c name (judged s (is_count max_fields) p b))) ≡ and_then (map_read nothing r) (λ _ b. past_count (judged s (is_count max_fields) p b))
+      named c (got name b) = count_passed c name (judged s (is_count max_fields) p b)
+      named c (stopped k q) = refl
 
-    -- ---- the rest of a Def, whose box begins at p
+      lengthened :
+          (r : Read ℕ) →
+          map_read (λ k. n - inside k) (and_then r (λ c a. and_then (read_name s (list_count c) p a) (λ name b. counted c name (judged s (is_count max_fields) p b))))
+          ≡ and_then r (λ c a. and_then (map_read nothing (read_name s (list_count c) p a)) (λ _ b. past_count (judged s (is_count max_fields) p b)))
+      lengthened (got c a) = named c (read_name s (list_count c) p a)
+      lengthened (stopped k q) = refl
 
-    module _ (p at : ℕ) where
-      pub def-unnamed : {k q : ℕ} → judged s (is_optional max_name) p at ≡ stopped k q → Left (def_from s go n p at) ≡ stopped k q
-      unfolding def_from
-      def-unnamed e = rw e
+-- ---- fields: by the first of some, and where none is left
 
-      module _ {c a l : ℕ} (length : judged s (is_optional max_name) p at ≡ got c a) (counted : l ≡ list_count c) where
-        pub def_misnamed : {k q : ℕ} → map_read nothing (read_name s l p a) ≡ stopped k q → Left (def_from s go n p at) ≡ stopped k q
-        unfolding def_from
-        def_misnamed e = rw (length, ← counted, stopped-map nothing (read_name s l p a) e)
+module _ (s : List ℕ) (go : ℕ → Reader Ty) (k n at : ℕ) where
+  -- As many fields as k are passed over as r.
+  abbrev Follow : Read ℕ → Type 0
+  Follow r = (read_fields s go k n at ≡ read_fields s go k n at) × (map_read (λ f. n - among f) (read_fields s go k n at) ≡ r)
 
-        module _ {u b : ℕ} (named : map_read nothing (read_name s l p a) ≡ got u b) where
-          pub def_uncounted : {k q : ℕ} → judged s (is_count max_fields) p b ≡ stopped k q → Left (def_from s go n p at) ≡ stopped k q
-          unfolding def_from
-          def_uncounted e = got-map nothing (read_name s l p a) named λ name f _. rw (length, ← counted, f, e)
+  pub fields_end : k ≡ 0 → Follow (got n at)
+  unfolding read_fields among
+  fields_end e = (refl, rw (e, sub-zero))
 
-          pub def-counted : {k d : ℕ} → judged s (is_count max_fields) p b ≡ got k d → Left (def_from s go n p at) ≡ map_read (λ f. n - among f) (read_fields s go k n d)
-          unfolding def_from inside
-          def-counted {k} {d} e = got-map nothing (read_name s l p a) named λ name f _. rw (length, ← counted, f, e) (fields name (read_fields s go k n d))
-            where
-              fields : (name : List ℕ) (r : Read Fields) → Left (and_then r (λ f. give (box_def (optional c name) f))) ≡ map_read (λ f. n - among f) r
-              fields name (got f m) = refl
-              fields name (stopped j q) = refl
+  pub fields_step : 0 < k → Follow (and_then (map_read (λ t. n - types t) (go n at)) (λ m next. map_read (λ f. m - among f) (read_fields s go (k - 1) m next)))
+  unfolding read_fields among
+  fields_step h = (refl, count k h)
+    where
+      rest : (t : Ty) (r : Read Fields) → map_read (λ f. n - among f) (and_then r (λ f. give (field_of t f))) ≡ map_read (λ f. (n - types t) - among f) r
+      rest (ty t k) (got f q) = ap (λ v. got v q) (omega arith)
+      rest t (stopped j q) = refl
 
-  -- ---- fields
+      first :
+          (k : ℕ) (r : Read Ty) →
+          map_read (λ f. n - among f) (and_then r (λ t m. and_then (read_fields s go k (n - types t) m) (λ f. give (field_of t f))))
+          ≡ and_then (map_read (λ t. n - types t) r) (λ m next. map_read (λ f. m - among f) (read_fields s go k m next))
+      first k (got t m) = rest t (read_fields s go k (n - types t) m)
+      first k (stopped j q) = refl
 
-  module _ (go : ℕ → Reader Ty) where
-    pub fields-end : (k n at : ℕ) → k ≡ 0 → map_read (λ f. n - among f) (read_fields s go k n at) ≡ got n at
-    unfolding read_fields among
-    fields-end k n at e = rw (e, sub-zero)
-
-    pub fields-stop : (k n at : ℕ) {j q : ℕ} → 0 < k → map_read (λ t. n - types t) (go n at) ≡ stopped j q → map_read (λ f. n - among f) (read_fields s go k n at) ≡ stopped j q
-    unfolding read_fields
-    fields-stop zero n at h e = absurd (omega arith)
-    fields-stop (suc k) n at h e = rw (stopped-map (λ t. n - types t) (go n at) e)
-
-    rest-of_fields : (n m : ℕ) (t : Ty) (r : Read Fields) → n - types t ≡ m → map_read (λ f. n - among f) (and_then r (λ f. give (field_of t f))) ≡ map_read (λ f. m - among f) r
-    unfolding among
-    rest-of_fields n m (ty t k) (got f q) e = ap (λ v. got v q) (omega arith)
-    rest-of_fields n m t (stopped j q) e = refl
-
-    pub fields-more : (k n at : ℕ) {m next : ℕ} → 0 < k → map_read (λ t. n - types t) (go n at) ≡ got m next → map_read (λ f. n - among f) (read_fields s go k n at) ≡ map_read (λ f. m - among f) (read_fields s go (k - 1) m next)
-    unfolding read_fields
-    fields-more zero n at h e = absurd (omega arith)
-    fields-more (suc k) n at {m} {next} h e =
-        got-map (λ t. n - types t) (go n at) e λ t f g.
-        let x : suc k - 1 ≡ k = omega arith in
-        rw (f, x, ← g) (rest-of_fields n (n - types t) t (read_fields s go k (n - types t) next) refl)
+      count : (k : ℕ) → 0 < k → map_read (λ f. n - among f) (read_fields s go k n at) ≡ and_then (map_read (λ t. n - types t) (go n at)) (λ m next. map_read (λ f. m - among f) (read_fields s go (k - 1) m next))
+      count zero h = absurd (omega arith)
+      count (suc k) h = let x : suc k - 1 ≡ k = omega arith in rw x (first k (go n at))

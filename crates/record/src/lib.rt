@@ -8,18 +8,14 @@ mod types;
 mod whole;
 
 ghost use Rattle.std.specs.Prelude.{◌≡◌};
+ghost use Rattle.record.specs.Answers.{Misreads};
 
-pub use bytes::{list_count, number_at, read_name, wide};
+pub use bytes::{list_count, number_at, read_name};
 use limits::MAX_SIZES;
+use limits::refusal::Refusal;
+use std::convert::From;
 pub use types::read_type;
-pub use whole::{read_front, read_lone, read_two, whichever};
-
-// A value with the place after it, or a refusal's number and place.
-#[derive(Clone, Copy)]
-pub enum Reading {
-    Got { value: u64, next: usize },
-    Refused { number: u8, place: usize },
-}
+pub use whole::{read_front, read_lone, read_two};
 
 // A list of at most eight sizes: the first `count` of the array.
 #[derive(Clone, Copy)]
@@ -45,17 +41,21 @@ pub struct DynShape {
     pub closed: bool,
 }
 
-// A lone type, or its refusal.
-#[derive(Clone, Copy)]
-pub enum Lone {
-    Accepted,
-    Refused { number: u8, place: usize },
+// Which of two lone types is refused.
+#[derive(Clone, Copy, Debug, PartialEq, Eq)]
+pub enum Misread {
+    First(Refusal),
+    Second(Refusal),
 }
 
-// Two lone types, or the refusal of one of them.
-#[derive(Clone, Copy)]
-pub enum Two {
-    Accepted,
-    First { number: u8, place: usize },
-    Second { number: u8, place: usize },
+// For a call that need not say which.
+impl From<Misread> for Refusal {
+    ghost from_gives = { Misreads };
+
+    fn from(read: Misread) -> Refusal {
+        match read {
+            Misread::First(refusal) => refusal,
+            Misread::Second(refusal) => refusal,
+        }
+    }
 }

@@ -13,10 +13,10 @@ use Rattle.format.specs.Records.{write_ty}
 use Rattle.format.specs.Outcome.{accepted, refused}
 use Rattle.machine.specs.Call.{write_types}
 use Rattle.report.specs.Laid.{Laid}
-use Rattle.report.specs.Left.{LeftIs}
+use Rattle.report.specs.Left.{LeftIs, Left}
 use Rattle.report.specs.Report.{ok_word, no_word, headed, type_line, type_lines, reported}
 use Rattle.report.specs.Room.{head_room, line_room, lines_room, text_room}
-use Rattle.report.proofs.TextLaws.{laid_then, length-headed, length-type_line}
+use Rattle.report.proofs.TextLaws.{laid_then, length_headed, length_type_line}
 
 -- Of the types ts those from the i-th on, whose records begin at `from`, are to come; the text of those before ends at `end`.
 pub record Walked (n : ℕ) (s lengths between out₀ : List ℕ) (at : ℕ) (ts : List Ty) (out : List ℕ) (i from end : ℕ) : Type 0 where
@@ -35,8 +35,8 @@ add_sub : (m n : ℕ) → m + n - m ≡ n
 add_sub m n = omega arith
 
 module _ (n : ℕ) (s lengths between out₀ : List ℕ) (at : ℕ) (ts : List Ty) where
-  pub walk-starts : LeftIs s lengths n ts → Walked n s lengths between out₀ at ts out₀ 0 0 at
-  walk-starts h =
+  pub walk_starts : LeftIs s lengths n ts → Walked n s lengths between out₀ at ts out₀ 0 0 at
+  walk_starts h =
       record {
         rest = ts;
         text = [];
@@ -95,7 +95,7 @@ module _ (n : ℕ) (s lengths between out₀ : List ℕ) (at : ℕ) (ts : List T
                 count = count ∙ omega arith;
                 sizes = sizes;
                 many = w.many;
-                room = omega (arith, w.room, length-append w.text (type_line between i (write_ty t)), length-type_line between i (write_ty t), add-mul i 1 (length between));
+                room = omega (arith, w.room, length-append w.text (type_line between i (write_ty t)), length_type_line between i (write_ty t), add-mul i 1 (length between));
               };
             }
 
@@ -114,6 +114,42 @@ module _ (n : ℕ) (s lengths between out₀ : List ℕ) (at : ℕ) (ts : List T
       go [] lines count = rw (lines, append-nil w.text) w.laid
       go (t ∷ rest) lines count = absurd (omega arith)
 
+-- Of whatever types these bytes are, the first i are put.
+unfoldable pub Shown : ℕ → List ℕ → List ℕ → List ℕ → List ℕ → ℕ → List ℕ → ℕ → ℕ → ℕ → Type 0
+Shown n s lengths between out₀ at out i from end = (ts : List Ty) → LeftIs s lengths n ts → Walked n s lengths between out₀ at ts out i from end
+
+module _ (n : ℕ) (s lengths between out₀ : List ℕ) (at : ℕ) where
+  pub shown_none : Shown n s lengths between out₀ at out₀ 0 0 at
+  unfolding Shown
+  shown_none = walk_starts n s lengths between out₀ at
+
+  module _ (out : List ℕ) (i from end : ℕ) (w : Shown n s lengths between out₀ at out i from end) where
+    pub shown_all : n ≤ i → (ts : List Ty) → LeftIs s lengths n ts → Laid end at out₀ out (type_lines between 0 ts)
+    unfolding Shown
+    shown_all h ts k = walk_ends n s lengths between out₀ at ts out i from end h (w ts k)
+
+    module _ (left : Left s lengths n) (more : i < n) where
+      pub shown_many : i < length lengths
+      unfolding Shown
+      shown_many = omega (arith, (w left.types left.there).many)
+
+      module _ (fits : at + lines_room (length between) n (length s) ≤ length out₀) where
+        pub shown_inside : from + get_or lengths i 0 ≤ length s
+        unfolding Shown
+        shown_inside = (walk_due n s lengths between out₀ at left.types fits more (w left.types left.there)).inside
+
+        pub shown_room : end + line_room (length between) (get_or lengths i 0) ≤ length out₀
+        unfolding Shown
+        shown_room =
+            let due = walk_due n s lengths between out₀ at left.types fits more (w left.types left.there) in
+            omega (arith, due.room, due.inside, length-take (from + get_or lengths i 0 - from) (drop from s), length-drop from s)
+
+        pub shown_more : (e : ℕ) (out₁ : List ℕ) → Laid e end out out₁ (type_line between i (take (from + get_or lengths i 0 - from) (drop from s))) → Shown n s lengths between out₀ at out₁ (i + 1) (from + get_or lengths i 0) e
+        unfolding Shown
+        shown_more e out₁ l ts k = (walk_due n s lengths between out₀ at ts fits more (w ts k)).more e out₁ l
+
+pub ruleset showing = (shown_none, shown_many, shown_inside, shown_room, shown_more)
+
 -- ---- the whole text
 
 pub left_laid : (s lengths : List ℕ) (n : ℕ) (between : List ℕ) (ts : List Ty) (at : ℕ) (d : List ℕ) → LeftIs s lengths n ts → at + head_room ≤ length d
@@ -121,7 +157,7 @@ pub left_laid : (s lengths : List ℕ) (n : ℕ) (between : List ℕ) (ts : List
 unfolding reported
 left_laid s lengths n between ts at d h fits {m} {r} {d₁} {d₂} head lines =
     subst (λ w. Laid r at d d₂ (w ++ type_lines between 0 ts)) (ap (λ k. headed ok_word k (length s)) h.count ∙ ap (λ w. headed ok_word (length ts) (length w)) h.bytes)
-    (laid_then at d (headed ok_word n (length s)) (omega (arith, length-headed ok_word n (length s) refl)) head lines)
+    (laid_then at d (headed ok_word n (length s)) (omega (arith, length_headed ok_word n (length s) refl)) head lines)
 
 -- ---- how long the text is
 
@@ -131,13 +167,13 @@ length-type_lines between i [] = omega arith
 length-type_lines between i (t ∷ ts) =
     let first = length-append (type_line between i (write_ty t)) (type_lines between (suc i) ts) in
     let bytes = length-append (write_ty t) (write_types ts) in
-    omega (arith, first, bytes, length-type_line between i (write_ty t), length-type_lines between (suc i) ts, suc-mul (length ts) (length between))
+    omega (arith, first, bytes, length_type_line between i (write_ty t), length-type_lines between (suc i) ts, suc-mul (length ts) (length between))
 
 pub length-refused : (between : List ℕ) (k p : ℕ) → length (reported between (refused k p)) ≤ head_room
 unfolding reported
-length-refused between k p = length-headed no_word k p refl
+length-refused between k p = length_headed no_word k p refl
 
 pub length-accepted : (between : List ℕ) (ts : List Ty) → length (reported between (accepted ts)) ≤ text_room (length between) (length ts) (length (write_types ts))
 unfolding reported
 length-accepted between ts =
-    omega (arith, length-append (headed ok_word (length ts) (length (write_types ts))) (type_lines between 0 ts), length-headed ok_word (length ts) (length (write_types ts)) refl, length-type_lines between 0 ts)
+    omega (arith, length-append (headed ok_word (length ts) (length (write_types ts))) (type_lines between 0 ts), length_headed ok_word (length ts) (length (write_types ts)) refl, length-type_lines between 0 ts)

@@ -2,22 +2,27 @@
 ghost use Rattle.std.specs.Prelude.{◌≡◌, List, ℕ, ◌+◌, ◌*◌, ◌≤◌, length};
 ghost use Rattle.model.specs.Types.{Ty};
 ghost use Rattle.format.specs.Outcome.{accepted, refused};
+ghost use Rattle.limits.specs.Answers.{number_of};
 ghost use Rattle.report.specs.Laid.{Laid};
 ghost use Rattle.report.specs.Left.{LeftIs, Left};
 ghost use Rattle.report.specs.Report.{headed, type_line, type_lines, reported};
 ghost use Rattle.report.specs.Room.{head_room, line_room, lines_room, text_room};
 
 use crate::parts::{put, put_hex, put_number};
+use limits::refusal::Refusal;
 
 // A refusal.
-pub fn put_refusal(number: u64, place: u64, out: &mut [u8], at: usize) -> usize
+#[tactic(auto, unfolding(crate::specs::Report::reported))]
+pub fn put_refusal(refusal: Refusal, out: &mut [u8], at: usize) -> usize
     requires { at + head_room ≤ length out.old }
-    ensures { (between : List ℕ) → Laid result at out.old out.new (reported between (refused number place)) }
+    ensures { (between : List ℕ) → Laid result at out.old out.new (reported between (refused (number_of refusal.0) refusal.1)) }
 {
-    put_head(b"no ", number, place, out, at)
+    let Refusal(reason, place) = refusal;
+    put_head(b"no ", reason.number() as u64, place as u64, out, at)
 }
 
 // The types left, whose records stand one after the other in `bytes`, each of its length.
+#[tactic(auto, using(crate::proofs::TextLaws::length_headed))]
 pub fn put_left(
     types: usize,
     lengths: &[usize],
@@ -36,6 +41,7 @@ pub fn put_left(
 }
 
 // A word and two numbers.
+#[tactic(auto, using(crate::proofs::TextLaws::length_decimal))]
 fn put_head(word: &[u8], m: u64, n: u64, out: &mut [u8], at: usize) -> usize
     requires word_len { length word.now ≡ 3 }
     requires head_room_in_bounds { at + head_room ≤ length out.old }
@@ -48,6 +54,7 @@ fn put_head(word: &[u8], m: u64, n: u64, out: &mut [u8], at: usize) -> usize
 }
 
 // Type by type, from the bottom.
+#[tactic(auto, using(crate::proofs::LineLaws::showing))]
 fn put_types(
     types: usize,
     lengths: &[usize],
@@ -61,19 +68,18 @@ fn put_types(
     ensures { (ts : List Ty) → LeftIs bytes.now lengths.now types ts
         → Laid result at out.old out.new (type_lines between.now 0 ts) }
 {
-    let mut i = 0usize;
-    let mut from = 0usize;
+    let mut from = 0;
     let mut end = at;
-    while i < types {
+    for i in 0..types {
         let next = from + lengths[i];
         end = put_type(i, &bytes[from..next], between, &mut *out, end);
         from = next;
-        i += 1;
     }
     end
 }
 
 // A type's place from the bottom and its bytes.
+#[tactic(auto, using(crate::proofs::TextLaws::length_decimal))]
 fn put_type(place: usize, bytes: &[u8], between: &[u8], out: &mut [u8], at: usize) -> usize
     requires { at + line_room (length between.now) (length bytes.now) ≤ length out.old }
     ensures { Laid result at out.old out.new (type_line between.now place bytes.now) }

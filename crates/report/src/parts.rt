@@ -5,7 +5,7 @@ ghost use Rattle.report.specs.Room.{number_room};
 ghost use Rattle.report.specs.Laid.{Laid};
 
 use lent::lay;
-use text::{Rendered, put_decimal};
+use text::put_decimal;
 
 pub fn put(bytes: &[u8], out: &mut [u8], at: usize) -> usize
     requires { at + length bytes.now ≤ length out.old }
@@ -15,24 +15,18 @@ pub fn put(bytes: &[u8], out: &mut [u8], at: usize) -> usize
     at + bytes.len()
 }
 
+#[tactic(auto, using(crate::proofs::TextLaws::number_laid))]
 pub fn put_number(n: u64, out: &mut [u8], at: usize) -> usize
     requires { at + number_room ≤ length out.old }
     ensures { Laid result at out.old out.new (decimal_of n) }
 {
-    let placed = put_decimal(n, &mut *out, at);
-    match placed {
-        Rendered::To(next) => next,
-        Rendered::NoRoom => at,
-    }
+    put_decimal(n, &mut *out, at).unwrap_or(at)
 }
 
+#[tactic(auto, using(crate::proofs::TextLaws::hex_laid))]
 pub fn put_hex(bytes: &[u8], out: &mut [u8], at: usize) -> usize
     requires { at + 2 * length bytes.now ≤ length out.old }
     ensures { Laid result at out.old out.new (hex_of bytes.now) }
 {
-    let placed = text::put_hex(bytes, &mut *out, at);
-    match placed {
-        Rendered::To(next) => next,
-        Rendered::NoRoom => at,
-    }
+    text::put_hex(bytes, &mut *out, at).unwrap_or(at)
 }

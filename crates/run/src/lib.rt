@@ -4,19 +4,18 @@
 mod sheet;
 
 pub use sheet::{check_sheet, measure_sheet};
-use step::Reached;
 
-// What a call answers: how many types are left and their bytes in all, or the refusal.
-#[derive(Clone, Copy)]
-pub enum SheetAnswer {
-    Accepted { types: usize, bytes: usize },
-    Refused { number: u8, place: usize },
+// What a sheet leaves: so many types, and their bytes in all.
+#[derive(Clone, Copy, Debug, PartialEq, Eq)]
+pub struct Left {
+    pub types: usize,
+    pub bytes: usize,
 }
 
-// The place that the steps worked reached, or their refusal; how many types and names there then are, and how many steps were taken.
+// How far a sheet has come: the place reached, how many types and names there are, and how many steps were taken.
 #[derive(Clone, Copy)]
-pub struct Ran {
-    pub answer: Reached,
+pub struct Reached {
+    pub at: usize,
     pub count: usize,
     pub named: usize,
     pub taken: usize,

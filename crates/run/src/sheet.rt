@@ -11,18 +11,17 @@ ghost use Rattle.stack.specs.Stack.{memory, Stacked, HasStack, NoneInTray};
 ghost use Rattle.step.specs.Answers.{name_table};
 ghost use Rattle.run.specs.Answers.{InState, Runs, Measures, Answers, called_of};
 
-use crate::{Ran, SheetAnswer};
-use lent::Written;
-use limits::refusal::{OVERFLOW, TOO_SHORT};
+use crate::{Left, Reached};
+use limits::refusal::{Reason, Refusal};
 use limits::{MAX_BYTES, MAX_NAMES, MAX_STACK, MAX_STEPS, SCRATCH_BYTES};
 use stack::{SMALL_TRAYS, TRAYS, TRAYS_BYTES, clear, empty_trays, wants_trays, write_types};
-use step::{Reached, work_step};
+use step::work_step;
 
 // Bytes of the buffer that rules write to at first, as many as a small tray has: to zero MAX_BYTES takes as long as a step on small types.
 const SMALL_OUT: usize = SMALL_TRAYS / TRAYS;
 
 // Checks a sheet. The types left go to the result, bottom first; the scratch is zero afterwards, as far as it was asked for.
-pub fn check_sheet(sheet: &[u8], res: &mut [u8], scratch: &mut [u8]) -> SheetAnswer
+pub fn check_sheet(sheet: &[u8], res: &mut [u8], scratch: &mut [u8]) -> Result<Left, Refusal>
     ensures { called_of result res.new scratch.new ≡ sheet_call sheet.now res.old scratch.old }
 {
     let mut lengths = [0usize; MAX_STACK];
@@ -35,16 +34,13 @@ pub fn measure_sheet(
     res: &mut [u8],
     scratch: &mut [u8],
     lengths: &mut [usize],
-) -> SheetAnswer
+) -> Result<Left, Refusal>
     requires { max_stack ≤ length lengths.old }
     ensures scratch_after { called_of result res.new scratch.new ≡ sheet_call sheet.now res.old scratch.old }
     ensures measures { Measures result lengths.new (sheet_run sheet.now) }
 {
     if scratch.len() < SCRATCH_BYTES {
-        return SheetAnswer::Refused {
-            number: TOO_SHORT,
-            place: 0,
-        };
+        return Err(Refusal(Reason::TooShort, 0));
     }
     let answer = run_sheet(
         sheet,
@@ -57,18 +53,28 @@ pub fn measure_sheet(
 }
 
 // The answer and the result; what the scratch then has is left open. Buffers are made where there is a step to use them.
-fn run_sheet(sheet: &[u8], res: &mut [u8], scratch: &mut [u8], lengths: &mut [usize]) -> SheetAnswer
+fn run_sheet(
+    sheet: &[u8],
+    res: &mut [u8],
+    scratch: &mut [u8],
+    lengths: &mut [usize],
+) -> Result<Left, Refusal>
     requires { (max_stack ≤ length lengths.old) × (scratch_bytes ≤ length scratch.old) }
     ensures { Answers result res.new lengths.new sheet.now res.old }
 {
     if sheet.len() == 0 {
-        return SheetAnswer::Accepted { types: 0, bytes: 0 };
+        return Ok(Left { types: 0, bytes: 0 });
     }
     run_small(sheet, &mut *res, &mut *scratch, &mut *lengths)
 }
 
 // The same with small trays and a small buffer, as far as they go.
-fn run_small(sheet: &[u8], res: &mut [u8], scratch: &mut [u8], lengths: &mut [usize]) -> SheetAnswer
+fn run_small(
+    sheet: &[u8],
+    res: &mut [u8],
+    scratch: &mut [u8],
+    lengths: &mut [usize],
+) -> Result<Left, Refusal>
     requires { (max_stack ≤ length lengths.old) × (scratch_bytes ≤ length scratch.old) }
     ensures { Answers result res.new lengths.new sheet.now res.old }
 {
@@ -77,12 +83,15 @@ fn run_small(sheet: &[u8], res: &mut [u8], scratch: &mut [u8], lengths: &mut [us
     let mut bounds = [0usize; MAX_NAMES];
     let mut out = [0u8; SMALL_OUT];
     let mut trays = [0u8; SMALL_TRAYS];
-    let ran = run_steps(
+    let start = Reached {
+        at: 0,
+        count: 0,
+        named: 0,
+        taken: 0,
+    };
+    let reached = run_steps(
         sheet,
-        0,
-        0,
-        0,
-        0,
+        start,
         &mut ends,
         &mut *lengths,
         &mut places,
@@ -90,42 +99,35 @@ fn run_small(sheet: &[u8], res: &mut [u8], scratch: &mut [u8], lengths: &mut [us
         &mut trays,
         &mut *scratch,
         &mut out,
-    );
-    let answer = ran.answer;
-    let count = ran.count;
-    let named = ran.named;
-    let taken = ran.taken;
-    match answer {
-        Reached::At(at) => {
-            if sheet.len() <= at {
-                return hand_over(count, &ends, &*lengths, sheet, &trays, &*scratch, &mut *res);
-            }
-            run_roomy(
-                sheet,
-                at,
-                count,
-                named,
-                taken,
-                &mut ends,
-                &mut *lengths,
-                &mut places,
-                &mut bounds,
-                &mut trays,
-                &mut *scratch,
-                &mut *res,
-            )
-        }
-        Reached::Refused { number, place } => SheetAnswer::Refused { number, place },
+    )?;
+    if sheet.len() <= reached.at {
+        return hand_over(
+            reached.count,
+            &ends,
+            &*lengths,
+            sheet,
+            &trays,
+            &*scratch,
+            &mut *res,
+        );
     }
+    run_roomy(
+        sheet,
+        reached,
+        &mut ends,
+        &mut *lengths,
+        &mut places,
+        &mut bounds,
+        &mut trays,
+        &mut *scratch,
+        &mut *res,
+    )
 }
 
 // The rest of a sheet, from a step that waits for a longer buffer or a longer tray: the buffer first, which holds any type, and the same trays.
 fn run_roomy(
     sheet: &[u8],
-    at: usize,
-    count: usize,
-    named: usize,
-    taken: usize,
+    from: Reached,
     ends: &mut [usize],
     lengths: &mut [usize],
     places: &mut [usize],
@@ -133,20 +135,17 @@ fn run_roomy(
     trays: &mut [u8],
     scratch: &mut [u8],
     res: &mut [u8],
-) -> SheetAnswer
-    requires { HasStack (memory ends.old lengths.old sheet.now trays.old scratch.old) count × HasNames sheet.now places.old bounds.old named }
+) -> Result<Left, Refusal>
+    requires { HasStack (memory ends.old lengths.old sheet.now trays.old scratch.old) from.count × HasNames sheet.now places.old bounds.old from.named }
     ensures { (st : State Stack) → InState (memory ends.old lengths.old sheet.now trays.old scratch.old)
-        (name_table places.old bounds.old) count named taken st
-        → sheet_from sheet.now (fresh []) 0 ≡ sheet_from sheet.now st at
+        (name_table places.old bounds.old) from st
+        → sheet_from sheet.now (fresh []) 0 ≡ sheet_from sheet.now st from.at
         → Answers result res.new lengths.new sheet.now res.old }
 {
     let mut out = [0u8; MAX_BYTES];
-    let ran = run_steps(
+    let reached = run_steps(
         sheet,
-        at,
-        count,
-        named,
-        taken,
+        from,
         &mut *ends,
         &mut *lengths,
         &mut *places,
@@ -154,38 +153,25 @@ fn run_roomy(
         &mut *trays,
         &mut *scratch,
         &mut out,
-    );
-    let answer = ran.answer;
-    let left = ran.count;
-    let in_force = ran.named;
-    let steps = ran.taken;
-    match answer {
-        Reached::At(next) => run_rest(
-            sheet,
-            next,
-            left,
-            in_force,
-            steps,
-            &mut *ends,
-            &mut *lengths,
-            &mut *places,
-            &mut *bounds,
-            &*trays,
-            &mut *scratch,
-            &mut out,
-            &mut *res,
-        ),
-        Reached::Refused { number, place } => SheetAnswer::Refused { number, place },
-    }
+    )?;
+    run_rest(
+        sheet,
+        reached,
+        &mut *ends,
+        &mut *lengths,
+        &mut *places,
+        &mut *bounds,
+        &*trays,
+        &mut *scratch,
+        &mut out,
+        &mut *res,
+    )
 }
 
 // The rest of a sheet, from the place that was reached with small trays. If that is not its end, a type was too long for them.
 fn run_rest<'a>(
     sheet: &'a [u8],
-    at: usize,
-    count: usize,
-    named: usize,
-    taken: usize,
+    from: Reached,
     ends: &mut [usize],
     lengths: &mut [usize],
     places: &mut [usize],
@@ -194,24 +180,23 @@ fn run_rest<'a>(
     scratch: &mut [u8],
     out: &mut [u8],
     res: &mut [u8],
-) -> SheetAnswer
-    requires { (max_bytes ≤ length out.old) × HasStack (memory ends.old lengths.old sheet.now small.now scratch.old) count
-        × HasNames sheet.now places.old bounds.old named }
+) -> Result<Left, Refusal>
+    requires { (max_bytes ≤ length out.old) × HasStack (memory ends.old lengths.old sheet.now small.now scratch.old) from.count
+        × HasNames sheet.now places.old bounds.old from.named }
     ensures { (st : State Stack) → InState (memory ends.old lengths.old sheet.now small.now scratch.old)
-        (name_table places.old bounds.old) count named taken st
-        → sheet_from sheet.now (fresh []) 0 ≡ sheet_from sheet.now st at
+        (name_table places.old bounds.old) from st
+        → sheet_from sheet.now (fresh []) 0 ≡ sheet_from sheet.now st from.at
         → Answers result res.new lengths.new sheet.now res.old }
 {
-    if sheet.len() <= at {
-        return hand_over(count, &*ends, &*lengths, sheet, small, &*scratch, &mut *res);
+    if sheet.len() <= from.at {
+        return hand_over(
+            from.count, &*ends, &*lengths, sheet, small, &*scratch, &mut *res,
+        );
     }
-    empty_trays(count, &mut *ends, &*lengths, small, &mut *scratch);
+    empty_trays(from.count, &mut *ends, &*lengths, small, &mut *scratch);
     run_large(
         sheet,
-        at,
-        count,
-        named,
-        taken,
+        from,
         &mut *ends,
         &mut *lengths,
         &mut *places,
@@ -225,10 +210,7 @@ fn run_rest<'a>(
 // The rest of a sheet with trays that have room for any type and are empty.
 fn run_large(
     sheet: &[u8],
-    at: usize,
-    count: usize,
-    named: usize,
-    taken: usize,
+    from: Reached,
     ends: &mut [usize],
     lengths: &mut [usize],
     places: &mut [usize],
@@ -236,21 +218,18 @@ fn run_large(
     scratch: &mut [u8],
     out: &mut [u8],
     res: &mut [u8],
-) -> SheetAnswer
-    requires { (max_bytes ≤ length out.old) × ((h : List ℕ) × HasStack (memory ends.old lengths.old sheet.now h scratch.old) count)
-        × HasNames sheet.now places.old bounds.old named × NoneInTray ends.old count }
+) -> Result<Left, Refusal>
+    requires { (max_bytes ≤ length out.old) × ((h : List ℕ) × HasStack (memory ends.old lengths.old sheet.now h scratch.old) from.count)
+        × HasNames sheet.now places.old bounds.old from.named × NoneInTray ends.old from.count }
     ensures { (h : List ℕ) (st : State Stack) → InState (memory ends.old lengths.old sheet.now h scratch.old)
-        (name_table places.old bounds.old) count named taken st
-        → sheet_from sheet.now (fresh []) 0 ≡ sheet_from sheet.now st at
+        (name_table places.old bounds.old) from st
+        → sheet_from sheet.now (fresh []) 0 ≡ sheet_from sheet.now st from.at
         → Answers result res.new lengths.new sheet.now res.old }
 {
     let mut trays = [0u8; TRAYS_BYTES];
-    let ran = run_steps(
+    let reached = run_steps(
         sheet,
-        at,
-        count,
-        named,
-        taken,
+        from,
         &mut *ends,
         &mut *lengths,
         &mut *places,
@@ -258,13 +237,16 @@ fn run_large(
         &mut trays,
         &mut *scratch,
         &mut *out,
-    );
-    let answer = ran.answer;
-    let left = ran.count;
-    match answer {
-        Reached::At(_) => hand_over(left, &*ends, &*lengths, sheet, &trays, &*scratch, &mut *res),
-        Reached::Refused { number, place } => SheetAnswer::Refused { number, place },
-    }
+    )?;
+    hand_over(
+        reached.count,
+        &*ends,
+        &*lengths,
+        sheet,
+        &trays,
+        &*scratch,
+        &mut *res,
+    )
 }
 
 // The steps from a place on, one after the other, each from the state that the one before left, and the first from any state: so many
@@ -272,10 +254,7 @@ fn run_large(
 // for the trays, or a step waits for a longer buffer.
 fn run_steps(
     s: &[u8],
-    start: usize,
-    count: usize,
-    named: usize,
-    taken: usize,
+    from: Reached,
     ends: &mut [usize],
     lengths: &mut [usize],
     places: &mut [usize],
@@ -283,45 +262,28 @@ fn run_steps(
     trays: &mut [u8],
     scratch: &mut [u8],
     out: &mut [u8],
-) -> Ran
-    requires { HasStack (memory ends.old lengths.old s.now trays.old scratch.old) count
-        × HasNames s.now places.old bounds.old named }
+) -> Result<Reached, Refusal>
+    requires { HasStack (memory ends.old lengths.old s.now trays.old scratch.old) from.count
+        × HasNames s.now places.old bounds.old from.named }
     ensures { (st : State Stack) → InState (memory ends.old lengths.old s.now trays.old scratch.old)
-        (name_table places.old bounds.old) count named taken st
-        → Runs result.answer (memory ends.new lengths.new s.now trays.new scratch.new)
-        (name_table places.new bounds.new) result.count result.named result.taken out.new (sheet_from s.now st start) }
+        (name_table places.old bounds.old) from st
+        → Runs result (memory ends.new lengths.new s.now trays.new scratch.new)
+        (name_table places.new bounds.new) out.new (sheet_from s.now st from.at) }
 {
-    let mut height = count;
-    let mut in_force = named;
-    let mut steps = taken;
-    let mut at = start;
-    while at < s.len() {
-        if MAX_STEPS <= steps {
-            return Ran {
-                answer: Reached::Refused {
-                    number: OVERFLOW,
-                    place: at,
-                },
-                count: height,
-                named: in_force,
-                taken: steps,
-            };
+    let mut reached = from;
+    while reached.at < s.len() {
+        if MAX_STEPS <= reached.taken {
+            return Err(Refusal(Reason::Overflow, reached.at));
         }
-        if wants_trays(height, &*lengths, &*trays) {
+        if wants_trays(reached.count, &*lengths, &*trays) {
             // That this is not the end, the place says.
-            let stopped = Reached::At(at);
-            return Ran {
-                answer: stopped,
-                count: height,
-                named: in_force,
-                taken: steps,
-            };
+            return Ok(reached);
         }
         let worked = work_step(
             s,
-            at,
-            height,
-            in_force,
+            reached.at,
+            reached.count,
+            reached.named,
             &mut *ends,
             &mut *lengths,
             &mut *places,
@@ -329,37 +291,24 @@ fn run_steps(
             &mut *trays,
             &mut *scratch,
             &mut *out,
-        );
-        let answer = worked.answer;
-        let Reached::At(next) = answer else {
-            return Ran {
-                answer,
-                count: height,
-                named: in_force,
-                taken: steps,
-            };
-        };
-        height = worked.count;
-        in_force = worked.named;
-        if next == at {
+        )?;
+        if worked.at == reached.at {
             // The step waits, since none ends where it begins.
-            let waiting = Reached::At(at);
-            return Ran {
-                answer: waiting,
-                count: height,
-                named: in_force,
-                taken: steps,
-            };
+            return Ok(Reached {
+                at: worked.at,
+                count: worked.count,
+                named: worked.named,
+                taken: reached.taken,
+            });
         }
-        at = next;
-        steps += 1;
+        reached = Reached {
+            at: worked.at,
+            count: worked.count,
+            named: worked.named,
+            taken: reached.taken + 1,
+        };
     }
-    Ran {
-        answer: Reached::At(at),
-        count: height,
-        named: in_force,
-        taken: steps,
-    }
+    Ok(reached)
 }
 
 // The types left; a result too short for them is found last, at the sheet's length.
@@ -371,19 +320,16 @@ fn hand_over<'a>(
     trays: &'a [u8],
     scratch: &[u8],
     res: &mut [u8],
-) -> SheetAnswer
+) -> Result<Left, Refusal>
     requires { HasStack (memory ends.now lengths.now s.now trays.now scratch.now) count }
     ensures { (ts : Stack) → Stacked (memory ends.now lengths.now s.now trays.now scratch.now) count ts → sheet_run s.now ≡ accepted (reverse ts)
         → Answers result res.new lengths.now s.now res.old }
 {
     match write_types(count, ends, lengths, s, trays, scratch, &mut *res) {
-        Written::Wrote(n) => SheetAnswer::Accepted {
+        Ok(bytes) => Ok(Left {
             types: count,
-            bytes: n,
-        },
-        Written::Refused { number, place: _ } => SheetAnswer::Refused {
-            number,
-            place: s.len(),
-        },
+            bytes,
+        }),
+        Err(Refusal(reason, _)) => Err(Refusal(reason, s.len())),
     }
 }

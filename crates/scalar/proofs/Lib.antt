@@ -1,3 +1,4 @@
-pub mod CallLaws
 mod BoxLaws
+pub mod UnionLaws
 mod UnrefineLaws
+pub mod WholeLaws

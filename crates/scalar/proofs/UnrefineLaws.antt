@@ -2,33 +2,29 @@
 use Prim.Native.Nat.{ℕ, ◌+◌, ◌-◌, ◌≤◌, ◌<◌}
 use native.Mathlib.Omega.{arith}
 use native.Mathlib.Nat.{zero-add, add-zero}
-use mathlib.Core.Bool.{Bool}
+use mathlib.Core.Bool.{Bool, true, false, cond}
 use mathlib.Core.List.{List, [], ◌∷◌, ◌++◌, append_assoc}
 use mathlib.Core.Option.{Option}
 use mathlib.Core.Path.{◌≡◌, refl, sym, ◌∙◌, ap, subst}
-use lib.ListN.{length, take, drop, length-append, length-drop, take-append-drop}
+use lib.Dec.{leb}
+use lib.ListN.{length, take, drop, length-append, take-append-drop}
 use lib.Seq.{take-add, paste-zero, drop-append_seam}
+use borrow.Author.Tests.{leb-true}
 use Rattle.model.specs.Limits.{max_depth}
 use Rattle.model.specs.Refusals.{too_short}
-use Rattle.model.specs.Types.{Shape, Kind, bool, nat, int, num, complex, ascii, char, stream, any, Scalar, plain, box_any, box_all, box_def, Fields, no_fields, field, Ty, ty, scalar_of, field_count}
-use Rattle.format.specs.Reader.{Bytes}
+use Rattle.model.specs.Types.{Shape, Kind, Scalar, plain, box_any, box_all, box_def, Fields, no_fields, field, Ty, ty, shape_of, field_count}
 use Rattle.format.specs.Records.{code, box_start, count_of, list_of, write_shape, write_scalar, write_fields, write_ty}
-use Rattle.format.specs.Outcome.{Outcome, accepted, refused, mapped, lone, delivery, deliver}
+use Rattle.format.specs.Outcome.{accepted, refused, Delivery, delivery, deliver}
 use Rattle.format.specs.Views.{rest-is, Stands, stands-first, stands-part}
 use Rattle.lent.specs.Over.{over, over-front, drop-over, over-over}
-use Rattle.lent.specs.Delivers.{deliver-short, deliver-wrote}
-use Rattle.record.specs.Answers.{nothing}
-use Rattle.record.proofs.LoneLaws.{passed-accepted}
+use Rattle.lent.specs.Delivers.{deliver-wrote}
 use Rattle.rules.specs.Scalars.{unrefine_kind, unrefine, unrefine_fields}
 use Rattle.rules.proofs.ScalarsLaws.{unrefine-field_count}
-use Rattle.known.specs.Known.{ScalarAt, TypeAt, FieldsAt, HasScalar, HasType, HasFields}
+use Rattle.known.specs.Known.{ScalarAt, TypeAt, FieldsAt, HasScalar, HasType, HasFields, SeenPlain, SeenAny, SeenAll, SeenDef}
 use Rattle.known.proofs.KnownLaws.{first_field, rest-fields, type-within, scalar-behind, behind-ends}
 use Rattle.known.specs.Whole.{of_scalar}
-use Rattle.known.proofs.WholeLaws.{Begins, record_there, scalar-there}
-use Rattle.known.specs.declared.View.{View}
-use Rattle.known.specs.declared.View.TheVariants.{Plain, BoxAny, BoxAll, BoxDef}
-use Rattle.order.proofs.TypeLaws.{Looked, Starts, seen}
 use Rattle.scalar.specs.Calls.{unrefine_ty, FieldsUnrefined}
+use Rattle.scalar.specs.Whole.{WholeScalar}
 
 -- ---- bytes laid over a part of what stands there
 
@@ -68,54 +64,6 @@ unrefine_ty-length : (t : Ty) → length (write_ty (unrefine_ty t)) ≡ length (
 unfolding write_ty
 unrefine_ty-length (ty o k) = simp length-append (omega (arith, unrefine-length k))
 
--- ---- a kind by its code
-
-module _ {x : ℕ} where
-  pub kind-number : x ≤ 2 → (k : Kind) → x ≡ code k → (3 ≡ code (unrefine_kind k)) × (3 < 256)
-  unfolding code unrefine_kind
-  kind-number h k e = (go k e, omega arith)
-    where
-      go : (k : Kind) → x ≡ code k → 3 ≡ code (unrefine_kind k)
-      go bool e = refl
-      go nat e = refl
-      go int e = refl
-      go num e = absurd (omega arith)
-      go complex e = absurd (omega arith)
-      go ascii e = absurd (omega arith)
-      go char e = absurd (omega arith)
-      go stream e = absurd (omega arith)
-      go any e = absurd (omega arith)
-
-  pub kind-ascii : x ≡ 5 → (k : Kind) → x ≡ code k → (6 ≡ code (unrefine_kind k)) × (6 < 256)
-  unfolding code unrefine_kind
-  kind-ascii h k e = (go k e, omega arith)
-    where
-      go : (k : Kind) → x ≡ code k → 6 ≡ code (unrefine_kind k)
-      go bool e = absurd (omega arith)
-      go nat e = absurd (omega arith)
-      go int e = absurd (omega arith)
-      go num e = absurd (omega arith)
-      go complex e = absurd (omega arith)
-      go ascii e = refl
-      go char e = absurd (omega arith)
-      go stream e = absurd (omega arith)
-      go any e = absurd (omega arith)
-
-  pub kind-stays : 2 < x → (x ≡ 5 → ⊥) → (k : Kind) → x ≡ code k → (x ≡ code (unrefine_kind k)) × (x < 256)
-  unfolding code unrefine_kind
-  kind-stays h n k e = go k e
-    where
-      go : (k : Kind) → x ≡ code k → (x ≡ code (unrefine_kind k)) × (x < 256)
-      go bool e = absurd (omega arith)
-      go nat e = absurd (omega arith)
-      go int e = absurd (omega arith)
-      go num e = (e, omega arith)
-      go complex e = (e, omega arith)
-      go ascii e = absurd (n e)
-      go char e = (e, omega arith)
-      go stream e = (e, omega arith)
-      go any e = (e, omega arith)
-
 -- ---- scalars
 
 any-stays : (k : Scalar) → k ≡ box_any → unrefine k ≡ k
@@ -123,11 +71,11 @@ unfolding unrefine
 any-stays k e = rw e
 
 module _ (out : List ℕ) (at d : ℕ) where
-  -- one scalar is unrefine_ty, and r is the place after it
+  -- the scalar is unrefined, and r is the place after it
   abbrev pub Done : Scalar → ℕ → List ℕ → Type 0
   Done k r after = (r ≡ at + length (write_scalar k)) × (after ≡ over out at (write_scalar (unrefine k)))
 
-  all_done :
+  content-done :
       (o : Shape) (l : Scalar) →
       ScalarAt out at d (box_all o l) →
       {content r : ℕ} {after : List ℕ} →
@@ -136,7 +84,7 @@ module _ (out : List ℕ) (at d : ℕ) where
       after ≡ over out content (write_ty (unrefine_ty (ty o l))) →
       Done (box_all o l) r after
   unfolding write_scalar write_ty unrefine
-  all_done o l h place ends laid =
+  content-done o l h place ends laid =
       (ends ∙ omega arith, laid ∙ (ap (λ p. over out p (write_shape o ++ write_scalar (unrefine l))) place ∙ over-behind out at (box_start 1) (write_shape o ++ write_scalar l) (write_shape o ++ write_scalar (unrefine l)) h.stands))
 
   module _ (n : Option (List ℕ)) (f : Fields) where
@@ -150,9 +98,9 @@ module _ (out : List ℕ) (at d : ℕ) where
     whole-def : (w : List ℕ) → head ++ w ≡ box_start 2 ++ (count_of n ∷ (list_of n ++ (field_count f ∷ w)))
     whole-def w = simp append_assoc
 
-    def-done : ScalarAt out at d (box_def n f) → {start r : ℕ} {after : List ℕ} → start ≡ at + length head → r ≡ start + length (write_fields f) → after ≡ over out start (write_fields (unrefine_fields f)) → Done (box_def n f) r after
+    fields-done : ScalarAt out at d (box_def n f) → {start r : ℕ} {after : List ℕ} → start ≡ at + length head → r ≡ start + length (write_fields f) → after ≡ over out start (write_fields (unrefine_fields f)) → Done (box_def n f) r after
     unfolding write_scalar unrefine
-    def-done h {start} place ends laid = (
+    fields-done h {start} place ends laid = (
       ends ∙ simp length-append (omega (arith, place, head-length)),
       laid
           ∙ ap (λ p. over out p (write_fields (unrefine_fields f))) place
@@ -161,50 +109,45 @@ module _ (out : List ℕ) (at d : ℕ) where
           ∙ rw (unrefine-field_count f),
     )
 
-  module _ {v : View} (looked : Looked out at v) where
-    module _ {c end : ℕ} (e : v ≡ Plain c end) {y : ℕ} (call : (l : Kind) → c ≡ code l → (y ≡ code (unrefine_kind l)) × (y < 256)) where
-      pub kind-there : HasScalar out at d → ((d : ℕ) × (k : Kind) × ScalarAt out at d (plain k)) × (y < 256)
-      kind-there has =
-          let x = seen out at d looked e has.scalar has.there in
-          ((d, x.kind, subst (ScalarAt out at d) x.is has.there), (call x.kind (sym x.coded)).1)
+  -- what was seen of it
+  pub kind_there : {c end : ℕ} → HasScalar out at d → ((d : ℕ) (k : Scalar) → ScalarAt out at d k → SeenPlain at k c end) → (d : ℕ) × (k : Kind) × ScalarAt out at d (plain k)
+  kind_there has looked = let x = looked d has.scalar has.there in (d, x.kind, subst (ScalarAt out at d) x.is has.there)
 
-      pub unrefine-plain : {after : List ℕ} → ((d : ℕ) (k l : Kind) → ScalarAt out at d (plain k) → y ≡ code l → after ≡ over out at (write_scalar (plain l))) → (k : Scalar) → ScalarAt out at d k → Done k end after
-      unfolding unrefine
-      unrefine-plain put k h =
-          let x = seen out at d looked e k h in
-          let laid = put d x.kind (unrefine_kind x.kind) (subst (ScalarAt out at d) x.is h) (call x.kind (sym x.coded)).0 in
-          (x.ends, laid ∙ ap (λ l. over out at (write_scalar (unrefine l))) (sym x.is))
+  pub content_there : {content : ℕ} → HasScalar out at d → ((d : ℕ) (k : Scalar) → ScalarAt out at d k → SeenAll out at d k content) → HasType out content d
+  content_there has looked = let x = looked d has.scalar has.there in record { type = ty x.shape x.scalar; there = x.there }
 
-    pub unrefine-any : {end : ℕ} → v ≡ BoxAny end → (k : Scalar) → ScalarAt out at d k → Done k end out
-    unrefine-any e k h =
-        let x = seen out at d looked e k h in
-        (x.ends, sym (ap (λ l. over out at (write_scalar l)) (any-stays k x.is) ∙ over-same out at (write_scalar k) h.stands))
+  pub fields_there : {name start count : ℕ} {named : Bool} → HasScalar out at d → ((d : ℕ) (k : Scalar) → ScalarAt out at d k → SeenDef out at d k name named start count) → HasFields out start d count
+  fields_there has looked = let x = looked d has.scalar has.there in record { fields = x.held; there = x.there; counted = sym x.counted }
 
-    module _ {content : ℕ} (e : v ≡ BoxAll content) where
-      pub all_there : HasScalar out at d → HasType out content d
-      all_there has = let x = seen out at d looked e has.scalar has.there in record { type = ty x.shape x.scalar; there = x.there }
+  module _ (k : Scalar) (h : ScalarAt out at d k) where
+    pub plain_done :
+        {c end y : ℕ} {after : List ℕ} →
+        SeenPlain at k c end →
+        ((l : Kind) → c ≡ code l → y ≡ code (unrefine_kind l)) →
+        ((d : ℕ) (k l : Kind) → ScalarAt out at d (plain k) → y ≡ code l → after ≡ over out at (write_scalar (plain l))) →
+        Done k end after
+    unfolding unrefine
+    plain_done x coded put =
+        let laid = put d x.kind (unrefine_kind x.kind) (subst (ScalarAt out at d) x.is h) (coded x.kind (sym x.coded)) in
+        (x.ends, laid ∙ ap (λ l. over out at (write_scalar (unrefine l))) (sym x.is))
 
-      pub unrefine-all :
-          {r : ℕ} {after : List ℕ} →
-          ((t : Ty) → TypeAt out content d t → (r ≡ content + length (write_ty t)) × (after ≡ over out content (write_ty (unrefine_ty t)))) →
-          (k : Scalar) →
-          ScalarAt out at d k →
-          Done k r after
-      unrefine-all {r} {after} call k h =
-          let x = seen out at d looked e k h in
-          let (ends, laid) = call (ty x.shape x.scalar) x.there in
-          subst (λ l. Done l r after) (sym x.is) (all_done x.shape x.scalar (subst (ScalarAt out at d) x.is h) x.place ends laid)
+    pub any_done : {end : ℕ} → SeenAny at k end → Done k end out
+    any_done x = (x.ends, sym (ap (λ l. over out at (write_scalar l)) (any-stays k x.is) ∙ over-same out at (write_scalar k) h.stands))
 
-    module _ {name start count : ℕ} {named : Bool} (e : v ≡ BoxDef name named start count) where
-      pub fields-there : HasScalar out at d → HasFields out start d count
-      fields-there has = let x = seen out at d looked e has.scalar has.there in record { fields = x.held; there = x.there; counted = sym x.counted }
+    pub all_done :
+        {content r : ℕ} {after : List ℕ} →
+        SeenAll out at d k content →
+        ((t : Ty) → TypeAt out content d t → (r ≡ content + length (write_ty t)) × (after ≡ over out content (write_ty (unrefine_ty t)))) →
+        Done k r after
+    all_done {content} {r} {after} x call =
+        let (ends, laid) = call (ty x.shape x.scalar) x.there in
+        subst (λ l. Done l r after) (sym x.is) (content-done x.shape x.scalar (subst (ScalarAt out at d) x.is h) x.place ends laid)
 
-      pub unrefine-def : {r : ℕ} {after : List ℕ} → FieldsUnrefined out start count d r after → (k : Scalar) → ScalarAt out at d k → Done k r after
-      unrefine-def {r} {after} call k h =
-          let x = seen out at d looked e k h in
-          let (ends, laid) = call x.held x.there (sym x.counted) in
-          let place : start ≡ at + length (head x.label x.held) = omega (arith, x.place, x.behind, head-length x.label x.held) in
-          subst (λ l. Done l r after) (sym x.is) (def-done x.label x.held (subst (ScalarAt out at d) x.is h) place ends laid)
+    pub def_done : {name start count r : ℕ} {named : Bool} {after : List ℕ} → SeenDef out at d k name named start count → FieldsUnrefined out start count d r after → Done k r after
+    def_done {name} {start} {count} {r} {named} {after} x call =
+        let (ends, laid) = call x.held x.there (sym x.counted) in
+        let place : start ≡ at + length (head x.label x.held) = omega (arith, x.place, x.behind, head-length x.label x.held) in
+        subst (λ l. Done l r after) (sym x.is) (fields-done x.label x.held (subst (ScalarAt out at d) x.is h) place ends laid)
 
 -- ---- types
 
@@ -213,45 +156,50 @@ module _ (out : List ℕ) (at d : ℕ) where
   DoneType t r after = (r ≡ at + length (write_ty t)) × (after ≡ over out at (write_ty (unrefine_ty t)))
 
   -- the scalar begins at p
-  pub unrefine-behind : {p r : ℕ} {after : List ℕ} → Starts out at p → ((k : Scalar) → ScalarAt out p (d - 1) k → Done out p (d - 1) k r after) → (t : Ty) → TypeAt out at d t → DoneType t r after
+  pub behind_done : {p r : ℕ} {after : List ℕ} →
+      ((d : ℕ) (t : Ty) → TypeAt out at d t → p ≡ at + length (write_shape (shape_of t))) →
+      ((k : Scalar) → ScalarAt out p (d - 1) k → Done out p (d - 1) k r after) →
+      (t : Ty) →
+      TypeAt out at d t →
+      DoneType t r after
   unfolding write_ty
-  unrefine-behind {p} begins call (ty o k) h =
+  behind_done {p} begins call (ty o k) h =
       let (ends, laid) = call k (scalar-behind out at begins d (ty o k) h) in
       (ends ∙ behind-ends out at begins d (ty o k) h, laid ∙ (ap (λ q. over out q (write_scalar (unrefine k))) (begins d (ty o k) h) ∙ over-behind out at (write_shape o) (write_scalar k) (write_scalar (unrefine k)) h.stands))
 
--- ---- fields, one after the other: what is left to unrefine, and what that comes to
+-- ---- fields, of which i are unrefined: what is left, and what that comes to
 
-pub record FieldsLeft (out : List ℕ) (at d left end : ℕ) (final : List ℕ) : Type 0 where
+pub record FieldsLeft (out : List ℕ) (at d i count end : ℕ) (final : List ℕ) : Type 0 where
   f : Fields
   there : FieldsAt out at d f
-  count : left ≡ field_count f
+  counted : i + field_count f ≡ count
   ends : at + length (write_fields f) ≡ end
   is : over out at (write_fields (unrefine_fields f)) ≡ final
 
-pub left-start : (out : List ℕ) (at d : ℕ) {x : ℕ} (f : Fields) → FieldsAt out at d f → field_count f ≡ x → FieldsLeft out at d x (at + length (write_fields f)) (over out at (write_fields (unrefine_fields f)))
-left-start out at d f h e = record { f = f; there = h; count = sym e; ends = refl; is = refl }
+pub fields_begun : (out : List ℕ) (at d : ℕ) (f : Fields) {count : ℕ} → FieldsAt out at d f → field_count f ≡ count → FieldsLeft out at d 0 count (at + length (write_fields f)) (over out at (write_fields (unrefine_fields f)))
+fields_begun out at d f h e = record { f = f; there = h; counted = omega arith; ends = refl; is = refl }
 
-module _ {out : List ℕ} {at d left end : ℕ} {final : List ℕ} (l : FieldsLeft out at d left end final) where
-  pub left-type : 0 < left → HasType out at d
-  left-type n = go l.f l.there l.count
+module _ {out : List ℕ} {at d i count end : ℕ} {final : List ℕ} (l : FieldsLeft out at d i count end final) where
+  pub field_there : i < count → HasType out at d
+  field_there n = go l.f l.there l.counted
     where
-      go : (f : Fields) → FieldsAt out at d f → left ≡ field_count f → HasType out at d
+      go : (f : Fields) → FieldsAt out at d f → i + field_count f ≡ count → HasType out at d
       go no_fields h c = absurd (omega arith)
       go (field o k f) h c = record { type = ty o k; there = first_field out at d h }
 
-  pub left_end : left ≤ 0 → (at ≡ end) × (out ≡ final)
+  pub fields_done : count ≤ i → (at ≡ end) × (out ≡ final)
   unfolding write_fields unrefine_fields
-  left_end n = go l.f l.count l.ends l.is
+  fields_done n = go l.f l.counted l.ends l.is
     where
-      go : (f : Fields) → left ≡ field_count f → at + length (write_fields f) ≡ end → over out at (write_fields (unrefine_fields f)) ≡ final → (at ≡ end) × (out ≡ final)
+      go : (f : Fields) → i + field_count f ≡ count → at + length (write_fields f) ≡ end → over out at (write_fields (unrefine_fields f)) ≡ final → (at ≡ end) × (out ≡ final)
       go no_fields c e is = (omega arith, paste-zero out at [] ∙ is)
       go (field o k f) c e is = absurd (omega arith)
 
-  pub left-next : {r : ℕ} {after : List ℕ} → 0 < left → ((t : Ty) → TypeAt out at d t → DoneType out at d t r after) → FieldsLeft after r d (left - 1) end final
+  pub fields_more : {r : ℕ} {after : List ℕ} → i < count → ((t : Ty) → TypeAt out at d t → DoneType out at d t r after) → FieldsLeft after r d (i + 1) count end final
   unfolding write_fields unrefine_fields write_ty
-  left-next {r} {after} n call = go l.f l.there l.count l.ends l.is
+  fields_more {r} {after} n call = go l.f l.there l.counted l.ends l.is
     where
-      go : (f : Fields) → FieldsAt out at d f → left ≡ field_count f → at + length (write_fields f) ≡ end → over out at (write_fields (unrefine_fields f)) ≡ final → FieldsLeft after r d (left - 1) end final
+      go : (f : Fields) → FieldsAt out at d f → i + field_count f ≡ count → at + length (write_fields f) ≡ end → over out at (write_fields (unrefine_fields f)) ≡ final → FieldsLeft after r d (i + 1) count end final
       go no_fields h c e is = absurd (omega arith)
       go (field o k f) h c e is =
           let t = first_field out at d h in
@@ -263,12 +211,12 @@ module _ {out : List ℕ} {at d left end : ℕ} {final : List ℕ} (l : FieldsLe
           record {
             f = f;
             there = rw (place, laid) (record { stands = behind; records = rest.records; numbered = rest.numbered; few = rest.few; shallow = rest.shallow });
-            count = omega arith;
+            counted = omega arith;
             ends = rw place (omega (arith, length-append (write_ty (ty o k)) (write_fields f)));
             is = rw (place, laid, same) (over-over out at (write_ty (unrefine_ty (ty o k))) (omega arith) (write_fields (unrefine_fields f)) ∙ is);
           }
 
--- ---- a whole type: its scalar's record, which begins at i, is laid down in the buffer and unrefine_ty there
+-- ---- a whole type: its scalar's record, which begins at i, is handed over and unrefined where it then stands
 
 laid-stands : (d w : List ℕ) → length w ≤ length d → Stands (over d 0 w) 0 w
 laid-stands d w h = record { is = over-front d w ∙ ap (λ x. w ++ x) (sym (rw (add-zero (0 + length w)) at (drop-over d 0 w (rw zero-add h) 0) ∙ rw zero-add)) }
@@ -281,31 +229,57 @@ over-twice d w w' e =
     ∙ ap (λ x. w' ++ x) rest
     ∙ sym (over-front d w')
 
-module _ (s : List ℕ) (small : Bytes s) (good : mapped nothing (lone s) ≡ accepted 0) {i : ℕ} (begins : Begins s i) (buffer : List ℕ) where
-  abbrev UnrefinedBytes : Outcome (List ℕ)
-  UnrefinedBytes = of_scalar (λ k. write_scalar (unrefine k)) s
+-- what an answer says of bytes that were to be delivered: there was room, or as little for others as long
+module _ (buffer : List ℕ) where
+  abbrev Whether : Bool → List ℕ → Delivery
+  Whether fits w = cond fits (delivery (accepted (length w)) (w ++ drop (length w) buffer)) (delivery (refused too_short 0) buffer)
 
-  whole : {C : Type 0} → ((k : Scalar) → ScalarAt s i (max_depth - 1) k → drop i s ≡ write_scalar k → UnrefinedBytes ≡ accepted (write_scalar (unrefine k)) → length s - i ≡ length (write_scalar (unrefine k)) → C) → C
-  whole f =
-      passed-accepted (lone s) good λ t e.
-      let bytes = record_there s small begins t e in
-      f (scalar_of t) (scalar-there s small begins t e) bytes (rw e) (sym (length-drop i s) ∙ ap length bytes ∙ sym (unrefine-length (scalar_of t)))
+  module _ (w : List ℕ) {after : List ℕ} where
+    delivered-bytes : {n : ℕ} → delivery (accepted n) after ≡ deliver (accepted w) buffer → (length w ≤ length buffer) × (n ≡ length w) × (after ≡ over buffer 0 w)
+    unfolding deliver
+    delivered-bytes {n} h = go (leb (length w) (length buffer)) refl h
+      where
+        go : (fits : Bool) → leb (length w) (length buffer) ≡ fits → delivery (accepted n) after ≡ Whether fits w → (length w ≤ length buffer) × (n ≡ length w) × (after ≡ over buffer 0 w)
+        go true e h = let laid : after ≡ w ++ drop (length w) buffer = cc in (leb-true (length w) (length buffer) e, cc, laid ∙ sym (over-front buffer w))
+        go false e h = cc
 
-  pub whole-short : length buffer < length s - i → delivery (refused too_short 0) buffer ≡ deliver UnrefinedBytes buffer
-  whole-short h = whole λ k at bytes is long. sym (deliver-short buffer is (omega arith))
+    delivered-short : {k p : ℕ} → delivery (refused k p) after ≡ deliver (accepted w) buffer → (v : List ℕ) → length w ≡ length v → delivery (refused k p) after ≡ deliver (accepted v) buffer
+    unfolding deliver
+    delivered-short {k} {p} h v same = rw (← same) (go (leb (length w) (length buffer)) h)
+      where
+        go : (fits : Bool) → delivery (refused k p) after ≡ Whether fits w → delivery (refused k p) after ≡ cond fits (delivery (accepted (length w)) (v ++ drop (length w) buffer)) (delivery (refused too_short 0) buffer)
+        go true h = cc
+        go false h = h
 
-  module _ (fits : length s - i ≤ length buffer) {laid : List ℕ} (lays : laid ≡ over buffer 0 (take (length s - i) (drop i s))) where
-    laid-is : (k : Scalar) → drop i s ≡ write_scalar k → laid ≡ over buffer 0 (write_scalar k)
-    laid-is k e = lays ∙ ap (over buffer 0) (rest-is s i ∙ e)
+module _ {s : List ℕ} {i : ℕ} (w : WholeScalar s i) where
+  -- the record to the front of a buffer, as it stands and unrefined
+  abbrev Handed : List ℕ → Delivery
+  Handed buffer = deliver (accepted (take (length s - i) (drop i s))) buffer
 
-    laid-there : (k : Scalar) → ScalarAt s i (max_depth - 1) k → drop i s ≡ write_scalar k → length s - i ≡ length (write_scalar (unrefine k)) → ScalarAt laid 0 (max_depth - 1) k
-    laid-there k h e long = record { stands = rw (laid-is k e) (laid-stands buffer (write_scalar k) (omega (arith, unrefine-length k))); records = h.records; few = h.few; shallow = h.shallow }
+  abbrev Unrefined : List ℕ → Delivery
+  Unrefined buffer = deliver (of_scalar (λ k. write_scalar (unrefine k)) s) buffer
 
-    pub laid-scalar : HasScalar laid 0 (max_depth - 1)
-    laid-scalar = whole λ k h e is long. record { scalar = k; there = laid-there k h e long }
+  handed : (buffer : List ℕ) → Handed buffer ≡ deliver (accepted (write_scalar w.scalar)) buffer
+  handed buffer = ap (λ x. deliver (accepted x) buffer) (rest-is s i ∙ w.bytes)
 
-    pub whole-wrote : {r : ℕ} {after : List ℕ} → ((k : Scalar) → ScalarAt laid 0 (max_depth - 1) k → Done laid 0 (max_depth - 1) k r after) → delivery (accepted (length s - i)) after ≡ deliver UnrefinedBytes buffer
-    whole-wrote call =
-        whole λ k h e is long.
-        let twice = ap (λ x. over x 0 (write_scalar (unrefine k))) (laid-is k e) ∙ over-twice buffer (write_scalar k) (write_scalar (unrefine k)) (sym (unrefine-length k)) in
-        deliver-wrote buffer is (omega arith) long ((call k (laid-there k h e long)).1 ∙ twice)
+  unrefined : of_scalar (λ k. write_scalar (unrefine k)) s ≡ accepted (write_scalar (unrefine w.scalar))
+  unrefined = rw w.is
+
+  pub handed_short : (buffer : List ℕ) {after : List ℕ} {k p : ℕ} → delivery (refused k p) after ≡ Handed buffer → delivery (refused k p) after ≡ Unrefined buffer
+  handed_short buffer h = rw unrefined (delivered-short buffer (write_scalar w.scalar) (h ∙ handed buffer) (write_scalar (unrefine w.scalar)) (sym (unrefine-length w.scalar)))
+
+  module _ (buffer : List ℕ) {after : List ℕ} {n : ℕ} (h : delivery (accepted n) after ≡ Handed buffer) where
+    laid : (length (write_scalar w.scalar) ≤ length buffer) × (n ≡ length (write_scalar w.scalar)) × (after ≡ over buffer 0 (write_scalar w.scalar))
+    laid = delivered-bytes buffer (write_scalar w.scalar) (h ∙ handed buffer)
+
+    there : ScalarAt after 0 (max_depth - 1) w.scalar
+    there = record { stands = rw laid.2 (laid-stands buffer (write_scalar w.scalar) laid.0); records = w.there.records; few = w.there.few; shallow = w.there.shallow }
+
+    pub handed_there : HasScalar after 0 (max_depth - 1)
+    handed_there = record { scalar = w.scalar; there = there }
+
+    pub handed_done : {r : ℕ} {final : List ℕ} → ((k : Scalar) → ScalarAt after 0 (max_depth - 1) k → Done after 0 (max_depth - 1) k r final) → delivery (accepted n) final ≡ Unrefined buffer
+    handed_done call =
+        let long = unrefine-length w.scalar in
+        let twice = ap (λ x. over x 0 (write_scalar (unrefine w.scalar))) laid.2 ∙ over-twice buffer (write_scalar w.scalar) (write_scalar (unrefine w.scalar)) (sym long) in
+        deliver-wrote buffer unrefined (omega (arith, laid.0)) (laid.1 ∙ sym long) ((call w.scalar there).1 ∙ twice)

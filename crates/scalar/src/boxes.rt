@@ -6,12 +6,12 @@ ghost use Rattle.known.specs.Known.{ScalarAt, TypeAt, HasScalar, HasType};
 ghost use Rattle.scalar.specs.Calls.{InnerIs, compatible_contents};
 
 use crate::Inner;
-use kind_table::compatible_codes;
+use kind_table::compatible;
 use known::{View, kind_at, look, scalar_at, shape_at};
-use limits::BOX;
+use limits::Kind;
 use shape::{compatible_with, is_yes};
 
-#[cycle(compatible_boxes_compatible_contents)]
+#[cycle(compatibility)]
 pub fn compatible_boxes(a: &[u8], i: usize, b: &[u8], j: usize, depth: u64) -> bool
     requires { HasScalar a.now i depth × HasScalar b.now j depth }
     ensures { (k l : Scalar) → ScalarAt a.now i depth k → ScalarAt b.now j depth l → result ≡ compatible_with_boxes k l }
@@ -19,22 +19,20 @@ pub fn compatible_boxes(a: &[u8], i: usize, b: &[u8], j: usize, depth: u64) -> b
     match inner_at(a, i) {
         Inner::Content(content) => match inner_at(b, j) {
             Inner::Content(other) => compatible_contents(a, content, b, other, depth),
-            Inner::Code(code) => compatible_codes(BOX, code),
+            Inner::Kind(kind) => compatible(Kind::Box, kind),
         },
-        Inner::Code(code) => compatible_codes(code, kind_at(b, j)),
+        Inner::Kind(kind) => compatible(kind, kind_at(b, j)),
     }
 }
 
 // Two types: their scalars, then their shapes.
-#[cycle(compatible_boxes_compatible_contents)]
+#[cycle(compatibility)]
 pub fn compatible_contents(a: &[u8], i: usize, b: &[u8], j: usize, depth: u64) -> bool
     requires { HasType a.now i depth × HasType b.now j depth }
     ensures { (t u : Ty) → TypeAt a.now i depth t → TypeAt b.now j depth u → result ≡ compatible_contents t u }
 {
-    if compatible_boxes(a, scalar_at(a, i), b, scalar_at(b, j), depth - 1) {
-        return is_yes(compatible_with(shape_at(a, i), shape_at(b, j)));
-    }
-    false
+    compatible_boxes(a, scalar_at(a, i), b, scalar_at(b, j), depth - 1)
+        && is_yes(compatible_with(shape_at(a, i), shape_at(b, j)))
 }
 
 // What an All box holds, or what kind another scalar is.
@@ -43,14 +41,14 @@ pub fn inner_at(s: &[u8], at: usize) -> Inner
     ensures { (d : ℕ) (k : Scalar) → ScalarAt s.now at d k → InnerIs s.now d k result }
 {
     match look(s, at) {
-        View::Plain { code, end: _ } => Inner::Code(code),
-        View::BoxAny { end: _ } => Inner::Code(BOX),
+        View::Plain { kind, end: _ } => Inner::Kind(kind),
+        View::BoxAny { end: _ } => Inner::Kind(Kind::Box),
         View::BoxAll { content } => Inner::Content(content),
         View::BoxDef {
             name: _,
             named: _,
             fields: _,
             count: _,
-        } => Inner::Code(BOX),
+        } => Inner::Kind(Kind::Box),
     }
 }

@@ -6,22 +6,34 @@ mod boxes;
 mod refinement;
 mod tests;
 mod unions;
+mod whole;
 
+use limits::Kind;
 pub use refinement::unrefine;
 pub use tests::{compatible_scalars, compatible_with_boxes, superset};
-pub use unions::{union, unite_boxes};
+pub use unions::{union, unite};
+pub use whole::kind_of;
 
-// Where an All box's content begins, or the code of any other scalar.
+// Where an All box's content begins, or the kind of any other scalar.
 #[derive(Clone, Copy)]
 pub enum Inner {
     Content(usize),
-    Code(u64),
+    Kind(Kind),
 }
 
-// Which box the union of two boxes is.
+// What the union of two scalars is: a kind; the record from a place on in the first, or in the second; or a box Any.
 #[derive(Clone, Copy)]
 pub enum United {
+    Kind(Kind),
+    First(usize),
+    Second(usize),
+    BoxAny,
+}
+
+// Which of two boxes their union is; neither, where it is a box Any.
+#[derive(Clone, Copy)]
+enum Chosen {
     First,
     Second,
-    BoxAny,
+    Neither,
 }

@@ -3,78 +3,83 @@
 ghost use Rattle.std.specs.Prelude.{◌≡◌, cond};
 ghost use Rattle.model.specs.Types.{Scalar, Ty, box_any, box_of};
 ghost use Rattle.format.specs.Records.{box_code, write_scalar};
-ghost use Rattle.format.specs.Outcome.{accepted, deliver};
+ghost use Rattle.format.specs.Outcome.{accepted, deliver, both, lone};
 ghost use Rattle.lent.specs.Written.{delivered};
+ghost use Rattle.record.specs.Answers.{nothings};
 ghost use Rattle.rules.specs.Order.{code_of};
 ghost use Rattle.rules.specs.Scalars.{later_ty, union};
 ghost use Rattle.known.specs.Known.{ScalarAt, TypeAt, HasScalar, HasType};
 ghost use Rattle.known.specs.Whole.{of_scalars};
-ghost use Rattle.scalar.specs.Calls.{united_of, compatible_contents};
+ghost use Rattle.scalar.specs.Calls.{chosen_of, united_record, UnitedWithin, compatible_contents};
 
 use crate::boxes::{compatible_contents, inner_at};
-use crate::{Inner, United};
-use kind_table::union_code;
-use known::{kind_at, scalar_at};
-use lent::{Written, hand_over};
+use crate::whole::start_of;
+use crate::{Chosen, Inner, United};
+use known::kind_at;
+use lent::hand_over;
+use limits::MAX_DEPTH;
 use limits::records::BOX_ANY_SCALAR;
-use limits::{CONTENTS_DECIDE, MAX_DEPTH};
+use limits::refusal::Refusal;
 use order::{Ranking, compare_types};
-use record::{Lone, read_two, whichever};
-use writer::{as_written, write_kind};
+use record::read_two;
+use writer::write_kind;
 
 // The union's record, to the front of the result.
-pub fn union(a: &[u8], b: &[u8], res: &mut [u8]) -> Written
+#[tactic(auto, using(lent::specs::Delivers::deliver_refusal), unfolding(format::specs::Records::code, format::specs::Records::write_scalar))]
+pub fn union(a: &[u8], b: &[u8], res: &mut [u8]) -> Result<usize, Refusal>
     ensures { delivered result res.new ≡ deliver (of_scalars (λ k l. write_scalar (union k l)) a.now b.now) res.old }
 {
-    let read = whichever(read_two(a, b));
-    let Lone::Accepted = read else {
-        return as_written(read);
-    };
-    let i = scalar_at(a, 0);
-    let j = scalar_at(b, 0);
-    let code = union_code(kind_at(a, i), kind_at(b, j));
-    if code != CONTENTS_DECIDE {
-        return write_kind(code, &mut *res);
-    }
-    match unite_boxes(a, i, b, j, MAX_DEPTH - 1) {
-        United::First => hand_over(&a[i..], &mut *res),
-        United::Second => hand_over(&b[j..], &mut *res),
-        United::BoxAny => hand_box_any(&mut *res),
+    read_two(a, b)?;
+    match unite(a, b) {
+        United::Kind(kind) => write_kind(kind, &mut *res),
+        United::First(i) => hand_over(&a[i..], &mut *res),
+        United::Second(j) => hand_over(&b[j..], &mut *res),
+        United::BoxAny => hand_over(&BOX_ANY_SCALAR, &mut *res),
     }
 }
 
-fn hand_box_any(res: &mut [u8]) -> Written
-    ensures { delivered result res.new ≡ deliver (accepted (write_scalar box_any)) res.old }
+// The union of two types' scalars: the kind that the table says; or, of two boxes, one of them as it stands or a box Any.
+#[tactic(auto, using(crate::proofs::WholeLaws::scalar_stands))]
+pub fn unite(a: &[u8], b: &[u8]) -> United
+    requires { both nothings (lone a.now) (lone b.now) ≡ accepted 0 }
+    ensures { (of_scalars (λ k l. write_scalar (union k l)) a.now b.now ≡ accepted (united_record a.now b.now result)) × UnitedWithin a.now b.now result }
 {
-    hand_over(&BOX_ANY_SCALAR, &mut *res)
+    let i = start_of(a);
+    let j = start_of(b);
+    match kind_table::union(kind_at(a, i), kind_at(b, j)) {
+        Some(kind) => United::Kind(kind),
+        None => match choose_box(a, i, b, j, MAX_DEPTH - 1) {
+            Chosen::First => United::First(i),
+            Chosen::Second => United::Second(j),
+            Chosen::Neither => United::BoxAny,
+        },
+    }
 }
 
 // Two boxes inside bytes: the first, unless both are All boxes.
-pub fn unite_boxes(a: &[u8], i: usize, b: &[u8], j: usize, depth: u64) -> United
+fn choose_box(a: &[u8], i: usize, b: &[u8], j: usize, depth: u64) -> Chosen
     requires { HasScalar a.now i depth × HasScalar b.now j depth }
-    ensures { (k l : Scalar) → ScalarAt a.now i depth k → ScalarAt b.now j depth l → code_of k ≡ box_code → code_of l ≡ box_code → united_of result k l ≡ union k l }
+    ensures { (k l : Scalar) → ScalarAt a.now i depth k → ScalarAt b.now j depth l → code_of k ≡ box_code → code_of l ≡ box_code → chosen_of result k l ≡ union k l }
 {
     match inner_at(a, i) {
         Inner::Content(content) => match inner_at(b, j) {
-            Inner::Content(other) => unite_contents(a, content, b, other, depth),
-            Inner::Code(_) => United::First,
+            Inner::Content(other) => choose_content(a, content, b, other, depth),
+            Inner::Kind(_) => Chosen::First,
         },
-        Inner::Code(_) => United::First,
+        Inner::Kind(_) => Chosen::First,
     }
 }
 
 // Two All boxes by their contents: the later one, if they are compatible.
-fn unite_contents(a: &[u8], i: usize, b: &[u8], j: usize, depth: u64) -> United
+fn choose_content(a: &[u8], i: usize, b: &[u8], j: usize, depth: u64) -> Chosen
     requires { HasType a.now i depth × HasType b.now j depth }
-    ensures { (t u : Ty) → TypeAt a.now i depth t → TypeAt b.now j depth u → united_of result (box_of t) (box_of u) ≡ cond (compatible_contents t u) (box_of (later_ty t u)) box_any }
+    ensures { (t u : Ty) → TypeAt a.now i depth t → TypeAt b.now j depth u → chosen_of result (box_of t) (box_of u) ≡ cond (compatible_contents t u) (box_of (later_ty t u)) box_any }
 {
-    if compatible_contents(a, i, b, j, depth) {
-        match compare_types(a, i, b, j, depth) {
-            Ranking::Less => United::Second,
-            Ranking::Same(_) => United::Second,
-            Ranking::More => United::First,
-        }
-    } else {
-        United::BoxAny
+    if !compatible_contents(a, i, b, j, depth) {
+        return Chosen::Neither;
+    }
+    match compare_types(a, i, b, j, depth) {
+        Ranking::Less | Ranking::Same(_) => Chosen::Second,
+        Ranking::More => Chosen::First,
     }
 }

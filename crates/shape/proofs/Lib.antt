@@ -1,4 +1,3 @@
-mod SizeLaws
-mod DimsLaws
-mod ShapeLaws
-mod PervadeLaws
+pub mod DimsLaws
+pub mod ShapeLaws
+pub mod PervadeLaws

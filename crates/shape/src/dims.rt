@@ -11,66 +11,64 @@ ghost use Rattle.rules.specs.Shapes.{compatible_dims, merge_dims, join_dims, joi
 ghost use Rattle.rules.specs.ShapesSteps.{merge_at, from_end};
 ghost use Rattle.shape.specs.Answers.{compatibility_of, spot_of};
 
+use crate::Compatibility;
 use crate::sizes::{join_sizes, larger, row_compatible};
-use crate::{Compatibility, Spot};
 use limits::{MAX_SIZES, UNKNOWN};
 use record::Dims;
 use writer::size_count;
 
 // As many sizes as the longer list, the larger at a shared index, the rest from the longer.
+#[tactic(auto, using(crate::proofs::DimsLaws::merging))]
 pub fn merge_dims(a: Dims, b: Dims) -> Dims
     ensures { dims_of result ≡ merge_dims (dims_of a) (dims_of b) }
 {
     let count = longer(a, b);
     let mut sizes = [0u64; MAX_SIZES];
-    let mut i = 0;
-    while i < MAX_SIZES {
+    for i in 0..MAX_SIZES {
         if i < count {
             sizes[i] = merge_at(a, b, i);
         }
-        i += 1;
     }
     Dims { sizes, count }
 }
 
+#[tactic(auto, using(crate::proofs::DimsLaws::merge_absent))]
 fn merge_at(a: Dims, b: Dims, i: usize) -> u64
     ensures { dim_of result ≡ merge_at (get_elem? (dims_of a) i) (get_elem? (dims_of b) i) }
 {
-    let Spot::Size(x) = get(a, i) else {
+    let Some(x) = get(a, i) else {
         return size_at(b, i);
     };
-    let Spot::Size(y) = get(b, i) else {
+    let Some(y) = get(b, i) else {
         return x;
     };
     larger(x, y)
 }
 
 // The shorter count, joined at each index.
+#[tactic(auto, using(crate::proofs::DimsLaws::joining))]
 pub fn join_dims(a: Dims, b: Dims) -> Dims
     ensures { dims_of result ≡ join_dims (dims_of a) (dims_of b) }
 {
     let count = shorter(a, b);
     let mut sizes = [0u64; MAX_SIZES];
-    let mut i = 0;
-    while i < MAX_SIZES {
+    for i in 0..MAX_SIZES {
         if i < count {
             sizes[i] = join_sizes(size_at(a, i), size_at(b, i));
         }
-        i += 1;
     }
     Dims { sizes, count }
 }
 
 // Closing lists: the longer count; entry 0 is unknown, entry i joins the i-th from each end.
+#[tactic(auto, using(crate::proofs::DimsLaws::joining_ends))]
 pub fn join_ends(a: Dims, b: Dims) -> Dims
     ensures { dims_of result ≡ join_ends (dims_of a) (dims_of b) }
 {
     let count = longer(a, b);
     let mut sizes = [0u64; MAX_SIZES];
-    let mut i = 0;
-    while i < count {
+    for i in 0..count {
         sizes[i] = join_sizes(from_end(a, i), from_end(b, i));
-        i += 1;
     }
     Dims { sizes, count }
 }
@@ -88,6 +86,7 @@ fn from_end(d: Dims, i: usize) -> u64
 
 // Equal counts, and at each index equal, or either 1 or unknown. Most pairs differ at the last size, so the walk goes from the end to the
 // front and stops at the first failure that it meets, which is the greatest index that fails.
+#[tactic(auto, using(crate::proofs::DimsLaws::comparing))]
 pub fn compatible_dims(a: Dims, b: Dims) -> Compatibility
     ensures { compatibility_of result ≡ compatible_dims (dims_of a) (dims_of b) }
 {
@@ -95,19 +94,17 @@ pub fn compatible_dims(a: Dims, b: Dims) -> Compatibility
     if count != size_count(b) {
         return Compatibility::CountsDiffer;
     }
-    let mut i = count;
-    loop {
-        if i == 0 {
-            break Compatibility::Yes;
-        }
-        i -= 1;
+    for behind in 0..count {
+        let i = count - 1 - behind;
         if !row_compatible(a.sizes[i], b.sizes[i]) {
-            break Compatibility::FailsAt(i);
+            return Compatibility::FailsAt(i);
         }
     }
+    Compatibility::Yes
 }
 
 // All but the first.
+#[tactic(auto, using(crate::proofs::DimsLaws::resting))]
 pub fn rest_dims(d: Dims) -> Dims
     ensures { dims_of result ≡ drop 1 (dims_of d) }
 {
@@ -117,48 +114,41 @@ pub fn rest_dims(d: Dims) -> Dims
     }
     let count = n - 1;
     let mut sizes = [0u64; MAX_SIZES];
-    let mut i = 0;
-    while i < MAX_SIZES {
+    for i in 0..MAX_SIZES {
         if i < count {
             sizes[i] = size_at(d, i + 1);
         }
-        i += 1;
     }
     Dims { sizes, count }
 }
 
 // The size at an index, where the list has one.
-pub fn get(d: Dims, i: usize) -> Spot
+#[tactic(auto, using(crate::proofs::DimsLaws::slot_there, crate::proofs::DimsLaws::slot_past))]
+pub fn get(d: Dims, i: usize) -> Option<u64>
     ensures { spot_of result ≡ get_elem? (dims_of d) i }
 {
     if i < size_count(d) {
-        return Spot::Size(d.sizes[i]);
+        return Some(d.sizes[i]);
     }
-    Spot::Absent
+    None
 }
 
 // The same, unknown where the list has none.
+#[tactic(auto, using(crate::proofs::DimsLaws::slot_or_unknown))]
 fn size_at(d: Dims, i: usize) -> u64
     ensures { dim_of result ≡ get_or (dims_of d) i unknown }
 {
-    match get(d, i) {
-        Spot::Absent => UNKNOWN,
-        Spot::Size(size) => size,
-    }
+    get(d, i).unwrap_or(UNKNOWN)
 }
 
 pub fn longer(a: Dims, b: Dims) -> usize
     ensures { (result ≡ max (length (dims_of a)) (length (dims_of b))) × (result ≤ max_sizes) }
 {
-    let m = size_count(a);
-    let n = size_count(b);
-    if m < n { n } else { m }
+    size_count(a).max(size_count(b))
 }
 
 fn shorter(a: Dims, b: Dims) -> usize
     ensures { (result ≡ min (length (dims_of a)) (length (dims_of b))) × (result ≤ max_sizes) }
 {
-    let m = size_count(a);
-    let n = size_count(b);
-    if m < n { m } else { n }
+    size_count(a).min(size_count(b))
 }

@@ -8,19 +8,10 @@ mod sizes;
 
 pub use dims::{join_dims, merge_dims, rest_dims};
 pub use pervade::{pervade_closed, pervade_dyn_shapes};
-use record::{Dims, DynShape};
 pub use shapes::{
     compatible_with, into_row, is_any, is_scalar, is_yes, join, merge_from, rank, row_count,
 };
 pub use sizes::{cmp, cmp_defined, compatible, join_sizes, larger, row_compatible};
-
-// What a comparison answers of the first against the second.
-#[derive(Clone, Copy)]
-pub enum Order {
-    Less,
-    Same,
-    More,
-}
 
 // What `compatible_with` says: yes; no, with the greatest index that fails; or no with none, since the counts differ.
 #[derive(Clone, Copy)]
@@ -28,13 +19,6 @@ pub enum Compatibility {
     Yes,
     FailsAt(usize),
     CountsDiffer,
-}
-
-// What stands at an index of a list.
-#[derive(Clone, Copy)]
-enum Spot {
-    Absent,
-    Size(u64),
 }
 
 // Which pervading is asked for: that of the separate call, which is the Rust's, or that of sheets, where a filled size may grow
@@ -53,31 +37,4 @@ struct Filling {
     a_open: bool,
     b_open: bool,
     grows: bool,
-}
-
-// What one index of a pervading gives.
-#[derive(Clone, Copy)]
-enum Meeting {
-    Gives(u64),
-    Refuses,
-}
-
-// What a pervading answers: Stopped names the first index that refuses. Sizes stand beside it, since an enum cannot hold an array; where
-// it stopped they say nothing.
-#[derive(Clone, Copy)]
-pub enum Pervasion {
-    Pervaded,
-    Stopped(usize),
-}
-
-#[derive(Clone, Copy)]
-pub struct DimsPervaded {
-    pub dims: Dims,
-    pub answer: Pervasion,
-}
-
-#[derive(Clone, Copy)]
-pub struct ShapePervaded {
-    pub shape: DynShape,
-    pub answer: Pervasion,
 }

@@ -1,1 +1,1 @@
-mod CallLaws
+pub mod CallLaws

@@ -1,95 +1,82 @@
 // Shapes of types handed in as bytes: the calls of shape.rs.
 ghost use Rattle.std.specs.Prelude.{◌≡◌};
-ghost use Rattle.format.specs.Outcome.{deliver};
-ghost use Rattle.lent.specs.Answers.{tested_of, counted_dim, counted_number};
+ghost use Rattle.format.specs.Records.{dim_of};
+ghost use Rattle.format.specs.Outcome.{mapped, deliver};
+ghost use Rattle.limits.specs.Answers.{told};
 ghost use Rattle.lent.specs.Written.{delivered};
-ghost use Rattle.shape_calls.specs.Answers.{shapes_tested_of};
+ghost use Rattle.shape.specs.Answers.{compatibility_of};
 ghost use Rattle.shape_calls.specs.Calls.{merge_call, join_shapes_call, row_call, compatible_shapes_call, is_any_call, is_scalar_call, row_count_call, rank_call};
 
-use crate::ShapesTested;
 use known::{any_shape_at, shape_at};
-use lent::{Counted, Tested, Written, tell};
-use record::{Lone, read_lone, read_two, whichever};
-use shape::{compatible_with, into_row, is_scalar, join, merge_from, rank, row_count};
-use writer::{as_counted, as_tested, as_written, write_shape};
+use limits::refusal::Refusal;
+use record::{read_lone, read_two};
+use shape::{
+    Compatibility, compatible_with, into_row, is_scalar, join, merge_from, rank, row_count,
+};
+use writer::write_shape;
 
 // The first merges from the second.
-pub fn merge(a: &[u8], b: &[u8], res: &mut [u8]) -> Written
+#[tactic(auto, using(lent::specs::Delivers::deliver_refusal, crate::proofs::CallLaws::two_known))]
+pub fn merge(a: &[u8], b: &[u8], res: &mut [u8]) -> Result<usize, Refusal>
     ensures { delivered result res.new ≡ deliver (merge_call a.now b.now) res.old }
 {
-    let read = whichever(read_two(a, b));
-    let Lone::Accepted = read else {
-        return as_written(read);
-    };
+    read_two(a, b)?;
     write_shape(merge_from(shape_at(a, 0), shape_at(b, 0)), &mut *res)
 }
 
-pub fn join_shapes(a: &[u8], b: &[u8], res: &mut [u8]) -> Written
+#[tactic(auto, using(lent::specs::Delivers::deliver_refusal, crate::proofs::CallLaws::two_known))]
+pub fn join_shapes(a: &[u8], b: &[u8], res: &mut [u8]) -> Result<usize, Refusal>
     ensures { delivered result res.new ≡ deliver (join_shapes_call a.now b.now) res.old }
 {
-    let read = whichever(read_two(a, b));
-    let Lone::Accepted = read else {
-        return as_written(read);
-    };
+    read_two(a, b)?;
     write_shape(join(shape_at(a, 0), shape_at(b, 0)), &mut *res)
 }
 
-pub fn row_shape(a: &[u8], res: &mut [u8]) -> Written
+#[tactic(auto, using(lent::specs::Delivers::deliver_refusal, crate::proofs::CallLaws::one_known))]
+pub fn row_shape(a: &[u8], res: &mut [u8]) -> Result<usize, Refusal>
     ensures { delivered result res.new ≡ deliver (row_call a.now) res.old }
 {
-    let read = read_lone(a);
-    let Lone::Accepted = read else {
-        return as_written(read);
-    };
+    read_lone(a)?;
     write_shape(into_row(shape_at(a, 0)), &mut *res)
 }
 
 // Whether the opening sizes are compatible; with a no, the greatest index that fails, or none where the counts differ.
-pub fn compatible_shapes(a: &[u8], b: &[u8]) -> ShapesTested
-    ensures { shapes_tested_of result ≡ compatible_shapes_call a.now b.now }
+#[tactic(auto, using(crate::proofs::CallLaws::two_known))]
+pub fn compatible_shapes(a: &[u8], b: &[u8]) -> Result<Compatibility, Refusal>
+    ensures { mapped compatibility_of (told result) ≡ compatible_shapes_call a.now b.now }
 {
-    if let Lone::Refused { number, place } = whichever(read_two(a, b)) {
-        return ShapesTested::Refused { number, place };
-    }
-    ShapesTested::Says(compatible_with(shape_at(a, 0), shape_at(b, 0)))
+    read_two(a, b)?;
+    Ok(compatible_with(shape_at(a, 0), shape_at(b, 0)))
 }
 
-pub fn shape_is_any(a: &[u8]) -> Tested
-    ensures { tested_of result ≡ is_any_call a.now }
+#[tactic(auto, using(crate::proofs::CallLaws::one_known))]
+pub fn shape_is_any(a: &[u8]) -> Result<bool, Refusal>
+    ensures { told result ≡ is_any_call a.now }
 {
-    let read = read_lone(a);
-    let Lone::Accepted = read else {
-        return as_tested(read);
-    };
-    tell(any_shape_at(a, 0))
+    read_lone(a)?;
+    Ok(any_shape_at(a, 0))
 }
 
-pub fn shape_is_scalar(a: &[u8]) -> Tested
-    ensures { tested_of result ≡ is_scalar_call a.now }
+#[tactic(auto, using(crate::proofs::CallLaws::one_known))]
+pub fn shape_is_scalar(a: &[u8]) -> Result<bool, Refusal>
+    ensures { told result ≡ is_scalar_call a.now }
 {
-    let read = read_lone(a);
-    let Lone::Accepted = read else {
-        return as_tested(read);
-    };
-    tell(is_scalar(shape_at(a, 0)))
+    read_lone(a)?;
+    Ok(is_scalar(shape_at(a, 0)))
 }
 
-pub fn count_rows(a: &[u8]) -> Counted
-    ensures { counted_dim result ≡ row_count_call a.now }
+#[tactic(auto, using(crate::proofs::CallLaws::one_known))]
+pub fn count_rows(a: &[u8]) -> Result<u64, Refusal>
+    ensures { mapped dim_of (told result) ≡ row_count_call a.now }
 {
-    let read = read_lone(a);
-    let Lone::Accepted = read else {
-        return as_counted(read);
-    };
-    Counted::Count(row_count(shape_at(a, 0)))
+    read_lone(a)?;
+    Ok(row_count(shape_at(a, 0)))
 }
 
-pub fn shape_rank(a: &[u8]) -> Counted
-    ensures { counted_number result ≡ rank_call a.now }
+#[tactic(auto, using(crate::proofs::CallLaws::one_known))]
+pub fn shape_rank(a: &[u8]) -> Result<u64, Refusal>
+    ensures { told result ≡ rank_call a.now }
 {
-    let read = read_lone(a);
-    let Lone::Accepted = read else {
-        return as_counted(read);
-    };
-    Counted::Count(rank(shape_at(a, 0)) as u64)
+    read_lone(a)?;
+    Ok(rank(shape_at(a, 0)) as u64)
 }

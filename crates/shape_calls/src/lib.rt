@@ -14,25 +14,3 @@ pub use numbers::{
     dim_cmp, dim_cmp_defined, dim_compatible, dim_join, dim_max, dim_row_compatible,
 };
 pub use pervading::pervade;
-use shape::{Compatibility, Order};
-
-// How the first compares with the second, or a refusal.
-#[derive(Clone, Copy)]
-pub enum Compared {
-    Ordered(Order),
-    Refused { number: u8, place: usize },
-}
-
-// What the test of two shapes says, or the refusal of a type.
-#[derive(Clone, Copy)]
-pub enum ShapesTested {
-    Says(Compatibility),
-    Refused { number: u8, place: usize },
-}
-
-// Two numbers that are sizes, or a refusal.
-#[derive(Clone, Copy)]
-enum Judged {
-    Sizes,
-    Refused { number: u8, place: usize },
-}

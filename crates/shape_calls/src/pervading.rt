@@ -5,20 +5,23 @@ ghost use Rattle.lent.specs.Written.{delivered};
 ghost use Rattle.shape_calls.specs.Calls.{pervade_call};
 
 use known::shape_at;
-use lent::Written;
-use limits::refusal::UNPERVADED;
-use record::{Lone, read_two, whichever};
-use shape::{Pervading, Pervasion, pervade_dyn_shapes};
-use writer::{as_written, write_shape};
+use limits::refusal::{Reason, Refusal};
+use record::read_two;
+use shape::{Pervading, pervade_dyn_shapes};
+use writer::write_shape;
 
 // A fill is of the shape that stands in its place. A mismatch is refused at place 0.
-pub fn pervade(a: &[u8], b: &[u8], fill_a: bool, fill_b: bool, res: &mut [u8]) -> Written
+#[tactic(auto, using(lent::specs::Delivers::deliver_refusal, crate::proofs::CallLaws::two_known))]
+pub fn pervade(
+    a: &[u8],
+    b: &[u8],
+    fill_a: bool,
+    fill_b: bool,
+    res: &mut [u8],
+) -> Result<usize, Refusal>
     ensures { delivered result res.new ≡ deliver (pervade_call fill_a fill_b a.now b.now) res.old }
 {
-    let read = whichever(read_two(a, b));
-    let Lone::Accepted = read else {
-        return as_written(read);
-    };
+    read_two(a, b)?;
     let pervaded = pervade_dyn_shapes(
         shape_at(a, 0),
         shape_at(b, 0),
@@ -26,13 +29,8 @@ pub fn pervade(a: &[u8], b: &[u8], fill_a: bool, fill_b: bool, res: &mut [u8]) -
         fill_b,
         Pervading::Separate,
     );
-    let answer = pervaded.answer;
-    if let Pervasion::Stopped(_) = answer {
-        return Written::Refused {
-            number: UNPERVADED,
-            place: 0,
-        };
+    match pervaded {
+        Some(shape) => write_shape(shape, &mut *res),
+        None => Err(Refusal(Reason::Unpervaded, 0)),
     }
-    let shape = pervaded.shape;
-    write_shape(shape, &mut *res)
 }

@@ -3,7 +3,7 @@
 #![tactic(auto)]
 
 use limits::{MAX_SHEET, RESULT_BYTES, SCRATCH_BYTES};
-use printer::{Printed, TEXT, print_input};
+use printer::{TEXT, print_input};
 use std::env::Env;
 use std::io::{Read, Write};
 use streams::{Asked, complain, read_argument, read_to_end, say_version, write_out};
@@ -51,10 +51,9 @@ fn check_input<R: Read, W: Write, E: Write>(input: &mut R, out: &mut W, err: &mu
     let mut scratch = [0u8; SCRATCH_BYTES];
     let mut text = [0u8; TEXT];
     let read = read_to_end(input, &mut sheet);
-    let printed = print_input(&sheet, read, &mut result, &mut scratch, &mut text);
-    match printed {
-        Printed::Text(n) => hand_out(out, err, &text[..n]),
-        Printed::Unread => complain(
+    match print_input(&sheet, read, &mut result, &mut scratch, &mut text) {
+        Some(n) => hand_out(out, err, &text[..n]),
+        None => complain(
             err,
             b"sheet: standard input could not be read to its end, so nothing was checked.\n",
         ),

@@ -1,5 +1,5 @@
 -- Slots don't overlap, nor do trays: what is laid into one leaves the types in the others as they were.
-use Rattle.std.specs.Prelude.{ℕ, zero, suc, ◌+◌, ◌-◌, ◌/◌, ◌%◌, ◌≤◌, ◌<◌, List, ◌⊎◌, ◌≡◌, refl, length}
+use Rattle.std.specs.Prelude.{ℕ, zero, suc, ◌+◌, ◌/◌, ◌%◌, ◌≤◌, ◌<◌, List, ◌⊎◌, ◌≡◌, refl, length}
 use Rattle.std.proofs.Common.{arith, eq-or-lt_of_le, inl, inr, ⊎_elim, sym, ◌∙◌, ap, subst}
 use Rattle.model.specs.Types.{Ty}
 use Rattle.model.specs.Within.{Within}

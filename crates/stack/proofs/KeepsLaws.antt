@@ -8,12 +8,12 @@ use Rattle.format.specs.Records.{write_ty}
 use Rattle.format.specs.Views.{Stands}
 use Rattle.lent.specs.Over.{over}
 use Rattle.machine.specs.SheetLimits.{max_stack, scratch_bytes}
-use Rattle.packing.specs.Packed.{pack_ty, Packs, Unpacks}
+use Rattle.packing.specs.Packed.{pack_ty, Packable, Packs, Unpackable, Unpacks}
 use Rattle.lent.specs.StandsOver.{stands-laid}
-use Rattle.stack.specs.Stack.{Memory, memory, slot_at, tray_bytes, tray_at, packed_end, tray_end, EndsAt, InTray, Lying, size, Lies, Lie, lowest, NoneInTray, Free, Takes, Keeps}
+use Rattle.stack.specs.Stack.{Memory, memory, slot_at, tray_bytes, tray_at, packed_end, tray_end, EndsAt, InTray, Lying, size, Lies, Lie, HasStack, lowest, NoneInTray, Free, Takes, Keeps}
 use Rattle.stack.proofs.StackLaws.{lie-lowest, lie-next}
-use Rattle.stack.proofs.LyingLaws.{in_sheet, lies_packed, tray_part}
-use Rattle.stack.proofs.ApartLaws.{alike, apart, laid_in_tray, slot_apart, slot_inside, tray_apart}
+use Rattle.stack.proofs.LyingLaws.{in_sheet, lies_packed, tray_ends, tray_part}
+use Rattle.stack.proofs.ApartLaws.{alike, apart, laid_in_tray, slot_apart, slot_inside, tray_apart, tray_inside}
 
 -- ---- one memory after another, as long as it
 
@@ -65,6 +65,31 @@ module _ (m m₁ : Memory) where
       go (suc (suc n)) e l = rw same l
 
 -- ---- what becomes of them
+
+-- one that is in its tray, which begins at `at`, has room in its slot
+pub set_aside : (m : Memory) (count i : ℕ) → HasStack m count → i < count → get_or m.ends i 0 ≡ tray_end → {at : ℕ} → at ≡ tray_at m.trays i
+    → (at + get_or m.lengths i 0 ≤ length m.trays) × Packable (take (at + get_or m.lengths i 0 - at) (drop at m.trays)) m.scratch (slot_at i)
+set_aside m count i has less held begins =
+    lie-next m count i has.types less has.stacked.lie λ t l e. (
+      tray_ends m i t l held begins,
+      record {
+        type = t;
+        within = l.within;
+        bytes = tray_part m i t l held begins;
+        room = slot_inside m.scratch has.stacked.room t l.within i (omega (arith, has.stacked.few));
+      },
+    )
+
+-- and one that lies packed has room in its tray, if it is no longer
+pub bring_back : (m : Memory) (count i : ℕ) → HasStack m count → i < count → get_or m.ends i 0 ≡ packed_end → get_or m.lengths i 0 ≤ tray_bytes m.trays → {at : ℕ} → at ≡ tray_at m.trays i
+    → Unpackable m.scratch (slot_at i) m.trays at
+bring_back m count i has less packed fits begins =
+    lie-next m count i has.types less has.stacked.lie λ t l e. record {
+      type = t;
+      within = l.within;
+      stands = lies_packed m i t l packed;
+      room = rw begins (tray_inside m.trays t (omega (arith, fits, l.long)) i);
+    }
 
 module _ (ends lengths s h d : List ℕ) (count k : ℕ) where
   abbrev m : Memory

@@ -1,4 +1,4 @@
-mod OutLaws
+pub mod OutLaws
 pub mod ApartLaws
 pub mod KeepsLaws
 pub mod LyingLaws

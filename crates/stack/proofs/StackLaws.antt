@@ -1,7 +1,7 @@
--- What follows where the stack has types: how many, which lies where, how long each is; and what holds of those on top.
+-- What follows where the stack has types: how many, which lies where, and how long each is.
 use Prim.{tt}
-use Rattle.std.specs.Prelude.{ℕ, zero, suc, ◌+◌, ◌-◌, ◌≤◌, ◌<◌, ◌⊎◌, ◌≡◌, refl, length, get_or, take, drop}
-use Rattle.std.proofs.Common.{arith, add-one, eq-or-lt_of_le, ⊎_elim, sym, ◌∙◌, ap, subst, take-suc, drop-drop}
+use Rattle.std.specs.Prelude.{ℕ, zero, suc, ◌+◌, ◌-◌, ◌≤◌, ◌<◌, ◌≡◌, refl, length, get_or, take, drop}
+use Rattle.std.proofs.Common.{arith, add-one, sym, ◌∙◌, ap, subst, take-suc, drop-drop}
 use mathlib.Core.List.{List, [], ◌∷◌, ◌++◌, map, reverse, reverse_aux, append_assoc, append-nil}
 use Rattle.model.specs.Types.{Ty}
 use Rattle.machine.specs.SheetLimits.{max_stack, scratch_bytes}
@@ -73,23 +73,3 @@ module _ (m : Memory) where
 
     pub stacked-sizes : {ts : List Ty} → Stacked m count ts → take count m.lengths ≡ map size (reverse ts)
     stacked-sizes {ts} h = sym (append-nil (take count m.lengths)) ∙ sizes h.measured h.few count (omega arith) ts [] h.lie
-
--- ---- what holds of those below a place, of the top, and of the one below it
-
--- of one more
-pub below_next : (P : ℕ → Type 0) (i : ℕ) → ((j : ℕ) → j < i → P j) → P i → (j : ℕ) → j < i + 1 → P j
-below_next P i lower here j less =
-    let last : j ≤ i = omega arith in
-    ⊎_elim (λ e. subst P (sym e) here) (lower j) (eq-or-lt_of_le last)
-
-module _ (P : ℕ → Type 0) (count : ℕ) (top : P (count - 1)) where
-  pub top_one : (k : ℕ) → k < count → count ≤ k + 1 → P k
-  top_one k less high = let e : count - 1 ≡ k = omega arith in subst P e top
-
-  pub top_alone : count ≤ 1 → (k : ℕ) → k < count → count ≤ k + 2 → P k
-  top_alone few k less high = top_one k less (omega arith)
-
-  pub top_two : P (count - 2) → (k : ℕ) → k < count → count ≤ k + 2 → P k
-  top_two below k less high =
-      let last : k ≤ count - 1 = omega arith in
-      ⊎_elim (λ e. subst P (sym e) top) (λ lower. let e : count - 2 ≡ k = omega arith in subst P e below) (eq-or-lt_of_le last)

@@ -79,6 +79,7 @@ pub fn store(
 }
 
 // The record of the type k from the bottom, which does not lie packed.
+#[tactic(auto, using(crate::proofs::LyingLaws::type_inside))]
 pub fn bytes_of<'a>(
     k: usize,
     ends: &[usize],

@@ -6,16 +6,17 @@ ghost use Rattle.format.specs.Records.{write_ty};
 ghost use Rattle.lent.specs.Over.{over};
 ghost use Rattle.lent.specs.Written.{delivered};
 ghost use Rattle.machine.specs.SheetLimits.{max_stack, scratch_bytes};
-ghost use Rattle.machine.specs.Call.{write_types, first_zero, zeroed};
+ghost use Rattle.machine.specs.Call.{write_types, zeroed};
 ghost use Rattle.stack.specs.Stack.{memory, size, Lies, Stacked, HasStack};
 
 use crate::{PACKED_END, bytes_of};
-use lent::{Written, lay};
-use limits::refusal::TOO_SHORT;
+use lent::lay;
+use limits::refusal::{Reason, Refusal};
 use limits::{MAX_PACKED, SCRATCH_BYTES};
 use packing::unpack;
 
 // The types, bottom first, to the front of the result.
+#[tactic(auto, using(lent::specs::Delivers::deliver_bytes, lent::specs::Delivers::deliver_nothing))]
 pub fn write_types<'a>(
     count: usize,
     ends: &[usize],
@@ -24,20 +25,17 @@ pub fn write_types<'a>(
     trays: &'a [u8],
     scratch: &[u8],
     res: &mut [u8],
-) -> Written
+) -> Result<usize, Refusal>
     requires { HasStack (memory ends.now lengths.now s.now trays.now scratch.now) count }
     ensures { (ts : List Ty) → Stacked (memory ends.now lengths.now s.now trays.now scratch.now) count ts
         → delivered result res.new ≡ deliver (accepted (write_types (reverse ts))) res.old }
 {
     let size = total(count, lengths);
     if res.len() < size {
-        return Written::Refused {
-            number: TOO_SHORT,
-            place: 0,
-        };
+        return Err(Refusal(Reason::TooShort, 0));
     }
     lay_types(count, ends, lengths, s, trays, scratch, &mut *res);
-    Written::Wrote(size)
+    Ok(size)
 }
 
 // The bytes of all types.
@@ -46,10 +44,8 @@ fn total(count: usize, lengths: &[usize]) -> usize
     ensures { (ends s h d : List ℕ) (ts : List Ty) → Stacked (memory ends lengths.now s h d) count ts → result ≡ length (write_types (reverse ts)) }
 {
     let mut size = 0;
-    let mut k = 0;
-    while k < count {
-        size += lengths[k];
-        k += 1;
+    for &length in &lengths[..count] {
+        size += length;
     }
     size
 }
@@ -69,11 +65,9 @@ fn lay_types<'a>(
         → res.new ≡ over res.old 0 (write_types (reverse ts)) }
 {
     let mut at = 0;
-    let mut k = 0;
-    while k < count {
+    for k in 0..count {
         lay_type(k, ends, lengths, s, trays, scratch, &mut *res, at);
         at += lengths[k];
-        k += 1;
     }
 }
 
@@ -105,16 +99,5 @@ pub fn clear(scratch: &mut [u8])
     requires { scratch_bytes ≤ length scratch.old }
     ensures { scratch.new ≡ zeroed scratch.old }
 {
-    zero_first(&mut *scratch, SCRATCH_BYTES);
-}
-
-fn zero_first(buffer: &mut [u8], n: usize)
-    requires { n ≤ length buffer.old }
-    ensures { buffer.new ≡ first_zero n buffer.old }
-{
-    let mut i = 0;
-    while i < n {
-        buffer[i] = 0;
-        i += 1;
-    }
+    scratch[..SCRATCH_BYTES].fill(0);
 }

@@ -17,16 +17,7 @@ pub fn wants_trays(count: usize, lengths: &[usize], trays: &[u8]) -> bool
     if count == 0 {
         return false;
     }
-    if half < lengths[count - 1] {
-        return true;
-    }
-    if count == 1 {
-        return false;
-    }
-    if half < lengths[count - 2] {
-        return true;
-    }
-    false
+    half < lengths[count - 1] || 1 < count && half < lengths[count - 2]
 }
 
 // The top.

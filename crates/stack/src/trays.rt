@@ -24,10 +24,8 @@ pub fn free_tray(k: usize, ends: &mut [usize], lengths: &[usize], trays: &[u8], 
         (memory ends.new lengths.now s trays.now scratch.new) }
     ensures free { Free ends.new k × ((i : ℕ) → k ≤ i → get_or ends.new i 0 ≡ get_or ends.old i 0) }
 {
-    let mut i = 0;
-    while i < k {
+    for i in 0..k {
         put_aside(i, k, &mut *ends, lengths, trays, &mut *scratch);
-        i += 1;
     }
 }
 
@@ -45,10 +43,8 @@ pub fn empty_trays(
         (memory ends.new lengths.now s trays.now scratch.new) }
     ensures none_in_tray { NoneInTray ends.new count }
 {
-    let mut i = 0;
-    while i < count {
+    for i in 0..count {
         put_aside(i, i, &mut *ends, lengths, trays, &mut *scratch);
-        i += 1;
     }
 }
 
@@ -68,10 +64,7 @@ fn put_aside(
     ensures fact { (i % 2 ≡ k % 2 → get_or ends.new i 0 ≡ tray_end → ⊥)
         × ((j : ℕ) → (j ≡ i → ⊥) → get_or ends.new j 0 ≡ get_or ends.old j 0) }
 {
-    if ends[i] != TRAY_END {
-        return;
-    }
-    if i % TRAYS != k % TRAYS {
+    if ends[i] != TRAY_END || i % TRAYS != k % TRAYS {
         return;
     }
     let at = tray_at(i, trays.len());

@@ -1,1 +1,1 @@
-pub mod StepLaws
+mod StepLaws

@@ -1,101 +1,238 @@
 -- One step, for each way out of it.
-use Prim.Native.Nat.{ℕ, ◌-◌, ◌≤◌, ◌<◌}
+use Rattle.std.specs.Prelude.{Result, Ok, Err}
+use Rattle.std.specs.Result.{IsErrAnd}
+use Rattle.std.proofs.lemmas.Result.{err_from_is_err_and}
+use Prim.Native.Nat.{ℕ, ◌+◌, ◌-◌, ◌≤◌, ◌<◌}
 use native.Mathlib.Omega.{arith}
 use mathlib.Core.Bool.{Bool}
 use mathlib.Core.List.{List, [], ◌∷◌}
 use mathlib.Core.Logic.{◌⊎◌, inl, inr, ⊎_elim}
 use mathlib.Core.Option.{Option, none, some}
 use mathlib.Core.Path.{◌≡◌, refl, sym, ◌∙◌, ap, subst}
-use lib.ListN.{length, take}
+use lib.ListN.{length, take, drop}
 use borrow.Author.Tests.{le-leb, lt-leb}
-use Rattle.model.specs.Limits.{max_bytes}
-use Rattle.model.specs.Refusals.{too_short, undeclared, too_many_names}
+use Rattle.model.specs.Refusals.{undeclared, too_many_names}
 use Rattle.model.specs.Types.{Ty}
 use Rattle.model.specs.Within.{Within}
-use Rattle.format.specs.Reader.{Read, got, stopped}
+use Rattle.format.specs.Reader.{Bytes, Read, got, stopped}
 use Rattle.format.specs.Records.{write_ty}
-use Rattle.format.specs.Outcome.{Outcome, accepted, refused, mapped}
+use Rattle.format.specs.ReadWrite.{lone_write}
+use Rattle.format.specs.Views.{Stands}
+use Rattle.format.specs.Outcome.{Outcome, accepted, refused, mapped, lone}
+use Rattle.limits.specs.Answers.{number_of}
+use Rattle.limits.specs.declared.refusal.Refusal.{Refusal}
 use Rattle.rules.specs.Types.{into_row, join_types}
 use Rattle.validation.specs.CheckShape.{unsided}
 use Rattle.validation.specs.Validate.{validate}
-use Rattle.lent.specs.Written.{Puts, Short}
-use Rattle.lent.specs.declared.Written.{Written}
-use Rattle.lent.specs.declared.Written.TheVariants.{Wrote, Refused as Unwritten}
+use Rattle.lent.specs.Written.{Written, Puts, Short}
 use Rattle.machine.specs.SheetLimits.{max_stack, max_names}
-use Rattle.machine.specs.Steps.{Step, put, row, pervading, join, validating}
+use Rattle.machine.specs.Steps.{Step, takes, put, row, pervading, join, validating}
 use Rattle.machine.specs.Run.{Ruling, gives, refuses, following, aside, Stack, onto, pervade_types, step, steps}
 use Rattle.machine.proofs.RunLaws.{step-put}
-use Rattle.machine.specs.Written.{TableName, WrittenStep, working, declaring, using_name}
-use Rattle.machine.specs.Names.{type_in_force, declare, names_past}
+use Rattle.machine.proofs.StepsTook.{took-step}
+use Rattle.machine.specs.Written.{TableName, WrittenStep, written_as, working, declaring, using_name}
+use Rattle.machine.specs.Names.{Names, type_in_force, declare, names_past}
 use Rattle.machine.specs.Sheet.{State, after_step, placed, step_from, work_from}
 use Rattle.machine.proofs.SheetSteps.{written-unread, written-unknown, written_crowded, written_read, work-unread, work_rule}
-use Rattle.names.specs.Table.{NameStands, Spans, Declares, InForce, LookedUpIs}
-use Rattle.names.specs.declared.table.LookedUp.{LookedUp}
-use Rattle.names.specs.declared.table.LookedUp.TheVariants.{Declared, Undeclared}
-use Rattle.stack.specs.Stack.{Memory, Stacked, HasStack, Unpacked, Keeps}
+use Rattle.names.specs.Table.{NameStands, Declares, InForce, HasNames}
+use Rattle.names.specs.TableLaws.{spans_forth, spans_there, spans_lone}
+use Rattle.stack.specs.Stack.{Memory, size, Stacked, HasStack, Unpacked, Keeps, Takes}
 use Rattle.stack.proofs.StackLaws.{stacked-count, stacked_top, stacked-below}
 use Rattle.cursor.specs.Answers.{StepIs}
-use Rattle.cursor.specs.declared.StepRead.{StepRead}
-use Rattle.cursor.specs.declared.StepRead.TheVariants.{Put, Row, Pervading, Join, Validating, Declaring, Using, Refused as Unread}
+use Rattle.cursor.specs.declared.Step as cursor
+use Rattle.cursor.specs.declared.Step.TheVariants.{Put as APut, Row as ARow, Pervading as APervading, Join as AJoin, Validating as AValidating, Declaring as ADeclaring, Using as AUsing}
 use Rattle.tops.specs.Answers.{Workable, OfTop, OfTwo, at_start}
-use Rattle.tops.proofs.TopLaws.{has_one, has-two}
-use Rattle.step.specs.Answers.{NameTable, name_table, Works, StepsTo, Waits, StepsOrWaits, Ready, RuleWorks, UseWorks, NameKept, Ruled, LaysDown, after_rule}
-use Rattle.step.specs.declared.Reached.{Reached}
-use Rattle.step.specs.declared.Reached.TheVariants.{At, Refused}
+use Rattle.tops.proofs.TopLaws.{has_one, has-two, row_within, join-within, pervade-within, validated-within}
+use Rattle.step.specs.Answers.{NameTable, Works, StepsTo, RuleWaits, StepWaits, StepsOrWaits, with_names, Ready, StepWorks, RuleWorks, UseWorks, NameKept, Ruled, LaysDown, after_rule}
 use Rattle.step.specs.declared.Worked.{Worked}
+use Rattle.step.specs.declared.Stepped.{Stepped}
+
+-- ---- what a rule wrote takes the place of the types that it was made of
+
+rule_wrote : {C : Type 0} (o : Outcome Ty) (out : List ℕ) {n : ℕ} → Puts (Ok n) out (mapped write_ty o) ⊎ Short (Ok n) out
+    → ((t : Ty) → o ≡ accepted t → take n out ≡ write_ty t → n ≤ length out → C) → C
+rule_wrote {C} o out {n} given f = ⊎_elim (λ puts. go o refl puts) (λ short. let z : ◌≡◌ {A = ℕ} 0 1 = cc in absurd (omega arith)) given
+  where
+    go : (x : Outcome Ty) → o ≡ x → Puts (Ok n) out (mapped write_ty x) → C
+    go (refused k p) same (e, fits) = let z : ◌≡◌ {A = ℕ} 0 1 = cc in absurd (omega arith)
+    go (accepted t) same (e, fits) = f t same (cc) fits
+
+-- what was stored is what the rule made
+module _ {m m₁ : Memory} {count k n : ℕ} {out : List ℕ} (at next : ℕ)
+    (stored : (t : Ty) → k ≤ count → Within t → take n out ≡ write_ty t → Takes m count k t m₁) where
+  pub laid_down : LaysDown m count k (Ok n) out at next (Ok (record { at = next; count = k + 1 })) m₁
+  laid_down ts o h ruled =
+      rule_wrote o out ruled.given λ t e bytes fits.
+      inl (t ∷ drop (count - k) ts, rw e, stored t ruled.there (ruled.within t e) bytes ts h)
+
+-- a type that was put
+pub put_works : {m m₁ : Memory} {count : ℕ} {t : Ty} (at next : ℕ) → count < max_stack → Takes m count count t m₁
+    → StepWorks (put t) at next m count (Ok (record { at = next; count = count + 1 })) m₁
+put_works {m} {m₁} {count} {t} at next low takes ts h =
+    let z : count - count ≡ 0 = omega arith in
+    (t ∷ ts, rw (step-put t ts (omega (arith, stacked-count m count h, low))), rw z at (takes ts h))
+
+-- ---- a rule on the types on top
+
+has_kept : (m m₁ : Memory) (count : ℕ) → Keeps m count m₁ → HasStack m count → HasStack m₁ count
+has_kept m m₁ count kept has = record { types = has.types; stacked = kept has.types has.stacked }
+
+-- types on top that were unpacked may be worked on
+pub workable : {m m₁ : Memory} {count few : ℕ} → Keeps m count m₁ → Unpacked few m₁.ends count → Ready few m count → Workable few m₁ count
+workable {m} {m₁} {count} kept unpacked ready = record { enough = ready.enough; has = has_kept m m₁ count kept ready.has; unpacked = unpacked }
+
+-- what is asked for before a rule's outcome is laid down
+abbrev pub HasRuled : Memory → ℕ → ℕ → Written → List ℕ → Type 0
+HasRuled m count k w out = ((s : List ℕ) × HasStack (record m { sheet = s }) count) × ((o : Outcome Ty) × Ruled count k w out o)
+
+-- where they were unpacked, so that the stack lies otherwise
+module _ {m m₁ : Memory} {count : ℕ} (kept : Keeps m count m₁) (w : Written) (out : List ℕ) where
+  module _ (f : Ty → Outcome Ty) (within : (t : Ty) → Within t → (x : Ty) → f t ≡ accepted x → Within x) (ready : Ready 1 m count) (made : OfTop f m₁ count w out) where
+    one_ruled : (t : Ty) (us : Stack) → Stacked m₁ count (t ∷ us) → Ruled count (count - 1) w out (f t)
+    one_ruled t us h = record {
+      within = within t (stacked_top m₁ count h).within;
+      given = made t us h;
+      low = omega (arith, h.few, ready.enough);
+      there = omega arith;
+    }
+
+    ruled_one : HasRuled m₁ count (count - 1) w out
+    ruled_one =
+        let has = has_kept m m₁ count kept ready.has in
+        ((m₁.sheet, has), has_one has.types has.stacked ready.enough λ t us e. (f t, one_ruled t us (rw e at has.stacked)))
+
+    works_one : (x : Step) → ((t : Ty) (us : Stack) → step x (t ∷ us) ≡ onto us (aside (f t))) → (at n : ℕ) (r : Result Worked Refusal) (m₂ : Memory)
+        → LaysDown m₁ count (count - 1) w out at n r m₂ → RuleWorks x at n m count out r m₂
+    works_one x is at n r m₂ laid ts h =
+        has_one ts h ready.enough λ t us e.
+        let one : count - (count - 1) ≡ 1 = omega (arith, ready.enough) in
+        let same : after_rule ts (count - (count - 1)) (f t) ≡ step x ts = rw (one, e, is t us) in
+        let there = kept ts h in
+        subst (λ o. Works r m₂ (placed o at n) ⊎ RuleWaits r m₂ at out ts) same (laid ts (f t) there (one_ruled t us (rw e at there)))
+
+  module _ (f : Ty → Ty → Outcome Ty) (within : (t u : Ty) → Within t → Within u → (x : Ty) → f t u ≡ accepted x → Within x) (ready : Ready 2 m count) (made : OfTwo f m₁ count w out) where
+    two_ruled : (t u : Ty) (us : Stack) → Stacked m₁ count (t ∷ u ∷ us) → Ruled count (count - 2) w out (f t u)
+    two_ruled t u us h = record {
+      within = within t u (stacked_top m₁ count h).within (stacked-below m₁ count h).within;
+      given = made t u us h;
+      low = omega (arith, h.few, ready.enough);
+      there = omega arith;
+    }
+
+    ruled_two : HasRuled m₁ count (count - 2) w out
+    ruled_two =
+        let has = has_kept m m₁ count kept ready.has in
+        ((m₁.sheet, has), has-two has.types has.stacked ready.enough λ t u us e. (f t u, two_ruled t u us (rw e at has.stacked)))
+
+    works_two : (x : Step) → ((t u : Ty) (us : Stack) → step x (t ∷ u ∷ us) ≡ onto us (aside (f t u))) → (at n : ℕ) (r : Result Worked Refusal) (m₂ : Memory)
+        → LaysDown m₁ count (count - 2) w out at n r m₂ → RuleWorks x at n m count out r m₂
+    works_two x is at n r m₂ laid ts h =
+        has-two ts h ready.enough λ t u us e.
+        let two : count - (count - 2) ≡ 2 = omega (arith, ready.enough) in
+        let same : after_rule ts (count - (count - 2)) (f t u) ≡ step x ts = rw (two, e, is t u us) in
+        let there = kept ts h in
+        subst (λ o. Works r m₂ (placed o at n) ⊎ RuleWaits r m₂ at out ts) same (laid ts (f t u) there (two_ruled t u us (rw e at there)))
+
+-- ---- each of the four
+
+row_step : (t : Ty) (us : Stack) → step row (t ∷ us) ≡ onto us (aside (accepted (into_row t)))
+unfolding step
+row_step t us = refl
+
+join_step : (t u : Ty) (us : Stack) → step join (t ∷ u ∷ us) ≡ onto us (aside (accepted (join_types t u)))
+unfolding step
+join_step t u us = refl
+
+aside-start : {A : Type 0} (a : Ruling A) → aside (at_start a) ≡ a
+aside-start (gives a) = refl
+aside-start (refuses k) = refl
+
+pervade-step : (f g : Bool) (t u : Ty) (us : Stack) → step (pervading f g) (t ∷ u ∷ us) ≡ onto us (aside (at_start (pervade_types f g t u)))
+unfolding step
+pervade-step f g t u us = rw (aside-start (pervade_types f g t u))
+
+validate-step : (spec t : Ty) (us : Stack) → step (validating spec) (t ∷ us) ≡ onto us (aside (validate unsided spec t))
+unfolding step
+validate-step spec t us = refl
+
+module _ {m m₁ : Memory} {count : ℕ} (kept : Keeps m count m₁) (w : Written) (out : List ℕ) where
+  module _ (ready : Ready 1 m count) where
+    module _ (made : OfTop (λ t. accepted (into_row t)) m₁ count w out) where
+      pub row_ruled : HasRuled m₁ count (count - 1) w out
+      row_ruled = ruled_one kept w out (λ t. accepted (into_row t)) row_within ready made
+
+      pub row_works : (at n : ℕ) (r : Result Worked Refusal) (m₂ : Memory) → LaysDown m₁ count (count - 1) w out at n r m₂ → RuleWorks row at n m count out r m₂
+      row_works = works_one kept w out (λ t. accepted (into_row t)) row_within ready made row row_step
+
+    module _ (s : List ℕ) (small : Bytes s) (spec : Ty) (is : lone s ≡ accepted spec) (made : OfTop (λ t. validate unsided spec t) m₁ count w out) where
+      kept_within : (t : Ty) → Within t → (x : Ty) → validate unsided spec t ≡ accepted x → Within x
+      kept_within = validated-within spec (lone_write s small spec is).1
+
+      pub validated_ruled : HasRuled m₁ count (count - 1) w out
+      validated_ruled = ruled_one kept w out (λ t. validate unsided spec t) kept_within ready made
+
+      pub validated_works : (at n : ℕ) (r : Result Worked Refusal) (m₂ : Memory) → LaysDown m₁ count (count - 1) w out at n r m₂ → RuleWorks (validating spec) at n m count out r m₂
+      validated_works = works_one kept w out (λ t. validate unsided spec t) kept_within ready made (validating spec) (validate-step spec)
+
+  module _ (ready : Ready 2 m count) where
+    module _ (made : OfTwo (λ t u. accepted (join_types t u)) m₁ count w out) where
+      pub join_ruled : HasRuled m₁ count (count - 2) w out
+      join_ruled = ruled_two kept w out (λ t u. accepted (join_types t u)) join-within ready made
+
+      pub join_works : (at n : ℕ) (r : Result Worked Refusal) (m₂ : Memory) → LaysDown m₁ count (count - 2) w out at n r m₂ → RuleWorks join at n m count out r m₂
+      join_works = works_two kept w out (λ t u. accepted (join_types t u)) join-within ready made join join_step
+
+    module _ (f g : Bool) (made : OfTwo (λ t u. at_start (pervade_types f g t u)) m₁ count w out) where
+      pub pervading_ruled : HasRuled m₁ count (count - 2) w out
+      pervading_ruled = ruled_two kept w out (λ t u. at_start (pervade_types f g t u)) (pervade-within f g) ready made
+
+      pub pervading_works : (at n : ℕ) (r : Result Worked Refusal) (m₂ : Memory) → LaysDown m₁ count (count - 2) w out at n r m₂ → RuleWorks (pervading f g) at n m count out r m₂
+      pervading_works = works_two kept w out (λ t u. at_start (pervade_types f g t u)) (pervade-within f g) ready made (pervading f g) (pervade-step f g)
 
 -- ---- a step that was read
 
-module _ (s : List ℕ) {r : StepRead} {o : Read WrittenStep} (read : StepIs r s o) where
-  pub put-read : {C : Type 0} {start n : ℕ} → r ≡ Put start n → ((t : Ty) → o ≡ got (working (put t)) n → Spans s start n t → C) → C
-  put-read {C} {start} {n} is f = go (rw is at read)
-    where
-      go : StepIs (Put start n) s o → C
-      go (t, e, spans) = f t e spans
+-- its type is a part of the sheet
+pub type_inside : (s : List ℕ) (x : cursor.Step) (o : Read WrittenStep) {start n : ℕ} → StepIs (Ok x) s o → x ≡ AValidating start n → n ≤ length s
+type_inside s x o {start} {n} read is =
+    let read : StepIs (Ok (AValidating start n)) s o = rw is at read in
+    let (u, e, spans) = read in
+    spans_there s start n u spans
 
-  pub validating-read : {C : Type 0} {start n : ℕ} → r ≡ Validating start n → ((t : Ty) → o ≡ got (working (validating t)) n → Spans s start n t → C) → C
-  validating-read {C} {start} {n} is f = go (rw is at read)
-    where
-      go : StepIs (Validating start n) s o → C
-      go (t, e, spans) = f t e spans
+module _ (m : Memory) (count at : ℕ) (x : cursor.Step) (read : StepIs (Ok x) m.sheet (step_from m.sheet count at at)) where
+  read_as : {y : cursor.Step} → x ≡ y → StepIs (Ok y) m.sheet (step_from m.sheet count at at)
+  read_as is = rw is at read
 
-  pub row_read : {n : ℕ} → r ≡ Row n → o ≡ got (working row) n
-  row_read is = rw is at read
+  -- what is asked for before its rule is worked
+  module _ (small : Bytes m.sheet) (ready : Ready 0 m count) where
+    enough : {few n : ℕ} (y : Step) → step_from m.sheet count at at ≡ got (working y) n → few ≡ takes (written_as (working y)) → Ready few m count
+    enough {few} {n} y e same = let took = took-step m.sheet small count at at (working y) n e in record { enough = rw same took.enough; has = ready.has; fit = ready.fit }
 
-  pub pervading-read : {f g : Bool} {n : ℕ} → r ≡ Pervading f g n → o ≡ got (working (pervading f g)) n
-  pervading-read is = rw is at read
+    pub put_asks : {start n : ℕ} → x ≡ APut start n → (count < max_stack) × (start ≤ n) × (max_stack ≤ length m.ends) × (max_stack ≤ length m.lengths)
+    put_asks {start} {n} is =
+        let (u, e, spans) = read_as is in
+        let took = took-step m.sheet small count at at (working (put u)) n e in
+        (omega (arith, took.room), spans_forth m.sheet start n u spans, ready.has.stacked.ended, ready.has.stacked.measured)
 
-  pub join-read : {n : ℕ} → r ≡ Join n → o ≡ got (working join) n
-  join-read is = rw is at read
+    pub row_asks : {n : ℕ} → x ≡ ARow n → Ready 1 m count
+    row_asks is = enough row (read_as is) refl
 
-  pub declaring-read : {C : Type 0} {at n : ℕ} → r ≡ Declaring at n → ((name : TableName) (t : Ty) → o ≡ got (declaring name t) n → Declares s at n name t → C) → C
-  declaring-read {C} {at} {n} is f = go (rw is at read)
-    where
-      go : StepIs (Declaring at n) s o → C
-      go (name, t, e, d) = f name t e d
+    pub pervading_asks : {f g : Bool} {n : ℕ} → x ≡ APervading f g n → Ready 2 m count
+    pervading_asks {f} {g} is = enough (pervading f g) (read_as is) refl
 
-  pub using_read : {C : Type 0} {at n : ℕ} → r ≡ Using at n → ((name : TableName) → o ≡ got (using_name name) n → NameStands s at name → C) → C
-  using_read {C} {at} {n} is f = go (rw is at read)
-    where
-      go : StepIs (Using at n) s o → C
-      go (name, e, stands, end) = f name e stands
+    pub join_asks : {n : ℕ} → x ≡ AJoin n → Ready 2 m count
+    join_asks is = enough join (read_as is) refl
 
-  pub step-unread : {k p : ℕ} → r ≡ Unread k p → o ≡ stopped k p
-  step-unread is = rw is at read
+    pub validating_asks : {start n : ℕ} → x ≡ AValidating start n → Ready 1 m count × ((u : Ty) × (lone (take (n - start) (drop start m.sheet)) ≡ accepted u))
+    validating_asks {start} {n} is = let (u, e, spans) = read_as is in (enough (validating u) e refl, (u, spans_lone m.sheet start n u spans))
 
--- ---- a type that was looked up
+    pub using_asks : {name n : ℕ} → x ≡ AUsing name n → (t : NameTable) (named : ℕ) → HasNames m.sheet t.places t.bounds named
+        → (count < max_stack) × (max_stack ≤ length m.ends) × (max_stack ≤ length m.lengths) × HasNames m.sheet t.places t.bounds named × ((k : TableName) × NameStands m.sheet name k)
+    using_asks {name} {n} is t named has =
+        let (k, e, stands, end) = read_as is in
+        let took = took-step m.sheet small count at at (using_name k) n e in
+        (omega (arith, took.room), ready.has.stacked.ended, ready.has.stacked.measured, has, (k, stands))
 
-module _ (s : List ℕ) {r : LookedUp} {o : Option Ty} (found : LookedUpIs r s o) where
-  pub found_declared : {C : Type 0} {start end : ℕ} → r ≡ Declared start end → ((t : Ty) → o ≡ some t → Spans s start end t → C) → C
-  found_declared {C} {start} {end} is f = go (rw is at found)
-    where
-      go : LookedUpIs (Declared start end) s o → C
-      go (t, e, spans) = f t e spans
-
-  pub found-undeclared : r ≡ Undeclared → o ≡ none
-  found-undeclared is = rw is at found
-
--- ---- a step that was worked
+-- ---- a step from a state
 
 steps-one : (x : Step) (ts : Stack) → steps (x ∷ []) ts ≡ step x ts
 unfolding steps
@@ -105,158 +242,118 @@ steps-one x ts = go (step x ts)
     go (gives b) = refl
     go (refuses k) = refl
 
--- the state after what a rule makes of the stack
-module _ (st : State Stack) (w : WrittenStep) (m₁ : Memory) (t : NameTable) (count₁ : ℕ) {named : ℕ} (force : InForce m₁.sheet t.places t.bounds named (names_past w st.names)) (at n : ℕ) where
-  lifted : (r : Reached) (a : Ruling Stack) → Works r m₁ count₁ (placed a at n) → StepsTo r m₁ t count₁ named (placed (following a λ b. gives (after_step st w b)) at n)
-  lifted (At p) (gives b) (ts, e, stacked) = let x : b ≡ ts = cc in let y : n ≡ p = cc in (after_step st w ts, rw (x, y), stacked, force)
-  lifted (At p) (refuses k) (ts, e, stacked) = let z : ◌≡◌ {A = ℕ} 0 1 = cc in absurd (omega arith)
-  lifted (Refused k p) (gives b) e = let z : ◌≡◌ {A = ℕ} 0 1 = cc in absurd (omega arith)
-  lifted (Refused k p) (refuses j) e = let x : j ≡ k = cc in let y : at ≡ p = cc in rw (x, y)
+module _ (m : Memory) (t : NameTable) (named : ℕ) where
+  -- the state after what a rule makes of the stack
+  lifted : (st : State Stack) (w : WrittenStep) → InForce m.sheet t.places t.bounds named (names_past w st.names) → (at n : ℕ) (r : Result Worked Refusal) (a : Ruling Stack)
+      → Works r m (placed a at n) → StepsTo (with_names r named) m t (placed (following a λ b. gives (after_step st w b)) at n)
+  lifted st w force at n (Ok x) (gives b) (ts, e, stacked) = let y : b ≡ ts = cc in let z : n ≡ x.at = cc in (after_step st w ts, rw (y, z), stacked, force)
+  lifted st w force at n (Ok x) (refuses k) (ts, e, stacked) = let z : ◌≡◌ {A = ℕ} 0 1 = cc in absurd (omega arith)
+  lifted st w force at n (Err r) (gives b) e = let z : ◌≡◌ {A = ℕ} 0 1 = cc in absurd (omega arith)
+  lifted st w force at n (Err r) (refuses j) e = let x : j ≡ number_of r.0 = cc in let y : at ≡ r.1 = cc in rw (x, y)
 
-module _ (s : List ℕ) (at : ℕ) {m : Memory} {count named : ℕ} {places bounds : List ℕ} (st : State Stack) (h : Stacked m count st.stack) (force : InForce s places bounds named st.names) where
-  -- as it is read on that stack
-  here : {o : Read WrittenStep} → step_from s count at at ≡ o → step_from s (length st.stack) at at ≡ o
-  here e = ap (λ k. step_from s k at at) (stacked-count m count h) ∙ e
+  lifted_waits : (st : State Stack) → InForce m.sheet t.places t.bounds named st.names → (at : ℕ) (out : List ℕ) (r : Result Worked Refusal)
+      → RuleWaits r m at out st.stack → StepWaits (with_names r named) m t at out st
+  lifted_waits st force at out (Ok x) waits = (waits, force)
+  lifted_waits st force at out (Err r) waits = waits
 
-  pub unworked : {k p : ℕ} → step_from s count at at ≡ stopped k p → work_from s st at at ≡ stopped k p
-  unworked {k} {p} e = work-unread s st at at k p (written-unread s (length st.stack) st.names at at k p (here e))
+-- a step from any state that stack and names are of
+abbrev pub StepsFrom : Memory → ℕ → NameTable → ℕ → ℕ → Result Stepped Refusal → Memory → NameTable → List ℕ → Type 0
+StepsFrom m count t named at r m₁ t₁ out =
+    (st : State Stack) → Stacked m count st.stack → InForce m.sheet t.places t.bounds named st.names → StepsOrWaits r m₁ t₁ at out st
 
-  -- one of the five
-  module _ (r : Worked) (m₁ : Memory) (same : m₁.sheet ≡ s) (x : Step) {n : ℕ} (e : step_from s count at at ≡ got (working x) n) where
-    pub worked : Works r.answer m₁ r.count (placed (step x st.stack) at n) → StepsTo r.answer m₁ (name_table places bounds) r.count named (work_from s st at at)
-    worked w =
-        let read = written_read s (length st.stack) st.names at at (working x) n (here e) refl refl in
-        rw (work_rule s st at at (working x) n read, steps-one x st.stack)
-        (lifted st (working x) m₁ (name_table places bounds) r.count (rw same force) at n r.answer (step x st.stack) w)
+module _ (m : Memory) (count : ℕ) (t : NameTable) (named at : ℕ) where
+  module _ (st : State Stack) (h : Stacked m count st.stack) (force : InForce m.sheet t.places t.bounds named st.names) where
+    -- as it is read on that stack
+    here : {o : Read WrittenStep} → step_from m.sheet count at at ≡ o → step_from m.sheet (length st.stack) at at ≡ o
+    here e = ap (λ k. step_from m.sheet k at at) (stacked-count m count h) ∙ e
 
-    -- of which four may wait
-    pub worked_or_waits : (out : List ℕ) → RuleWorks x at n m count out r m₁ → StepsOrWaits r.answer m₁ (name_table places bounds) r.count named at out st
-    worked_or_waits out w =
-        ⊎_elim
-        (λ works. inl (subst (λ l. StepsTo r.answer m₁ (name_table places bounds) r.count named (work_from l st at at)) (sym same) (worked works)))
-        (λ waits. inr (waits, rw same force))
-        (w st.stack h)
+    unworked : {k p : ℕ} → step_from m.sheet count at at ≡ stopped k p → work_from m.sheet st at at ≡ stopped k p
+    unworked {k} {p} e = work-unread m.sheet st at at k p (written-unread m.sheet (length st.stack) st.names at at k p (here e))
 
-  -- a use: the put of the type in force, or 15
-  module _ (name : TableName) {n : ℕ} (e : step_from s count at at ≡ got (using_name name) n) (r : Worked) (m₁ : Memory) (same : m₁.sheet ≡ s) where
-    pub used : UseWorks (type_in_force st.names name) at n m count r m₁ → StepsTo r.answer m₁ (name_table places bounds) r.count named (work_from s st at at)
-    used w = go (type_in_force st.names name) refl w
+    -- one of the five rules
+    ruled : (x : Step) {n : ℕ} → step_from m.sheet count at at ≡ got (working x) n → (r : Result Worked Refusal) (m₁ : Memory) → m₁.sheet ≡ m.sheet
+        → Works r m₁ (placed (step x st.stack) at n) → StepsTo (with_names r named) m₁ t (work_from m.sheet st at at)
+    ruled x {n} e r m₁ same works =
+        let read = written_read m.sheet (length st.stack) st.names at at (working x) n (here e) refl refl in
+        rw (work_rule m.sheet st at at (working x) n read, steps-one x st.stack)
+        (lifted m₁ t named st (working x) (rw same force) at n r (step x st.stack) works)
+
+    -- a use: the put of the type in force, or 15
+    used : (name : TableName) {n : ℕ} → step_from m.sheet count at at ≡ got (using_name name) n → (r : Result Worked Refusal) (m₁ : Memory) → m₁.sheet ≡ m.sheet
+        → UseWorks (type_in_force st.names name) at n m count r m₁ → StepsTo (with_names r named) m₁ t (work_from m.sheet st at at)
+    used name {n} e r m₁ same works = go (type_in_force st.names name) refl works
       where
-        go : (o : Option Ty) → type_in_force st.names name ≡ o → UseWorks o at n m count r m₁ → StepsTo r.answer m₁ (name_table places bounds) r.count named (work_from s st at at)
-        go (some t) is w =
-            let read = written_read s (length st.stack) st.names at at (using_name name) n (here e) (rw is) refl in
-            rw (work_rule s st at at (using_name name) n read, is, steps-one (put t) st.stack)
-            (lifted st (using_name name) m₁ (name_table places bounds) r.count (rw same force) at n r.answer (step (put t) st.stack) (w st.stack h))
+        go : (o : Option Ty) → type_in_force st.names name ≡ o → UseWorks o at n m count r m₁ → StepsTo (with_names r named) m₁ t (work_from m.sheet st at at)
+        go (some u) is w =
+            let read = written_read m.sheet (length st.stack) st.names at at (using_name name) n (here e) (rw is) refl in
+            rw (work_rule m.sheet st at at (using_name name) n read, is, steps-one (put u) st.stack)
+            (lifted m₁ t named st (using_name name) (rw same force) at n r (step (put u) st.stack) (w st.stack h))
         go none is w =
             rw w
-            (work-unread s st at at undeclared at (written-unknown s (length st.stack) st.names at at (using_name name) n (here e) (rw is)))
+            (work-unread m.sheet st at at undeclared at (written-unknown m.sheet (length st.stack) st.names at at (using_name name) n (here e) (rw is)))
 
-  -- a declaration: the names that it leaves, or 16
-  module _ (name : TableName) (t : Ty) {n : ℕ} (e : step_from s count at at ≡ got (declaring name t) n) (tab : NameTable) (many : ℕ) where
-    pub declared : (r : Reached) → NameKept r s tab many at n (declare st.names name t) → m.sheet ≡ s → StepsTo r m tab count many (work_from s st at at)
+    -- a declaration: the names that it leaves, or 16
+    declared : (name : TableName) (u : Ty) {n : ℕ} → step_from m.sheet count at at ≡ got (declaring name u) n → (r : Result Stepped Refusal) (t₁ : NameTable)
+        → NameKept r m.sheet t₁ count at n (declare st.names name u) → StepsTo r m t₁ (work_from m.sheet st at at)
     unfolding steps
-    declared (At p) (end, kept) same =
-        let few = le-leb (length (declare st.names name t)) max_names (omega (arith, kept.many, kept.few)) in
-        let read = written_read s (length st.stack) st.names at at (declaring name t) n (here e) refl few in
-        (after_step st (declaring name t) st.stack, work_rule s st at at (declaring name t) n read ∙ rw end, h, rw same kept)
-    declared (Refused k p) (number, place, crowd) same =
-        rw (number, place)
-        (work-unread s st at at too_many_names at (written_crowded s (length st.stack) st.names at at (declaring name t) n (here e) refl (lt-leb (length (declare st.names name t)) max_names crowd)))
+    declared name u {n} e (Ok x) t₁ (end, same, kept) =
+        let few = le-leb (length (declare st.names name u)) max_names (omega (arith, kept.many, kept.few)) in
+        let read = written_read m.sheet (length st.stack) st.names at at (declaring name u) n (here e) refl few in
+        (after_step st (declaring name u) st.stack, work_rule m.sheet st at at (declaring name u) n read ∙ rw end, rw same h, kept)
+    declared name u {n} e (Err r) t₁ (is, crowd) =
+        rw is
+        (work-unread m.sheet st at at too_many_names at
+        (written_crowded m.sheet (length st.stack) st.names at at (declaring name u) n (here e) refl (lt-leb (length (declare st.names name u)) max_names crowd)))
 
--- ---- the rules
+  -- ---- each of the seven
 
-pub put-worked : (t : Ty) (ts : Stack) (p n : ℕ) → length ts < max_stack → placed (step (put t) ts) p n ≡ got (t ∷ ts) n
-put-worked t ts p n h = rw (step-put t ts h)
+  -- the exit of a `?` after the reading of the step
+  pub unread_steps : (r : Refusal) → StepIs (Err r) m.sheet (step_from m.sheet count at at) → (q : Result Stepped Refusal) → IsErrAnd q (λ e. e ≡ r) → (out : List ℕ)
+      → StepsFrom m count t named at q m t out
+  unread_steps r read q is out st h force = let (x, same, e) = err_from_is_err_and q is in rw (same, e) (inl (unworked st h force read))
 
-pub row_step : (t : Ty) (us : Stack) → step row (t ∷ us) ≡ onto us (aside (accepted (into_row t)))
-unfolding step
-row_step t us = refl
+  module _ (x : cursor.Step) (read : StepIs (Ok x) m.sheet (step_from m.sheet count at at)) where
+    -- what it comes to
+    module _ (q : Result Stepped Refusal) (m₁ : Memory) (same : m₁.sheet ≡ m.sheet) (out : List ℕ) where
+      module _ (r : Result Worked Refusal) (named_as : q ≡ with_names r named) where
+        rule_steps : (y : Step) {n : ℕ} → step_from m.sheet count at at ≡ got (working y) n → RuleWorks y at n m count out r m₁ → StepsFrom m count t named at q m₁ t out
+        rule_steps y e works st h force =
+            rw named_as
+            (⊎_elim
+            (λ w. inl (subst (λ l. StepsTo (with_names r named) m₁ t (work_from l st at at)) (sym same) (ruled st h force y e r m₁ same w)))
+            (λ waits. inr (lifted_waits m₁ t named st (rw same force) at out r waits))
+            (works st.stack h))
 
-pub join_step : (t u : Ty) (us : Stack) → step join (t ∷ u ∷ us) ≡ onto us (aside (accepted (join_types t u)))
-unfolding step
-join_step t u us = refl
+        pub row_steps : {n : ℕ} → x ≡ ARow n → RuleWorks row at n m count out r m₁ → StepsFrom m count t named at q m₁ t out
+        row_steps is works = rule_steps row (read_as m count at x read is) works
 
-aside-start : {A : Type 0} (a : Ruling A) → aside (at_start a) ≡ a
-aside-start (gives a) = refl
-aside-start (refuses k) = refl
+        pub pervading_steps : {f g : Bool} {n : ℕ} → x ≡ APervading f g n → RuleWorks (pervading f g) at n m count out r m₁ → StepsFrom m count t named at q m₁ t out
+        pervading_steps {f} {g} is works = rule_steps (pervading f g) (read_as m count at x read is) works
 
-pub pervade-step : (f g : Bool) (t u : Ty) (us : Stack) → step (pervading f g) (t ∷ u ∷ us) ≡ onto us (aside (at_start (pervade_types f g t u)))
-unfolding step
-pervade-step f g t u us = rw (aside-start (pervade_types f g t u))
+        pub join_steps : {n : ℕ} → x ≡ AJoin n → RuleWorks join at n m count out r m₁ → StepsFrom m count t named at q m₁ t out
+        join_steps is works = rule_steps join (read_as m count at x read is) works
 
-pub validate-step : (spec t : Ty) (us : Stack) → step (validating spec) (t ∷ us) ≡ onto us (aside (validate unsided spec t))
-unfolding step
-validate-step spec t us = refl
+        pub validating_steps : {start n : ℕ} → x ≡ AValidating start n
+            → ((u : Ty) → lone (take (n - start) (drop start m.sheet)) ≡ accepted u → RuleWorks (validating u) at n m count out r m₁) → StepsFrom m count t named at q m₁ t out
+        validating_steps {start} {n} is works = let (u, e, spans) = read_as m count at x read is in rule_steps (validating u) e (works u (spans_lone m.sheet start n u spans))
 
--- ---- what a rule wrote
+        pub put_steps : {start n : ℕ} → x ≡ APut start n
+            → ((u : Ty) → Within u → n ≡ start + size u → Stands m.sheet start (write_ty u) → StepWorks (put u) at n m count r m₁) → StepsFrom m count t named at q m₁ t out
+        put_steps is works =
+            let (u, e, spans) = read_as m count at x read is in
+            rule_steps (put u) e λ ts h. inl (works u spans.within spans.reaches spans.stands ts h)
 
-module _ (o : Outcome Ty) (w : Written) (out : List ℕ) where
-  pub rule_wrote : {C : Type 0} {n : ℕ} → w ≡ Wrote n → Puts w out (mapped write_ty o) ⊎ Short w out
-      → ((t : Ty) → o ≡ accepted t → take n out ≡ write_ty t → n ≤ length out → C) → C
-  rule_wrote {C} {n} is given f = ⊎_elim (λ puts. go o refl (rw is at puts)) (λ short. let z : ◌≡◌ {A = ℕ} 0 1 = cc in absurd (omega arith)) given
-    where
-      go : (x : Outcome Ty) → o ≡ x → Puts (Wrote n) out (mapped write_ty x) → C
-      go (refused k p) same (e, fits) = let z : ◌≡◌ {A = ℕ} 0 1 = cc in absurd (omega arith)
-      go (accepted t) same (e, fits) = f t same (cc) fits
+        pub using_steps : {name n : ℕ} → x ≡ AUsing name n
+            → ((ns : Names) (k : TableName) → InForce m.sheet t.places t.bounds named ns → NameStands m.sheet name k → UseWorks (type_in_force ns k) at n m count r m₁)
+            → StepsFrom m count t named at q m₁ t out
+        using_steps is works st h force =
+            let (k, e, stands, end) = read_as m count at x read is in
+            let steps = used st h force k e r m₁ same (works st.names k force stands) in
+            rw named_as (inl (subst (λ l. StepsTo (with_names r named) m₁ t (work_from l st at at)) (sym same) steps))
 
-  -- a refusal of the buffer is one that says so, of a buffer that may be too short
-  pub rule_refused : {k p : ℕ} → w ≡ Unwritten k p → (k ≡ too_short → max_bytes ≤ length out) → Puts w out (mapped write_ty o) ⊎ Short w out → o ≡ refused k p
-  rule_refused {k} {p} is room given = ⊎_elim (λ puts. go o (rw is at puts)) (λ short. let x : k ≡ too_short = cc in absurd (omega (arith, room x, short.1))) given
-    where
-      go : (x : Outcome Ty) → mapped write_ty x ≡ refused k p → x ≡ refused k p
-      go (refused j q) e = cc
-      go (accepted t) e = let z : ◌≡◌ {A = ℕ} 0 1 = cc in absurd (omega arith)
-
--- ---- what a rule made of the types on top takes their place
-
--- a step worked where the types lie otherwise
-pub works_kept : (x : Step) (at n : ℕ) (m m₁ m₂ : Memory) (count : ℕ) (out : List ℕ) (r : Worked) → Keeps m count m₁ → RuleWorks x at n m₁ count out r m₂ → RuleWorks x at n m count out r m₂
-works_kept x at n m m₁ m₂ count out r kept works ts h = works ts (kept ts h)
-
-pub has_kept : (m m₁ : Memory) (count : ℕ) → Keeps m count m₁ → HasStack m count → HasStack m₁ count
-has_kept m m₁ count kept has = record { types = has.types; stacked = kept has.types has.stacked }
-
--- types on top that were unpacked may be worked on
-pub ready_unpacked : {few : ℕ} (m m₁ : Memory) (count : ℕ) → Ready few m count → Keeps m count m₁ → Unpacked few m₁.ends count → Workable few m₁ count
-ready_unpacked m m₁ count ready kept unpacked = record { enough = ready.enough; has = has_kept m m₁ count kept ready.has; unpacked = unpacked }
-
-module _ (m : Memory) (count : ℕ) (w : Written) (out : List ℕ) where
-  module _ (f : Ty → Outcome Ty) (within : (t : Ty) → Within t → (x : Ty) → f t ≡ accepted x → Within x) (few : 1 ≤ count) (made : OfTop f m count w out) where
-    one_ruled : (t : Ty) (us : Stack) → Stacked m count (t ∷ us) → Ruled count (count - 1) w out (f t)
-    one_ruled t us h = record {
-      within = within t (stacked_top m count h).within;
-      given = made t us h;
-      low = omega (arith, h.few);
-      there = omega arith;
-    }
-
-    pub ruled_one : HasStack m count → (o : Outcome Ty) × Ruled count (count - 1) w out o
-    ruled_one has = has_one has.types has.stacked few λ t us e. (f t, one_ruled t us (rw e at has.stacked))
-
-    pub works_one : (x : Step) → ((t : Ty) (us : Stack) → step x (t ∷ us) ≡ onto us (aside (f t))) → (at n : ℕ) (r : Worked) (m₁ : Memory)
-        → LaysDown m count (count - 1) w out at n r m₁ → RuleWorks x at n m count out r m₁
-    works_one x is at n r m₁ laid ts h =
-        has_one ts h few λ t us e.
-        let one : count - (count - 1) ≡ 1 = omega arith in
-        let same : after_rule ts (count - (count - 1)) (f t) ≡ step x ts = rw (one, e, is t us) in
-        subst (λ o. Works r.answer m₁ r.count (placed o at n) ⊎ Waits r.answer m₁ r.count at out ts) same (laid ts (f t) h (one_ruled t us (rw e at h)))
-
-  module _ (f : Ty → Ty → Outcome Ty) (within : (t u : Ty) → Within t → Within u → (x : Ty) → f t u ≡ accepted x → Within x) (few : 2 ≤ count) (made : OfTwo f m count w out) where
-    two_ruled : (t u : Ty) (us : Stack) → Stacked m count (t ∷ u ∷ us) → Ruled count (count - 2) w out (f t u)
-    two_ruled t u us h = record {
-      within = within t u (stacked_top m count h).within (stacked-below m count h).within;
-      given = made t u us h;
-      low = omega (arith, h.few);
-      there = omega arith;
-    }
-
-    pub ruled_two : HasStack m count → (o : Outcome Ty) × Ruled count (count - 2) w out o
-    ruled_two has = has-two has.types has.stacked few λ t u us e. (f t u, two_ruled t u us (rw e at has.stacked))
-
-    pub works_two : (x : Step) → ((t u : Ty) (us : Stack) → step x (t ∷ u ∷ us) ≡ onto us (aside (f t u))) → (at n : ℕ) (r : Worked) (m₁ : Memory)
-        → LaysDown m count (count - 2) w out at n r m₁ → RuleWorks x at n m count out r m₁
-    works_two x is at n r m₁ laid ts h =
-        has-two ts h few λ t u us e.
-        let two : count - (count - 2) ≡ 2 = omega arith in
-        let same : after_rule ts (count - (count - 2)) (f t u) ≡ step x ts = rw (two, e, is t u us) in
-        subst (λ o. Works r.answer m₁ r.count (placed o at n) ⊎ Waits r.answer m₁ r.count at out ts) same (laid ts (f t u) h (two_ruled t u us (rw e at h)))
+    pub declaring_steps : (q : Result Stepped Refusal) (t₁ : NameTable) (out : List ℕ) {name n : ℕ} → x ≡ ADeclaring name n
+        → ((ns : Names) (k : TableName) (u : Ty) → InForce m.sheet t.places t.bounds named ns → Declares m.sheet name n k u
+        → NameKept q m.sheet t₁ count at n (declare ns k u)) → StepsFrom m count t named at q m t₁ out
+    declaring_steps q t₁ out is kept st h force =
+        let (k, u, e, declares) = read_as m count at x read is in
+        inl (declared st h force k u e q t₁ (kept st.names k u force declares))

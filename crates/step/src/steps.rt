@@ -1,6 +1,6 @@
 // One step: it is read, then its name is looked at or its rule is worked on the stack. A rule is told the step's fields and gets its
 // operands from `stack`, which may find them in the sheet.
-ghost use Rattle.std.specs.Prelude.{◌≡◌, List, ℕ, ◌+◌, ◌≤◌, ◌<◌, length};
+ghost use Rattle.std.specs.Prelude.{◌≡◌, List, ℕ, ◌+◌, ◌≤◌, ◌<◌, length, Ok};
 ghost use Rattle.model.specs.Types.{Ty};
 ghost use Rattle.model.specs.Within.{Within};
 ghost use Rattle.format.specs.Records.{write_ty};
@@ -14,14 +14,13 @@ ghost use Rattle.machine.specs.Names.{Names, type_in_force, declare};
 ghost use Rattle.machine.specs.Sheet.{State};
 ghost use Rattle.names.specs.Table.{NameStands, Declares, InForce, HasNames};
 ghost use Rattle.stack.specs.Stack.{memory, size, Stacked, HasStack};
-ghost use Rattle.step.specs.Answers.{name_table, StepsOrWaits, NameKept, Ready, StepWorks, RuleWorks, UseWorks, Ruled, LaysDown};
+ghost use Rattle.step.specs.Answers.{name_table, StepsOrWaits, NameKept, Ready, StepWorks, RuleWorks, UseWorks, Ruled, LaysDown, with_names};
 
-use crate::{Reached, Stepped, Worked};
-use cursor::{StepRead, step_at};
-use lent::Written;
-use limits::refusal::{TOO_MANY_NAMES, TOO_SHORT, UNDECLARED};
+use crate::{Stepped, Worked};
+use cursor::{Step, step_at};
+use limits::refusal::{Reason, Refusal};
 use limits::{MAX_BYTES, MAX_NAMES};
-use names::{LookedUp, look_up};
+use names::look_up;
 use stack::{store, unpack_top, unpack_two};
 use tops::{join_top, pervade_top, row_top, validate_top};
 
@@ -38,21 +37,21 @@ pub fn work_step(
     trays: &mut [u8],
     scratch: &mut [u8],
     out: &mut [u8],
-) -> Stepped
+) -> Result<Stepped, Refusal>
     requires { Ready 0 (memory ends.old lengths.old s.now trays.old scratch.old) count
         × HasNames s.now places.old bounds.old named }
     ensures { (st : State Stack) → Stacked (memory ends.old lengths.old s.now trays.old scratch.old) count st.stack
         → InForce s.now places.old bounds.old named st.names
-        → StepsOrWaits result.answer (memory ends.new lengths.new s.now trays.new scratch.new)
-        (name_table places.new bounds.new) result.count result.named at out.new st }
+        → StepsOrWaits result (memory ends.new lengths.new s.now trays.new scratch.new)
+        (name_table places.new bounds.new) at out.new st }
 {
-    let read = step_at(s, at, count);
-    match read {
-        StepRead::Put { start, next } => {
+    let step = step_at(s, at, count)?;
+    match step {
+        Step::Put { start, next } => {
             let worked = put(start, next, next, count, &mut *ends, &mut *lengths);
-            keep_names(worked, named)
+            keep_names(Ok(worked), named)
         }
-        StepRead::Row { next } => {
+        Step::Row { next } => {
             let worked = row(
                 at,
                 next,
@@ -66,7 +65,7 @@ pub fn work_step(
             );
             keep_names(worked, named)
         }
-        StepRead::Pervading {
+        Step::Pervading {
             top_fill,
             below_fill,
             next,
@@ -86,7 +85,7 @@ pub fn work_step(
             );
             keep_names(worked, named)
         }
-        StepRead::Join { next } => {
+        Step::Join { next } => {
             let worked = join(
                 at,
                 next,
@@ -100,7 +99,7 @@ pub fn work_step(
             );
             keep_names(worked, named)
         }
-        StepRead::Validating { start, next } => {
+        Step::Validating { start, next } => {
             let worked = validate(
                 &s[start..next],
                 at,
@@ -115,7 +114,7 @@ pub fn work_step(
             );
             keep_names(worked, named)
         }
-        StepRead::Declaring { name, next } => declare_name(
+        Step::Declaring { name, next } => declare_name(
             s,
             name,
             at,
@@ -125,7 +124,7 @@ pub fn work_step(
             &mut *places,
             &mut *bounds,
         ),
-        StepRead::Using { name, next } => {
+        Step::Using { name, next } => {
             let worked = use_name(
                 s,
                 name,
@@ -140,24 +139,19 @@ pub fn work_step(
             );
             keep_names(worked, named)
         }
-        StepRead::Refused { number, place } => {
-            let worked = refuse(count, number, place);
-            keep_names(worked, named)
-        }
     }
 }
 
 // What a step comes to that declares no name: as many are in force as before.
-fn keep_names(worked: Worked, named: usize) -> Stepped
-    ensures { (result.answer ≡ worked.answer) × (result.count ≡ worked.count) × (result.named ≡ named) }
+fn keep_names(worked: Result<Worked, Refusal>, named: usize) -> Result<Stepped, Refusal>
+    ensures { result ≡ with_names worked named }
 {
-    let answer = worked.answer;
-    let count = worked.count;
-    Stepped {
-        answer,
-        count,
+    let worked = worked?;
+    Ok(Stepped {
+        at: worked.at,
+        count: worked.count,
         named,
-    }
+    })
 }
 
 // A declaration leaves the stack as it is. A name too many is found once its type is read.
@@ -170,28 +164,20 @@ fn declare_name(
     named: usize,
     places: &mut [usize],
     bounds: &mut [usize],
-) -> Stepped
+) -> Result<Stepped, Refusal>
     requires { HasNames s.now places.old bounds.old named × ((n : TableName) × (t : Ty) × Declares s.now name next n t) }
-    ensures { (result.count ≡ count) × ((ns : Names) (n : TableName) (t : Ty) → InForce s.now places.old bounds.old named ns
-        → Declares s.now name next n t
-        → NameKept result.answer s.now (name_table places.new bounds.new) result.named at next (declare ns n t)) }
+    ensures { (ns : Names) (n : TableName) (t : Ty) → InForce s.now places.old bounds.old named ns → Declares s.now name next n t
+        → NameKept result s.now (name_table places.new bounds.new) count at next (declare ns n t) }
 {
     let many = names::declare(s, &mut *places, &mut *bounds, named, name, next);
     if MAX_NAMES < many {
-        return Stepped {
-            answer: Reached::Refused {
-                number: TOO_MANY_NAMES,
-                place: at,
-            },
-            count,
-            named,
-        };
+        return Err(Refusal(Reason::TooManyNames, at));
     }
-    Stepped {
-        answer: Reached::At(next),
+    Ok(Stepped {
+        at: next,
         count,
         named: many,
-    }
+    })
 }
 
 // A use puts the type in force, which stays where it was declared.
@@ -206,33 +192,23 @@ fn use_name(
     lengths: &mut [usize],
     places: &[usize],
     bounds: &[usize],
-) -> Worked
+) -> Result<Worked, Refusal>
     requires { (count < max_stack) × (max_stack ≤ length ends.old) × (max_stack ≤ length lengths.old) × HasNames s.now places.now bounds.now named
         × ((n : TableName) × NameStands s.now name n) }
     ensures { (h d : List ℕ) (ns : Names) (n : TableName) → InForce s.now places.now bounds.now named ns → NameStands s.now name n
         → UseWorks (type_in_force ns n) at next (memory ends.old lengths.old s.now h d) count result
         (memory ends.new lengths.new s.now h d) }
 {
-    let found = look_up(s, places, bounds, named, name);
-    match found {
-        LookedUp::Declared { start, end } => put(
-            start,
-            end,
+    match look_up(s, places, bounds, named, name) {
+        Some(found) => Ok(put(
+            found.start,
+            found.end,
             next,
             count,
             &mut *ends,
             &mut *lengths,
-        ),
-        LookedUp::Undeclared => refuse(count, UNDECLARED, at),
-    }
-}
-
-fn refuse(count: usize, number: u8, place: usize) -> Worked
-    ensures { result.answer ≡ Reached.Refused number place }
-{
-    Worked {
-        answer: Reached::Refused { number, place },
-        count,
+        )),
+        None => Err(Refusal(Reason::Undeclared, at)),
     }
 }
 
@@ -247,11 +223,11 @@ fn put(
 ) -> Worked
     requires { (count < max_stack) × (start ≤ end) × (max_stack ≤ length ends.old) × (max_stack ≤ length lengths.old) }
     ensures { (s h d : List ℕ) (t : Ty) (at : ℕ) → Within t → end ≡ start + size t → Stands s start (write_ty t)
-        → StepWorks (steps.put t) at next (memory ends.old lengths.old s h d) count result (memory ends.new lengths.new s h d) }
+        → StepWorks (steps.put t) at next (memory ends.old lengths.old s h d) count (Ok result) (memory ends.new lengths.new s h d) }
 {
     stack::put(&mut *ends, &mut *lengths, count, start, end);
     Worked {
-        answer: Reached::At(next),
+        at: next,
         count: count + 1,
     }
 }
@@ -266,7 +242,7 @@ fn row(
     trays: &mut [u8],
     scratch: &mut [u8],
     out: &mut [u8],
-) -> Worked
+) -> Result<Worked, Refusal>
     requires { Ready 1 (memory ends.old lengths.old s.now trays.old scratch.old) count }
     ensures { RuleWorks steps.row at next (memory ends.old lengths.old s.now trays.old scratch.old) count out.new result
         (memory ends.new lengths.new s.now trays.new scratch.new) }
@@ -299,7 +275,7 @@ fn pervade(
     trays: &mut [u8],
     scratch: &mut [u8],
     out: &mut [u8],
-) -> Worked
+) -> Result<Worked, Refusal>
     requires { Ready 2 (memory ends.old lengths.old s.now trays.old scratch.old) count }
     ensures { RuleWorks (steps.pervading top_fill below_fill) at next (memory ends.old lengths.old s.now trays.old scratch.old) count out.new result
         (memory ends.new lengths.new s.now trays.new scratch.new) }
@@ -332,7 +308,7 @@ fn join(
     trays: &mut [u8],
     scratch: &mut [u8],
     out: &mut [u8],
-) -> Worked
+) -> Result<Worked, Refusal>
     requires { Ready 2 (memory ends.old lengths.old s.now trays.old scratch.old) count }
     ensures { RuleWorks steps.join at next (memory ends.old lengths.old s.now trays.old scratch.old) count out.new result
         (memory ends.new lengths.new s.now trays.new scratch.new) }
@@ -364,7 +340,7 @@ fn validate(
     trays: &mut [u8],
     scratch: &mut [u8],
     out: &mut [u8],
-) -> Worked
+) -> Result<Worked, Refusal>
     requires { Ready 1 (memory ends.old lengths.old s.now trays.old scratch.old) count × ((t : Ty) × (lone spec.now ≡ accepted t)) }
     ensures { (t : Ty) → lone spec.now ≡ accepted t
         → RuleWorks (steps.validating t) at next (memory ends.old lengths.old s.now trays.old scratch.old) count out.new result
@@ -395,17 +371,17 @@ fn lay_down(
     k: usize,
     trays: &mut [u8],
     scratch: &mut [u8],
-    w: Written,
+    w: Result<usize, Refusal>,
     out: &[u8],
     at: usize,
     next: usize,
-) -> Worked
+) -> Result<Worked, Refusal>
     requires { ((s : List ℕ) × HasStack (memory ends.old lengths.old s trays.old scratch.old) count) × ((o : Outcome Ty) × Ruled count k w out.now o) }
     ensures { (s : List ℕ) → LaysDown (memory ends.old lengths.old s trays.old scratch.old) count k w out.now at next result
         (memory ends.new lengths.new s trays.new scratch.new) }
 {
     match w {
-        Written::Wrote(n) => {
+        Ok(n) => {
             store(
                 &mut *ends,
                 &mut *lengths,
@@ -414,26 +390,13 @@ fn lay_down(
                 &mut *scratch,
                 &out[..n],
             );
-            Worked {
-                answer: Reached::At(next),
+            Ok(Worked {
+                at: next,
                 count: k + 1,
-            }
+            })
         }
-        Written::Refused { number, place: _ } => {
-            if number == TOO_SHORT && out.len() < MAX_BYTES {
-                return wait(count, at);
-            }
-            refuse(count, number, at)
-        }
-    }
-}
-
-// The stack is left to the step until it has a longer buffer; its own place says so, since no step ends where it begins.
-fn wait(count: usize, at: usize) -> Worked
-    ensures { (result.answer ≡ Reached.At at) × (result.count ≡ count) }
-{
-    Worked {
-        answer: Reached::At(at),
-        count,
+        // The stack is left to the step until it has a longer buffer; its own place says so, since no step ends where it begins.
+        Err(Refusal(Reason::TooShort, _)) if out.len() < MAX_BYTES => Ok(Worked { at, count }),
+        Err(Refusal(reason, _)) => Err(Refusal(reason, at)),
     }
 }

@@ -8,11 +8,9 @@ use std::io::Result;
 pub(crate) fn told(got: Result<usize>) -> Answered
     ensures { result ≡ answered_by got }
 {
-    let Ok(n) = got else {
-        return Answered::Failed;
-    };
-    if n > 0 {
-        return Answered::Bytes(n);
+    match got {
+        Ok(0) => Answered::Nothing,
+        Ok(n) => Answered::Bytes(n),
+        Err(_) => Answered::Failed,
     }
-    Answered::Nothing
 }

@@ -1,16 +1,20 @@
 -- Laws of texts that are read: digits one by one, the number that they make, and the bytes that they stand for.
-use Prim.Native.Nat.{ℕ, zero, suc, ◌+◌, ◌-◌, ◌*◌, ◌/◌, ◌^◌, ◌≤◌, ◌<◌}
+use Prim.Native.Nat.{ℕ, zero, suc, ◌+◌, ◌*◌, ◌/◌, ◌^◌, ◌≤◌, ◌<◌}
 use native.Mathlib.Omega.{arith}
-use native.Mathlib.Nat.{mul-le-mul_left, le-div_iff_mul-le, div-lt_iff_lt-mul}
+use native.Mathlib.Nat.{mul-le-mul_left}
 use native.Mathlib.Numerals.{add-one}
 use mathlib.Core.Bool.{Bool, true, false, ◌&&◌}
 use mathlib.Core.List.{List, [], ◌∷◌}
 use mathlib.Core.Option.{none, some}
 use mathlib.Core.Path.{◌≡◌, refl, sym, ◌∙◌, ap}
-use lib.ListN.{length, get_or, set, drop, drop_of_length-le}
+use lib.ListN.{length, length-set, get_or, set, drop, drop_of_length-le}
 use lib.Seq.{drop-cons, paste, paste-suc}
 use lib.Dec.{ltb}
 use borrow.Author.Tests.{lt-ltb, le-ltb, ltb-true}
+use Rattle.std.specs.Prelude as code
+use Rattle.std.specs.Prelude.{IfSome, Some, None, is_some}
+use Rattle.std.specs.List.{list_all}
+use Rattle.text.specs.Answers.{worth_of}
 use Rattle.text.specs.Digits.{digit, are_digits, number_after, numeral, unhex}
 
 both_left : (a b : Bool) → a && b ≡ true → a ≡ true
@@ -27,11 +31,21 @@ not-both false b e = refl
 
 -- ---- digits
 
+-- what tells a digit from another character, by its worth
+pub is_digit : (r : code.Option ℕ) (c : ℕ) → worth_of r ≡ digit c → IfSome r (λ d. d < 16) → is_some r ≡ ltb (digit c) 16
+is_digit None c e h = rw (← e)
+is_digit (Some d) c e h = rw (← e) (sym (lt-ltb d 16 h))
+
+pub all-digits : (base : ℕ) (s : List ℕ) → list_all (λ c. ltb (digit c) base) s ≡ are_digits base s
+unfolding are_digits
+all-digits base [] = refl
+all-digits base (c ∷ s) = ap (λ t. ltb (digit c) base && t) (all-digits base s)
+
 module _ (base : ℕ) (s : List ℕ) (i : ℕ) (h : i < length s) where
   ahead : drop i s ≡ get_or s i 0 ∷ drop (i + 1) s
   ahead = drop-cons s i 0 h ∙ rw add-one
 
-  pub digits-stop : base ≤ digit (get_or s i 0) → are_digits base (drop i s) ≡ false
+  digits-stop : base ≤ digit (get_or s i 0) → are_digits base (drop i s) ≡ false
   unfolding are_digits
   digits-stop l = rw (ahead, le-ltb (digit (get_or s i 0)) base l)
 
@@ -43,20 +57,11 @@ module _ (base : ℕ) (s : List ℕ) (i : ℕ) (h : i < length s) where
   unfolding number_after
   number_more n = rw ahead
 
-module _ (base : ℕ) (s : List ℕ) (i : ℕ) (h : length s ≤ i) where
-  pub digits-end : are_digits base (drop i s) ≡ true
-  unfolding are_digits
-  digits-end = ap (are_digits base) (drop_of_length-le s h)
-
-  pub number-end : (n : ℕ) → number_after base n (drop i s) ≡ n
-  unfolding number_after
-  number-end n = ap (number_after base n) (drop_of_length-le s h)
-
-pub digit-below : (base : ℕ) (s : List ℕ) (i : ℕ) → are_digits base s ≡ true → i < length s → digit (get_or s i 0) < base
+pub digit_below : (base : ℕ) (s : List ℕ) (i : ℕ) → are_digits base s ≡ true → i < length s → digit (get_or s i 0) < base
 unfolding are_digits
-digit-below base [] i e h = omega arith
-digit-below base (c ∷ s) zero e h = ltb-true (digit c) base (both_left (ltb (digit c) base) (are_digits base s) e)
-digit-below base (c ∷ s) (suc i) e h = digit-below base s i (both_right (ltb (digit c) base) (are_digits base s) e) (omega arith)
+digit_below base [] i e h = omega arith
+digit_below base (c ∷ s) zero e h = ltb-true (digit c) base (both_left (ltb (digit c) base) (are_digits base s) e)
+digit_below base (c ∷ s) (suc i) e h = digit_below base s i (both_right (ltb (digit c) base) (are_digits base s) e) (omega arith)
 
 -- ---- the number that they make
 
@@ -65,29 +70,25 @@ unfolding number_after
 number-grows base n [] p = omega arith
 number-grows base n (c ∷ s) p = omega (arith, mul-le-mul_left n p, number-grows base (n * base + digit c) s p)
 
-module _ (base : ℕ) (s : List ℕ) where
-  pub numeral_wrong : are_digits base s ≡ false → numeral base s ≡ none
+-- What is known of the number before the digit at i, where those before it gave n.
+module _ (base : ℕ) (s : List ℕ) (i n : ℕ) where
+  pub digit_stops : are_digits base s ≡ are_digits base (drop i s) → i < length s → base ≤ digit (get_or s i 0) → numeral base s ≡ none
   unfolding numeral
-  numeral_wrong e = rw e
+  digit_stops d h l = rw (d ∙ digits-stop base s i h l)
 
-  numeral_large : 2 ^ 64 ≤ number_after base 0 s → numeral base s ≡ none
+  pub number_stops : 0 < base → number_after base 0 s ≡ number_after base n (drop i s) → i < length s → 2 ^ 64 ≤ n * base + digit (get_or s i 0) → numeral base s ≡ none
   unfolding numeral
-  numeral_large h = rw (not-both (are_digits base s) (ltb (number_after base 0 s) (2 ^ 64)) (le-ltb (number_after base 0 s) (2 ^ 64) h))
+  number_stops p e h l =
+      let next = n * base + digit (get_or s i 0) in
+      let same : number_after base 0 s ≡ number_after base next (drop (i + 1) s) = e ∙ number_more base s i h n in
+      let grows : next ≤ number_after base next (drop (i + 1) s) = number-grows base next (drop (i + 1) s) p in
+      rw (not-both (are_digits base s) (ltb (number_after base 0 s) (2 ^ 64)) (le-ltb (number_after base 0 s) (2 ^ 64) (omega arith)))
 
-  pub numeral-right : (n : ℕ) → are_digits base s ≡ true → number_after base 0 s ≡ n → n < 2 ^ 64 → numeral base s ≡ some n
-  unfolding numeral
-  numeral-right n d e h = rw (d, e, lt-ltb n (2 ^ 64) h)
-
--- One more digit d: the test for its room, and what follows.
-module _ (n base d : ℕ) (p : 0 < base) (small : d ≤ 16) where
-  pub room-left : n ≤ (18446744073709551615 - d) / base → n * base + d < 2 ^ 64
-  room-left h = omega (arith, (le-div_iff_mul-le p).0 h)
-
-  pub numeral-over : (s : List ℕ) (i : ℕ) → i < length s → d ≡ digit (get_or s i 0) → number_after base 0 s ≡ number_after base n (drop i s) → (18446744073709551615 - d) / base < n → numeral base s ≡ none
-  numeral-over s i h e start over =
-      let same : number_after base 0 s ≡ number_after base (n * base + d) (drop (i + 1) s) = start ∙ number_more base s i h n ∙ rw e in
-      let grows : n * base + d ≤ number_after base (n * base + d) (drop (i + 1) s) = number-grows base (n * base + d) (drop (i + 1) s) p in
-      numeral_large base s (omega (arith, (div-lt_iff_lt-mul p).0 over))
+  pub number_ends : are_digits base s ≡ are_digits base (drop i s) → number_after base 0 s ≡ number_after base n (drop i s) → length s ≤ i → n < 2 ^ 64 → numeral base s ≡ some n
+  unfolding numeral are_digits number_after
+  number_ends d e l h =
+      let all : drop i s ≡ [] = drop_of_length-le s l in
+      rw (d ∙ ap (are_digits base) all, e ∙ ap (number_after base n) all, lt-ltb n (2 ^ 64) h)
 
 -- ---- the bytes that they stand for
 
@@ -96,6 +97,9 @@ unfolding unhex
 length-unhex [] = refl
 length-unhex (h ∷ []) = refl
 length-unhex (h ∷ l ∷ s) = omega (arith, length-unhex s)
+
+-- how long what is decoded and what is written to are
+pub ruleset decoded_lengths = (length-unhex, length-set)
 
 pub get_d_unhex : (s : List ℕ) (i : ℕ) → i < length s / 2 → get_or (unhex s) i 0 ≡ 16 * digit (get_or s (2 * i) 0) + digit (get_or s (2 * i + 1) 0)
 unfolding unhex

@@ -6,13 +6,16 @@ use native.Mathlib.Numerals.{unary_clauses}
 use mathlib.Core.Bool.{Bool, true, false}
 use mathlib.Core.List.{List, [], ◌∷◌, ◌++◌}
 use mathlib.Core.Path.{◌≡◌, refl, sym, ◌∙◌, ap}
-use lib.ListN.{length, get_or, set}
+use lib.ListN.{length, length-set, get_or, set}
 use lib.Seq.{paste, paste-suc}
 use lib.Dec.{ltb}
 use borrow.Author.Tests.{lt-ltb, le-ltb, ltb-true, ltb-false}
 use Rattle.io.specs.Digits.{hex_digit_ascii, last_digits, IsDigitCount}
 use Rattle.text.specs.Digits.{hex_of, decimal_within, decimal_of}
 use Rattle.text.specs.RoundTrips.{length-hex_of}
+
+-- how long what is written and what is written to are
+pub ruleset lengths = (length-hex_of, length-set)
 
 pub get_d_hex_of-high : (s : List ℕ) (i : ℕ) → i < length s → get_or (hex_of s) (2 * i) 0 ≡ hex_digit_ascii (get_or s i 0 / 16)
 unfolding hex_of

@@ -1,4 +1,5 @@
 -- What a rule wrote to a buffer, and what a pervading makes of bytes that are types.
+use Rattle.std.specs.Prelude.{Ok, Err}
 use Prim.Native.Nat.{ℕ}
 use native.Mathlib.Omega.{arith}
 use mathlib.Core.Bool.{Bool, true, false, cond}
@@ -16,9 +17,11 @@ use Rattle.model.specs.Within.{Within}
 use Rattle.format.specs.Records.{write_ty}
 use Rattle.format.specs.Suffices.{suffices}
 use Rattle.format.specs.Outcome.{Outcome, accepted, refused, mapped, both, delivery, deliver}
-use Rattle.lent.specs.Written.{delivered, Puts, Short}
-use Rattle.lent.specs.declared.Written.{Written}
-use Rattle.lent.specs.declared.Written.TheVariants.{Wrote, Refused as Unwritten}
+use Rattle.limits.specs.Answers.{number_of}
+use Rattle.limits.specs.declared.refusal.Refusal.{Refusal}
+use Rattle.limits.specs.declared.refusal.Reason.{Reason}
+use Rattle.limits.specs.declared.refusal.Reason.TheVariants.{TooShort}
+use Rattle.lent.specs.Written.{Written, delivered, Puts, Short}
 use Rattle.record.specs.Answers.{nothings}
 use Rattle.rules.specs.PervadeInSheets.{pervade_in_sheets}
 use Rattle.rules.specs.Scalars.{union}
@@ -29,6 +32,17 @@ use Rattle.tops.specs.Answers.{at_start}
 
 -- ---- what a rule wrote
 
+-- one reason alone has its number
+reason_short : (r : Reason) → number_of r ≡ too_short → r ≡ TooShort
+reason_short TooShort e = refl
+reason_short r e = absurd (omega arith)
+
+abbrev refusal : Reason → ℕ → Refusal
+refusal k p = record { 0 = k; 1 = p }
+
+refusal_short : (r : Refusal) → number_of r.0 ≡ too_short → r.1 ≡ 0 → r ≡ record { 0 = TooShort; 1 = 0 }
+refusal_short r e place = ap (λ k. refusal k r.1) (reason_short r.0 e) ∙ ap (refusal TooShort) place
+
 module _ (o : Outcome Ty) (w : Written) (out : List ℕ) where
   -- where the rule does not refuse, the buffer may: it is then shorter than a type
   pub delivered-puts : (before : List ℕ) → delivered w out ≡ deliver (mapped write_ty o) before
@@ -37,24 +51,24 @@ module _ (o : Outcome Ty) (w : Written) (out : List ℕ) where
   delivered-puts before e keeps = go w o refl e
     where
       go : (v : Written) (x : Outcome Ty) → o ≡ x → delivered v out ≡ deliver (mapped write_ty x) before → Puts v out (mapped write_ty x) ⊎ Short v out
-      go (Unwritten k p) (refused j q) same e = inl (cc)
-      go (Wrote n) (refused j q) same e = let z : ◌≡◌ {A = ℕ} 0 1 = cc in absurd (omega arith)
+      go (Err r) (refused j q) same e = inl (cc)
+      go (Ok n) (refused j q) same e = let z : ◌≡◌ {A = ℕ} 0 1 = cc in absurd (omega arith)
       go v (accepted t) same e = fits (leb (length (write_ty t)) (length before)) refl v e
         where
           fits : (b : Bool) → leb (length (write_ty t)) (length before) ≡ b → (v : Written)
               → delivered v out ≡ cond b (delivery (accepted (length (write_ty t))) (write_ty t ++ drop (length (write_ty t)) before)) (delivery (refused too_short 0) before)
               → Puts v out (accepted (write_ty t)) ⊎ Short v out
-          fits true h (Unwritten k p) e = let z : ◌≡◌ {A = ℕ} 0 1 = cc in absurd (omega arith)
-          fits true h (Wrote n) e =
+          fits true h (Err r) e = let z : ◌≡◌ {A = ℕ} 0 1 = cc in absurd (omega arith)
+          fits true h (Ok n) e =
               let x : n ≡ length (write_ty t) = cc in
               let y : out ≡ write_ty t ++ drop (length (write_ty t)) before = cc in
               inl (rw (x, y) (ap accepted (sym (take-append_seam (write_ty t) (drop (length (write_ty t)) before))), rw length-append (omega arith)))
-          fits false h (Wrote n) e = let z : ◌≡◌ {A = ℕ} 0 1 = cc in absurd (omega arith)
-          fits false h (Unwritten k p) e =
-              let x : k ≡ too_short = cc in
-              let y : p ≡ 0 = cc in
+          fits false h (Ok n) e = let z : ◌≡◌ {A = ℕ} 0 1 = cc in absurd (omega arith)
+          fits false h (Err r) e =
+              let k : number_of r.0 ≡ too_short = cc in
+              let x : r ≡ refusal TooShort 0 = refusal_short r k (cc) in
               let z : out ≡ before = cc in
-              inr (rw (x, y), rw z (omega (arith, leb-false (length (write_ty t)) (length before) h, suffices t (keeps t same))))
+              inr (ap Err x, rw z (omega (arith, leb-false (length (write_ty t)) (length before) h, suffices t (keeps t same))))
 
 -- ---- a pervading
 

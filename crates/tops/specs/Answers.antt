@@ -3,8 +3,7 @@ use Rattle.std.specs.Prelude.{ℕ, ◌≤◌, List, ◌∷◌, ◌⊎◌}
 use Rattle.model.specs.Types.{Ty}
 use Rattle.format.specs.Records.{write_ty}
 use Rattle.format.specs.Outcome.{Outcome, accepted, refused, mapped}
-use Rattle.lent.specs.Written.{Puts, Short}
-use Rattle.lent.specs.declared.Written.{Written}
+use Rattle.lent.specs.Written.{Written, Puts, Short}
 use Rattle.machine.specs.Run as rules
 use Rattle.machine.specs.Run.{gives, refuses, Stack}
 use Rattle.stack.specs.Stack.{Memory, Stacked, HasStack, Unpacked}

@@ -7,6 +7,7 @@ ghost use Rattle.std.proofs.Math.Option.{none};
 ghost use Rattle.model.specs.Types.{shape, Ty};
 ghost use Rattle.format.specs.Records.{write_ty};
 ghost use Rattle.format.specs.Outcome.{accepted, deliver, mapped, both, lone};
+ghost use Rattle.limits.specs.Codes.{code_for};
 ghost use Rattle.lent.specs.Written.{delivered, Puts, Short};
 ghost use Rattle.record.specs.Answers.{nothings, dims_of};
 ghost use Rattle.rules.specs.PervadeInSheets.{pervade_in_sheets};
@@ -20,11 +21,10 @@ ghost use Rattle.tops.specs.Plain.{plainly};
 
 use join::{join_known, union_kind, write_union};
 use known::{closed_at, kind_at, opening_at, scalar_at, shape_at};
-use lent::Written;
-use limits::refusal::UNPERVADED;
-use limits::{BOX, CONTENTS_DECIDE};
+use limits::Kind;
+use limits::refusal::{Reason, Refusal};
 use record::Dims;
-use shape::{Pervading, Pervasion, pervade_closed, pervade_dyn_shapes};
+use shape::{Pervading, pervade_closed, pervade_dyn_shapes};
 use stack::bytes_of;
 use ty::{Which, row_known};
 use validate::{Side, validate_known, validate_plain};
@@ -38,7 +38,7 @@ pub fn row_top<'a>(
     s: &'a [u8],
     trays: &'a [u8],
     out: &mut [u8],
-) -> Written
+) -> Result<usize, Refusal>
     requires { (d : List ℕ) × Workable 1 (memory ends.now lengths.now s.now trays.now d) count }
     ensures { (d : List ℕ) → OfTop (λ t. accepted (into_row t)) (memory ends.now lengths.now s.now trays.now d) count result out.new }
 {
@@ -54,7 +54,7 @@ pub fn join_top<'a>(
     s: &'a [u8],
     trays: &'a [u8],
     out: &mut [u8],
-) -> Written
+) -> Result<usize, Refusal>
     requires { (d : List ℕ) × Workable 2 (memory ends.now lengths.now s.now trays.now d) count }
     ensures { (d : List ℕ) → OfTwo (λ t u. accepted (join_types t u)) (memory ends.now lengths.now s.now trays.now d) count result out.new }
 {
@@ -73,7 +73,7 @@ pub fn pervade_top<'a>(
     top_fill: bool,
     below_fill: bool,
     out: &mut [u8],
-) -> Written
+) -> Result<usize, Refusal>
     requires { (d : List ℕ) × Workable 2 (memory ends.now lengths.now s.now trays.now d) count }
     ensures { (d : List ℕ) → OfTwo (λ t u. at_start (pervade_types top_fill below_fill t u))
         (memory ends.now lengths.now s.now trays.now d) count result out.new }
@@ -84,15 +84,21 @@ pub fn pervade_top<'a>(
 }
 
 // The pervading of bytes that are known to be types: that of sheets, of their shapes, with the union of their scalars.
-fn pervade_types(a: &[u8], b: &[u8], a_fill: bool, b_fill: bool, out: &mut [u8]) -> Written
+#[tactic(auto, using(crate::proofs::PlainLaws::first_known, crate::proofs::PlainLaws::second_known))]
+fn pervade_types(
+    a: &[u8],
+    b: &[u8],
+    a_fill: bool,
+    b_fill: bool,
+    out: &mut [u8],
+) -> Result<usize, Refusal>
     requires { both nothings (lone a.now) (lone b.now) ≡ accepted 0 }
     ensures { delivered result out.new ≡ deliver
         (both (λ t u. mapped write_ty (at_start (pervade_types a_fill b_fill t u))) (lone a.now) (lone b.now)) out.old }
 {
     // Closed shapes, as most are, have nothing but opening sizes: no closing list is made, and a kind is written behind them at once.
     if closed_at(a, 0) && closed_at(b, 0) {
-        let kind = union_kind(a, b);
-        if kind != CONTENTS_DECIDE {
+        if let Some(kind) = union_kind(a, b) {
             return pervade_plain(
                 opening_at(a, 0),
                 opening_at(b, 0),
@@ -107,7 +113,14 @@ fn pervade_types(a: &[u8], b: &[u8], a_fill: bool, b_fill: bool, out: &mut [u8])
 }
 
 // The same of any shapes and any scalars.
-fn pervade_any(a: &[u8], b: &[u8], a_fill: bool, b_fill: bool, out: &mut [u8]) -> Written
+#[tactic(auto, using(crate::proofs::PlainLaws::first_known, crate::proofs::PlainLaws::second_known))]
+fn pervade_any(
+    a: &[u8],
+    b: &[u8],
+    a_fill: bool,
+    b_fill: bool,
+    out: &mut [u8],
+) -> Result<usize, Refusal>
     requires { both nothings (lone a.now) (lone b.now) ≡ accepted 0 }
     ensures { delivered result out.new ≡ deliver
         (both (λ t u. mapped write_ty (at_start (pervade_types a_fill b_fill t u))) (lone a.now) (lone b.now)) out.old }
@@ -119,32 +132,29 @@ fn pervade_any(a: &[u8], b: &[u8], a_fill: bool, b_fill: bool, out: &mut [u8]) -
         b_fill,
         Pervading::InSheets,
     );
-    let answer = pervaded.answer;
-    if let Pervasion::Stopped(_) = answer {
-        return Written::Refused {
-            number: UNPERVADED,
-            place: 0,
-        };
+    match pervaded {
+        Some(shape) => write_union(shape, a, b, &mut *out),
+        None => Err(Refusal(Reason::Unpervaded, 0)),
     }
-    let shape = pervaded.shape;
-    write_union(shape, a, b, &mut *out)
 }
 
 // The pervading of closed shapes by their opening sizes, where the union of the scalars is of this kind.
-fn pervade_plain(a: Dims, b: Dims, a_fill: bool, b_fill: bool, kind: u8, out: &mut [u8]) -> Written
+#[tactic(auto, using(lent::specs::Delivers::deliver_refusal))]
+fn pervade_plain(
+    a: Dims,
+    b: Dims,
+    a_fill: bool,
+    b_fill: bool,
+    kind: Kind,
+    out: &mut [u8],
+) -> Result<usize, Refusal>
     ensures { delivered result out.new ≡ deliver
-        (plainly kind (pervade_in_sheets a_fill b_fill (shape (dims_of a) none) (shape (dims_of b) none))) out.old }
+        (plainly (code_for kind) (pervade_in_sheets a_fill b_fill (shape (dims_of a) none) (shape (dims_of b) none))) out.old }
 {
-    let pervaded = pervade_closed(a, b, a_fill, b_fill, Pervading::InSheets);
-    let answer = pervaded.answer;
-    if let Pervasion::Stopped(_) = answer {
-        return Written::Refused {
-            number: UNPERVADED,
-            place: 0,
-        };
+    match pervade_closed(a, b, a_fill, b_fill, Pervading::InSheets) {
+        Some(dims) => write_closed(dims, kind, &mut *out),
+        None => Err(Refusal(Reason::Unpervaded, 0)),
     }
-    let dims = pervaded.dims;
-    write_closed(dims, kind, &mut *out)
 }
 
 // The top, validated without side by bytes that are known to be a type.
@@ -156,7 +166,7 @@ pub fn validate_top<'a>(
     trays: &'a [u8],
     spec: &[u8],
     out: &mut [u8],
-) -> Written
+) -> Result<usize, Refusal>
     requires { ((d : List ℕ) × Workable 1 (memory ends.now lengths.now s.now trays.now d) count) × ((x : Ty) × (lone spec.now ≡ accepted x)) }
     ensures { (x : Ty) (d : List ℕ) → lone spec.now ≡ accepted x
         → OfTop (λ t. validate unsided x t) (memory ends.now lengths.now s.now trays.now d) count result out.new }
@@ -167,14 +177,15 @@ pub fn validate_top<'a>(
 
 // The validation without side of bytes that are known to be types. Closed shapes with plain kinds, as most are, want no more room than
 // their result; any other pair wants that of any type.
-fn validate_types(spec: &[u8], ty: &[u8], out: &mut [u8]) -> Written
+#[tactic(auto, using(crate::proofs::PlainLaws::first_known, crate::proofs::PlainLaws::second_known))]
+fn validate_types(spec: &[u8], ty: &[u8], out: &mut [u8]) -> Result<usize, Refusal>
     requires { both nothings (lone spec.now) (lone ty.now) ≡ accepted 0 }
     ensures { Puts result out.new (both (λ s t. mapped write_ty (validate unsided s t)) (lone spec.now) (lone ty.now)) ⊎ Short result out.new }
 {
     if closed_at(spec, 0) && closed_at(ty, 0) {
         let over = kind_at(spec, scalar_at(spec, 0));
         let kind = kind_at(ty, scalar_at(ty, 0));
-        if over != BOX && kind != BOX {
+        if over != Kind::Box && kind != Kind::Box {
             return validate_plain(
                 opening_at(spec, 0),
                 over,

@@ -1,56 +1,29 @@
--- Where field n of a lone Def stands: one law for each way out of `find_field`; and that what is no Def has no fields.
-use Prim.Native.Nat.{ℕ, zero, suc, ◌+◌, ◌-◌, ◌≤◌, ◌<◌}
+-- Fields: where there is none, and the bytes of one that stands at a place.
+use Prim.Native.Nat.{ℕ, zero, suc, ◌+◌, ◌≤◌}
 use native.Mathlib.Omega.{arith}
-use mathlib.Core.Path.{◌≡◌, refl, ◌∙◌, ap}
-use mathlib.Core.List.{List}
-use mathlib.Core.Option.{none, some}
-use lib.ListN.{length}
-use Rattle.model.specs.Limits.{max_depth}
+use mathlib.Core.Path.{◌≡◌, refl}
+use mathlib.Core.List.{List, ◌++◌}
+use mathlib.Core.Option.{none}
+use lib.ListN.{length, take, drop}
 use Rattle.model.specs.Types.{Fields, no_fields, field, Ty, ty, field_count}
 use Rattle.format.specs.Records.{write_ty}
-use Rattle.format.specs.Outcome.{accepted, mapped, lone}
-use Rattle.rules.specs.Types.{stretch, stretch_in, before_fields, field_place}
-use Rattle.known.specs.Known.{TypeAt, FieldsAt, HasType, HasFields, SpanIs, FieldIs}
-use Rattle.known.specs.declared.Span.{Span}
-use Rattle.known.specs.declared.View.{View}
-use Rattle.ty.specs.Parts.{LoneDef}
-use Rattle.ty.proofs.PartLaws.{Inside, in_plain, in_any, in_all, in_def, NoDef}
+use Rattle.format.specs.Views.{Stands, stands-within, stands-part}
+use Rattle.rules.specs.Types.{field_in, stretch_in}
+use Rattle.rules.proofs.ViewsLaws.{type_least}
 
-stretch-none : (at n : ℕ) (f : Fields) → field_count f ≤ n → stretch_in at n f ≡ none
+pub no_stretch : (at n : ℕ) (f : Fields) → field_count f ≤ n → stretch_in at n f ≡ none
 unfolding stretch_in
-stretch-none at n no_fields h = refl
-stretch-none at zero (field s k f) h = absurd (omega arith)
-stretch-none at (suc n) (field s k f) h = stretch-none (at + length (write_ty (ty s k))) n f (omega arith)
+no_stretch at n no_fields h = refl
+no_stretch at zero (field s k f) h = absurd (omega arith)
+no_stretch at (suc n) (field s k f) h = no_stretch (at + length (write_ty (ty s k))) n f (omega arith)
 
-module _ (s : List ℕ) (start count : ℕ) (def : LoneDef s start count) (n : ℕ) where
-  pub find_none : count ≤ n → mapped (field_place n) (lone s) ≡ accepted none
-  unfolding field_place
-  find_none l = rw def.is (ap accepted (stretch-none (length (before_fields def.shape def.name def.fields)) n def.fields (omega (arith, def.counted))))
+pub no_field : (n : ℕ) (f : Fields) → field_count f ≤ n → field_in n f ≡ none
+unfolding field_in
+no_field n no_fields h = refl
+no_field zero (field s k f) h = absurd (omega arith)
+no_field (suc n) (field s k f) h = no_field n f (omega arith)
 
-  module _ (low : n < count) where
-    pub has-fields : (c : ℕ) × (n < c) × HasFields s start max_depth c
-    has-fields = (count, low, record { fields = def.fields; there = def.there; counted = def.counted })
-
-    module _ {at : ℕ} (found : (f : Fields) → FieldsAt s start max_depth f → n < field_count f → FieldIs s start max_depth n f at) where
-      it : FieldIs s start max_depth n def.fields at
-      it = found def.fields def.there (omega (arith, def.counted))
-
-      pub field-type : HasType s at max_depth
-      field-type = record { type = it.type; there = it.there }
-
-      module _ (r : Span) (spans : (t : Ty) → TypeAt s at max_depth t → SpanIs at t r) where
-        pub find_forward : at ≤ r.end
-        find_forward = omega (arith, (spans it.type it.there).ends)
-
-        pub find_some : mapped (field_place n) (lone s) ≡ accepted (some (stretch at (r.end - at)))
-        unfolding field_place
-        find_some =
-            let long : length (write_ty it.type) ≡ r.end - at = omega (arith, (spans it.type it.there).ends) in
-            rw (def.is, def.place) (ap accepted (it.stretched ∙ ap (λ m. some (stretch at m)) long))
-
-pub field-none : (s : List ℕ) (n : ℕ) {v : View} → Inside s v → NoDef v → mapped (field_place n) (lone s) ≡ accepted none
-unfolding field_place
-field-none s n (in_plain o k e) u = rw e
-field-none s n (in_any o e) u = rw e
-field-none s n (in_all a) u = rw a.is
-field-none s n (in_def d inner bytes) u = absurd u
+-- It begins with a part that says nothing, and that shows whose bytes stand there.
+pub bytes_there : (s : List ℕ) (at : ℕ) (t : Ty) → Stands s at (write_ty t)
+    → (write_ty t ++ drop (at + length (write_ty t)) s ≡ write_ty t ++ drop (at + length (write_ty t)) s) × (at + length (write_ty t) ≤ length s) × (take (length (write_ty t)) (drop at s) ≡ write_ty t)
+bytes_there s at t h = (refl, stands-within s at (write_ty t) (type_least t) h, stands-part s at (write_ty t) h)

@@ -1,6 +1,6 @@
-mod PartLaws
-mod FieldLaws
-mod ContentLaws
-mod CopyLaws
-mod ListingLaws
-mod RowLaws
+pub mod PartLaws
+pub mod FieldLaws
+pub mod ContentLaws
+pub mod CopyLaws
+pub mod ListingLaws
+pub mod RowLaws

@@ -1,25 +1,20 @@
 -- What the calls of this crate answer, in the terms of the definitions: for each case of an answer, the paper's number and values.
-use Rattle.std.specs.Prelude.{ℕ, List}
+use Rattle.std.specs.Prelude.{ℕ, List, Result, Some, None}
+use Rattle.std.specs.Prelude as code
 use Rattle.std.proofs.Math.Option.{Option, none, some}
 use Rattle.format.specs.Outcome.{Outcome, accepted, refused, mapped, Delivery, delivery, deliver}
 use Rattle.rules.specs.Types as rules
-use Rattle.rules.specs.Types.{Stretch, stretch, write_boxes}
-use Rattle.ty.specs.declared.Found.{Found}
-use Rattle.ty.specs.declared.Found.TheVariants.{At, Nothing, Refused}
-use Rattle.ty.specs.declared.Boxes.{Boxes}
-use Rattle.ty.specs.declared.Boxes.TheVariants.{Wrote, Nothing as NoBoxes, Refused as Refuses}
-
--- Field n: its stretch, or none.
-abbrev pub found_of : Found → Outcome (Option Stretch)
-found_of (At start length) = accepted (some (stretch start length))
-found_of Nothing = accepted none
-found_of (Refused k p) = refused k p
+use Rattle.rules.specs.Types.{write_boxes}
+use Rattle.limits.specs.Answers.{told}
+use Rattle.limits.specs.declared.refusal.Refusal.{Refusal}
 
 -- `as_boxes`: how many bytes were written, or none.
-abbrev pub boxes_of : Boxes → Outcome (Option ℕ)
-boxes_of (Wrote n) = accepted (some n)
-boxes_of NoBoxes = accepted none
-boxes_of (Refuses k p) = refused k p
+abbrev pub count_of : code.Option ℕ → Option ℕ
+count_of None = none
+count_of (Some n) = some n
+
+abbrev pub boxes_of : Result (code.Option ℕ) Refusal → Outcome (Option ℕ)
+boxes_of r = mapped count_of (told r)
 
 -- such an answer beside what the result buffer then holds
 pub data Given : Type 0 where

@@ -1,11 +1,15 @@
--- How many rows a value has, and its rank: one law for each way out of a function.
+-- The shape of a type that was read.
 use Prim.Native.Nat.{ℕ}
-use native.Mathlib.Omega.{arith}
+use mathlib.Core.List.{List}
 use mathlib.Core.Path.{◌≡◌}
-use Rattle.model.specs.Types.{Shape, Ty, ty, shape_of}
-use Rattle.format.specs.Outcome.{Outcome, accepted, refused, mapped}
+use Rattle.model.specs.Limits.{max_depth}
+use Rattle.format.specs.Reader.{Bytes}
+use Rattle.format.specs.Outcome.{accepted, mapped, lone}
+use Rattle.record.specs.Answers.{nothing}
+use Rattle.known.specs.Known.{HasType}
+use Rattle.known.proofs.WholeLaws.{has-type, whole-shape}
 
--- what is asked of a type's shape, of the shape that was read
-pub asked-shape : {A : Type 0} (f : Shape → A) (o : Outcome Ty) {s : Shape} → mapped shape_of o ≡ accepted s → mapped (λ t. f (shape_of t)) o ≡ accepted (f s)
-asked-shape f (accepted (ty t k)) {s} e = let x : t ≡ s = cc in rw x
-asked-shape f (refused k p) e = let z : ◌≡◌ {A = ℕ} 0 1 = cc in absurd (omega arith)
+pub type_known : (s : List ℕ) → Bytes s → mapped nothing (lone s) ≡ accepted 0 → (d : ℕ) × HasType s 0 d
+type_known s small good = (max_depth, has-type s small good)
+
+pub ruleset shaped = (type_known, whole-shape)

@@ -1,9 +1,5 @@
-mod WriteLaws
-mod NumberLaws
-mod HandedLaws
-mod PartLaws
-mod KindLaws
-mod RowLaws
-mod CountLaws
+pub mod WriteLaws
+pub mod CountLaws
+pub mod RowLaws
 pub mod Examples
 pub mod ReadAgain

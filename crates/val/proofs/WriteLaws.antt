@@ -1,35 +1,29 @@
--- What the writing functions lay down, and what they deliver.
+-- The bytes of what is written: a closed type of a plain kind, a plain scalar, and a type handed in.
 use Prim.Native.Nat.{ℕ}
-use mathlib.Core.List.{List, [], map}
+use mathlib.Core.List.{List}
 use mathlib.Core.Option.{none}
-use mathlib.Core.Path.{◌≡◌, refl, sym, ◌∙◌, ap}
-use lib.ListN.{take}
-use Rattle.model.specs.Types.{Dim, shape, Kind, num, plain, ty}
+use mathlib.Core.Path.{◌≡◌, refl, ap}
+use Rattle.model.specs.Types.{Dim, shape, Kind, num, any, plain, ty}
 use Rattle.format.specs.Reader.{Bytes}
-use Rattle.format.specs.Records.{code, dim_of, write_scalar, write_ty}
+use Rattle.format.specs.Records.{code, write_scalar, write_ty}
 use Rattle.format.specs.ReadWrite.{lone_write}
 use Rattle.format.specs.Outcome.{accepted, mapped, lone}
-use Rattle.record.specs.Answers.{nothing, dims_of}
-use Rattle.record.specs.declared.Dims.{Dims}
+use Rattle.record.specs.Answers.{nothing}
 use Rattle.record.proofs.LoneLaws.{passed-accepted}
-use Rattle.writer.specs.Kinds.{kind_record}
-use Rattle.val.specs.Answers.{closed_record}
-use Rattle.val.specs.Values.{num_ty}
+use Rattle.writer.specs.Kinds.{kind_record, closed_record}
 
--- a closed type of a plain kind, by its kind's code
-pub write_closed : (ds : List Dim) (k : Kind) → write_ty (ty (shape ds none) (plain k)) ≡ closed_record ds (code k)
-unfolding write_ty write_scalar
-write_closed ds k = refl
+pub num_written : (ds : List Dim) → write_ty (ty (shape ds none) (plain num)) ≡ closed_record ds 3
+unfolding write_ty write_scalar code
+num_written ds = refl
 
--- [] Num
-pub write_num : (d : Dims) → d.count ≡ 0 → write_ty num_ty ≡ closed_record (dims_of d) 3
-unfolding code
-write_num d h = write_closed [] num ∙ ap (λ n. closed_record (map dim_of (take n d.sizes)) 3) (sym h)
+pub any_written : (ds : List Dim) → write_ty (ty (shape ds none) (plain any)) ≡ closed_record ds 9
+unfolding write_ty write_scalar code
+any_written ds = refl
 
-pub write_plain : (k : Kind) → write_scalar (plain k) ≡ kind_record (code k)
+pub plain_written : (k : Kind) → write_scalar (plain k) ≡ kind_record (code k)
 unfolding write_scalar
-write_plain k = refl
+plain_written k = refl
 
 -- a type that is written again is its bytes
-pub write_same : (s : List ℕ) → Bytes s → mapped nothing (lone s) ≡ accepted 0 → mapped write_ty (lone s) ≡ accepted s
-write_same s small accepts = passed-accepted (lone s) accepts λ t e. rw e (ap accepted (lone_write s small t e).0)
+pub same_written : (s : List ℕ) → Bytes s → mapped nothing (lone s) ≡ accepted 0 → mapped write_ty (lone s) ≡ accepted s
+same_written s small accepts = passed-accepted (lone s) accepts λ t e. rw e (ap accepted (lone_write s small t e).0)

@@ -1,22 +1,20 @@
 -- What is handed in, and what the answers of this crate say, in the terms of the definitions: for each case of each, the paper's number
 -- and values.
-use Rattle.std.specs.Prelude.{ℕ, List, ◌++◌, Float}
+use Rattle.std.specs.Prelude.{ℕ, List, Float, Result, Ok, Err, Some, None}
+use Rattle.std.specs.Prelude as code
 use Rattle.std.proofs.Math.Option.{Option, none, some}
-use Rattle.model.specs.Types.{Dim, shape, Ty}
-use Rattle.format.specs.Records.{dim_of, write_shape}
+use Rattle.model.specs.Types.{Dim, Ty}
+use Rattle.format.specs.Records.{dim_of}
 use Rattle.format.specs.Outcome.{Outcome, accepted, refused, mapped, lone, delivery}
 use Rattle.record.specs.Answers.{dims_of}
 use Rattle.rules.specs.Types.{into_row, into_first_row, into_last_row}
-use Rattle.writer.specs.Kinds.{kind_record}
 use Rattle.val.specs.declared.Value as declared
 use Rattle.val.specs.declared.Value.TheVariants.{Num, List as Listed, Of}
-use Rattle.val.specs.declared.MaybeDim.{MaybeDim}
-use Rattle.val.specs.declared.MaybeDim.TheVariants.{Size, Nothing, Refused as RefusedDim}
-use Rattle.val.specs.declared.MaybeDims.{MaybeDims}
-use Rattle.val.specs.declared.MaybeDims.TheVariants.{Sizes, Nothing as NothingListed, Refused as RefusedDims}
-use Rattle.val.specs.declared.DimsAnswer.{DimsAnswer}
+use Rattle.limits.specs.Answers.{number_of, told}
+use Rattle.limits.specs.declared.refusal.Refusal.{Refusal}
+use Rattle.record.specs.declared.Dims.{Dims}
 use Rattle.val.specs.declared.Row as declared_row
-use Rattle.val.specs.declared.Row.TheVariants.{Number, Wrote, Refused as RefusedRow}
+use Rattle.val.specs.declared.Row.TheVariants.{Number, Wrote}
 use Rattle.val.specs.declared.RowKind.{RowKind}
 use Rattle.val.specs.declared.RowKind.TheVariants.{Every, First, Last}
 use Rattle.val.specs.Values.{Value, number, numbers, typed, Row, list_row, list_first, list_last, value_row_by, RowDelivery, handed, written}
@@ -29,18 +27,19 @@ value_of Listed list bytes = accepted (numbers list)
 value_of Of list bytes = mapped typed (lone bytes)
 
 -- all ones is ?
-abbrev pub maybe_dim : MaybeDim → Outcome (Option Dim)
-maybe_dim (Size n) = accepted (some (dim_of n))
-maybe_dim Nothing = accepted none
-maybe_dim (RefusedDim k p) = refused k p
+abbrev pub dim_for : code.Option ℕ → Option Dim
+dim_for None = none
+dim_for (Some n) = some (dim_of n)
 
-abbrev pub maybe_dims : MaybeDims → List Dim → Outcome (Option (List Dim))
-maybe_dims Sizes ds = accepted (some ds)
-maybe_dims NothingListed ds = accepted none
-maybe_dims (RefusedDims k p) ds = refused k p
+abbrev pub maybe_dim : Result (code.Option ℕ) Refusal → Outcome (Option Dim)
+maybe_dim r = mapped dim_for (told r)
 
-abbrev pub dims_answered : DimsAnswer → Outcome (Option (List Dim))
-dims_answered r = maybe_dims r.answer (dims_of r.dims)
+abbrev pub dims_for : code.Option Dims → Option (List Dim)
+dims_for None = none
+dims_for (Some d) = some (dims_of d)
+
+abbrev pub maybe_dims : Result (code.Option Dims) Refusal → Outcome (Option (List Dim))
+maybe_dims r = mapped dims_for (told r)
 
 -- the row of a list, of a type and of a value, by which of the three rows it is
 abbrev pub list_row_for : RowKind → List Float → Row
@@ -57,11 +56,7 @@ abbrev pub value_row_for : RowKind → Value → Row
 value_row_for which = value_row_by (list_row_for which) (type_row_for which)
 
 -- what a row's answer and the result buffer say together
-abbrev pub row_delivered : declared_row.Row → List ℕ → RowDelivery
-row_delivered (Number x) buffer = handed x buffer
-row_delivered (Wrote n) buffer = written (delivery (accepted n) buffer)
-row_delivered (RefusedRow k p) buffer = written (delivery (refused k p) buffer)
-
--- the record of a type with these sizes and no closing ones, by the code of its kind
-abbrev pub closed_record : List Dim → ℕ → List ℕ
-closed_record ds kind = write_shape (shape ds none) ++ kind_record kind
+abbrev pub row_delivered : Result declared_row.Row Refusal → List ℕ → RowDelivery
+row_delivered (Ok (Number x)) buffer = handed x buffer
+row_delivered (Ok (Wrote n)) buffer = written (delivery (accepted n) buffer)
+row_delivered (Err r) buffer = written (delivery (refused (number_of r.0) r.1) buffer)

@@ -10,7 +10,6 @@ mod write;
 
 pub use counts::{rank, row_count};
 pub use parts::{nums_scalar, scalar, spec, ty};
-use record::Dims;
 pub use rows::{into_first_row, into_last_row, into_row};
 pub use sizes::{as_dim, as_dims};
 
@@ -22,35 +21,11 @@ pub enum Value {
     Of,
 }
 
-// A size, all ones for an unknown one; nothing for what is no number; or a refusal.
-#[derive(Clone, Copy)]
-pub enum MaybeDim {
-    Size(u64),
-    Nothing,
-    Refused { number: u8, place: usize },
-}
-
-// Sizes, which stand beside it; nothing for what is no list; or a refusal.
-#[derive(Clone, Copy)]
-pub enum MaybeDims {
-    Sizes,
-    Nothing,
-    Refused { number: u8, place: usize },
-}
-
-// The sizes of an answer Sizes; beside another answer they mean nothing.
-#[derive(Clone, Copy)]
-pub struct DimsAnswer {
-    pub answer: MaybeDims,
-    pub dims: Dims,
-}
-
-// A row: a number, or a type, of which so many bytes were written to the result; or a refusal.
+// A row: a number, or a type, of which so many bytes were written to the result.
 #[derive(Clone, Copy)]
 pub enum Row {
     Number(f64),
     Wrote(usize),
-    Refused { number: u8, place: usize },
 }
 
 // Which row: the one that stands for every row, the first or the last.

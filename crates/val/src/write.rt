@@ -1,36 +1,21 @@
-// How the answers of this crate are written: a closed type of a plain kind, or a type's own bytes.
+// How some answers of this crate are written: the list of one size, or a type's own bytes.
 ghost use Rattle.std.specs.Prelude.{◌≡◌, [], ◌∷◌};
 ghost use Rattle.format.specs.Records.{dim_of, write_ty};
-ghost use Rattle.format.specs.Outcome.{accepted, deliver, mapped, lone};
+ghost use Rattle.format.specs.Outcome.{deliver, mapped, lone};
 ghost use Rattle.lent.specs.Written.{delivered};
 ghost use Rattle.record.specs.Answers.{dims_of};
-ghost use Rattle.val.specs.Answers.{closed_record};
 
-use lent::{Written, hand_over};
+use lent::hand_over;
 use limits::MAX_SIZES;
-use record::{Dims, DynShape, Lone, no_dims, read_lone};
-use writer::{as_written, write_plain};
-
-// A closed type of these sizes, whose scalar is plain and has the kind's code.
-pub fn write_closed(dims: Dims, kind: u8, res: &mut [u8]) -> Written
-    ensures { delivered result res.new ≡ deliver (accepted (closed_record (dims_of dims) kind)) res.old }
-{
-    let shape = DynShape {
-        dims,
-        suffix: no_dims(),
-        closed: true,
-    };
-    write_plain(shape, kind, &mut *res)
-}
+use limits::refusal::Refusal;
+use record::{Dims, read_lone};
 
 // A type as it was handed in.
-pub fn write_same(ty: &[u8], res: &mut [u8]) -> Written
+#[tactic(auto, using(crate::proofs::WriteLaws::same_written, lent::specs::Delivers::deliver_refusal))]
+pub fn write_same(ty: &[u8], res: &mut [u8]) -> Result<usize, Refusal>
     ensures { delivered result res.new ≡ deliver (mapped write_ty (lone ty.now)) res.old }
 {
-    let read = read_lone(ty);
-    let Lone::Accepted = read else {
-        return as_written(read);
-    };
+    read_lone(ty)?;
     hand_over(ty, &mut *res)
 }
 

@@ -4,8 +4,7 @@ use native.Mathlib.Omega.{arith}
 use mathlib.Core.Bool.{Bool}
 use mathlib.Core.List.{List, ◌++◌, append_assoc, append-nil}
 use mathlib.Core.Path.{◌≡◌, refl, sym, ◌∙◌, ap}
-use lib.ListN.{length, take, drop, length-append, length-drop}
-use lib.Seq.{length-take-le}
+use lib.ListN.{length, take, drop, length-append}
 use Rattle.model.specs.Limits.{max_types, max_depth}
 use Rattle.model.specs.Types.{Shape, Scalar, Fields, no_fields, field, field_count, Ty, ty, shape_of, scalar_of, types, inside, among}
 use Rattle.format.specs.Records.{write_shape, write_scalar, write_fields, write_ty}
@@ -16,14 +15,11 @@ use Rattle.known.specs.Known.{TypeAt, ScalarAt, HasType, SpanIs}
 use Rattle.known.proofs.KnownLaws.{type-within, scalar-behind, behind-ends}
 use Rattle.known.specs.declared.Span.{Span}
 use Rattle.validate.specs.Lists.{next_place, ListAt}
-use Rattle.validate.specs.Walk.{type_bytes, piece, scalar_piece, type_piece, fields_piece, CopyIs, Placeable, Going}
+use Rattle.validate.specs.Walk.{type_bytes, piece, scalar_piece, type_piece, fields_piece, CopyIs, Copyable, Placeable, Going}
 use Rattle.validate.specs.declared.Extent.{Extent}
 use Rattle.validate.proofs.ListLaws.{types_are, has, list-first, list_rest}
 
 -- ---- a part of a slice
-
-pub part-long : (s : List ℕ) (start n : ℕ) → start + n ≤ length s → length (take n (drop start s)) ≡ n
-part-long s start n h = length-take-le n (drop start s) (omega (arith, length-drop start s))
 
 -- the bytes w, which stood from `start` to `end`, laid at `to`
 laid-part : {s : List ℕ} {start : ℕ} (w : List ℕ) → Stands s start w → {end : ℕ} → end ≡ start + length w → (out : List ℕ) (to : ℕ) {after : List ℕ} → to + (end - start) ≤ length out
@@ -87,10 +83,19 @@ module _ (s : List ℕ) (at : ℕ) {start : ℕ} (begins : (d : ℕ) (t : Ty) �
       let many : x.types ≡ inside (scalar_of t) = omega (arith, f, span.types, types_are t) in
       copy_is x (ap (λ n. take n after) e ∙ bytes) many (omega (arith, e, scalar-long, scalar-suffices (scalar_of t) behind.records))
 
--- ---- fields, one by one
+-- ---- what is copied has room
 
-pub going_start : (s : List ℕ) (f : Fields) (moves : Bool) (at n : ℕ) (out : List ℕ) (to : ℕ) → ListAt moves s at f → field_count f ≡ n → Going s f (take to out) to moves at n (take to out) to 0
-going_start s f moves at n out to h c = record { rest = f; there = h; counted = c; bytes = refl; number = omega arith; room = omega arith }
+module _ {s : List ℕ} {at to room : ℕ} {r : Span} (spans : (t : Ty) → TypeAt s at max_depth t → SpanIs at t r) where
+  pub type_fits : Placeable s at to room → (at ≤ r.end) × (r.end ≤ length s) × (to + (r.end - at) ≤ room)
+  type_fits p = (type-starts s at r p.type p.there (spans p.type p.there), type-ends s at r p.type p.there (spans p.type p.there), type-room s at r p.type p.there (spans p.type p.there) to p.space)
+
+  pub scalar_fits : {start : ℕ} → ((d : ℕ) (t : Ty) → TypeAt s at d t → start ≡ at + length (write_shape (shape_of t))) → Copyable s at to room
+      → (start ≤ r.end) × (r.end ≤ length s) × (1 ≤ r.types) × (to + (r.end - start) ≤ room)
+  scalar_fits begins p =
+      let span = spans p.type p.there in
+      (scalar-starts s at begins r p.type p.there span, type-ends s at r p.type p.there span, some-types s at r p.type p.there span, scalar-room s at begins r p.type p.there span to p.space)
+
+-- ---- fields, one by one
 
 module _ {s : List ℕ} {f : Fields} {before : List ℕ} {to : ℕ} {moves : Bool} {at left : ℕ} {so_far : List ℕ} {end types : ℕ} (g : Going s f before to moves at left so_far end types) (l : 0 < left) where
   -- the first of those that are left, by continuation
@@ -111,9 +116,9 @@ module _ {s : List ℕ} {f : Fields} {before : List ℕ} {to : ℕ} {moves : Boo
       record { type = ty p k; there = there; space = omega (arith, x, g.room) }
 
   module _ (after : List ℕ) (x : Extent) (copied : (t : Ty) → TypeAt s at max_depth t → CopyIs x after (type_piece so_far t) end) where
-    pub going_next : {next : ℕ} → ((t : Ty) → TypeAt s at max_depth t → next ≡ next_place moves at t) → Going s f before to moves next (left - 1) (take x.end after) x.end (types + x.types)
+    pub going_next : {next then : ℕ} → then + 1 ≡ left → ((t : Ty) → TypeAt s at max_depth t → next ≡ next_place moves at t) → Going s f before to moves next then (take x.end after) x.end (types + x.types)
     unfolding among write_fields
-    going_next {next} moved = going-first λ p k h eq first.
+    going_next one moved = going-first λ p k h eq first.
         let w = copied (ty p k) first in
         let y = w.bytes in
         let b : take x.end after ≡ so_far ++ (write_shape p ++ write_scalar k) = cc in

@@ -6,11 +6,13 @@ use mathlib.Core.Option.{Option}
 use mathlib.Core.Path.{◌≡◌, ◌∙◌, ap}
 use lib.ListN.{length, set, take, drop, length-append}
 use lib.Seq.{sets-eq}
+use Rattle.model.specs.Limits.{max_name}
 use Rattle.format.specs.Records.{box_start, count_of, list_of}
 use Rattle.format.specs.Suffices.{box_bytes, name_most}
-use Rattle.format.specs.Views.{stands-within, stands-part}
+use Rattle.format.specs.Views.{stands-part}
 use Rattle.lent.specs.Over.{over, over-over, take-over, length_over}
-use Rattle.known.specs.Known.{NameAt}
+use Rattle.known.specs.Known.{NameAt, HasName, NameIs}
+use Rattle.known.specs.declared.Name.{Name}
 use Rattle.validate.specs.Walk.{def_head, HeadIs}
 
 -- what stands before the place after a head
@@ -26,12 +28,15 @@ box-laid form h = record { ends = h.0; short = omega (arith, h.0); laid = h.1 }
 
 -- ---- a Def's head
 
+-- where a name ends in known bytes, and how many bytes it may be behind its length
+pub title_fits : {s : List ℕ} {at : ℕ} {r : Name} → HasName s at → ((n : Option (List ℕ)) → NameAt s at n → NameIs s at n r) → (at ≤ r.end) × (r.end ≤ length s) × (r.end - at ≤ max_name + 1)
+title_fits h found =
+    let is = found h.name h.there in
+    (omega (arith, is.ends), is.within, omega (arith, is.ends, name_most h.name h.there.records))
+
 module _ {s : List ℕ} {at : ℕ} (label : Option (List ℕ)) (named : NameAt s at label) {end : ℕ} (ends : end ≡ at + length (count_of label ∷ list_of label)) where
   abbrev title : List ℕ
   title = count_of label ∷ list_of label
-
-  pub name-inside : end ≤ length s
-  name-inside = omega (arith, stands-within s at title (omega arith) named.stands)
 
   name-part : take (end - at) (drop at s) ≡ title
   name-part = let q : end - at ≡ suc (length (list_of label)) = omega (arith, ends) in rw q (stands-part s at title named.stands)

@@ -1,11 +1,11 @@
-mod DimsLaws
-mod ShapesLaws
-mod PlainLaws
-mod CallLaws
-mod ListLaws
-mod PlanLaws
-mod HeadLaws
-mod CopyLaws
-mod WalkLaws
-mod WholeLaws
-mod SeparateLaws
+pub mod DimsLaws
+pub mod ShapesLaws
+pub mod PlainLaws
+pub mod CallLaws
+pub mod ListLaws
+pub mod PlanLaws
+pub mod HeadLaws
+pub mod CopyLaws
+pub mod WalkLaws
+pub mod WholeLaws
+pub mod SeparateLaws

@@ -40,9 +40,6 @@ next-by-span moves {at} span e = e ∙ ap (λ n. cond moves n at) span.ends
 
 -- ---- counted one by one
 
-pub count-start : (s : List ℕ) (f : Fields) (moves : Bool) (at n : ℕ) → ListAt moves s at f → field_count f ≡ n → Counting s f moves at n 0
-count-start s f moves at n h c = record { rest = f; there = h; counted = c; number = omega arith }
-
 module _ {s : List ℕ} {f : Fields} {moves : Bool} {at left types : ℕ} (g : Counting s f moves at left types) where
   pub count-has : 0 < left → HasType s at max_depth
   count-has l = go g.rest g.there g.counted
@@ -52,18 +49,18 @@ module _ {s : List ℕ} {f : Fields} {moves : Bool} {at left types : ℕ} (g : C
       go (field p k r) h c = has (list-first s at p k r moves h)
 
   module _ (l : 0 < left) {r : Span} (spans : (t : Ty) → TypeAt s at max_depth t → SpanIs at t r) where
-    pub count_next : {next : ℕ} → next ≡ cond moves r.end at → Counting s f moves next (left - 1) (types + r.types)
+    pub count_next : {next after : ℕ} → after + 1 ≡ left → next ≡ cond moves r.end at → Counting s f moves next after (types + r.types)
     unfolding among
-    count_next {next} moved = go g.rest g.there g.counted g.number
+    count_next {next} {after} one moved = go g.rest g.there g.counted g.number
       where
-        go : (q : Fields) → ListAt moves s at q → field_count q ≡ left → among f ≡ types + among q → Counting s f moves next (left - 1) (types + r.types)
+        go : (q : Fields) → ListAt moves s at q → field_count q ≡ left → among f ≡ types + among q → Counting s f moves next after (types + r.types)
         go no_fields h c x = absurd (omega arith)
         go (field p k q) h c x =
             let span = spans (ty p k) (list-first s at p k q moves h) in
             record { rest = q; there = rw (next-by-span moves span moved) (list_rest s at p k q moves h); counted = omega (arith, c); number = omega (arith, x, span.types) }
 
     pub count-few : among f ≤ max_types → types + r.types ≤ max_types
-    count-few few = let n = count_next refl in omega (arith, n.number)
+    count-few few = let n = count_next {after = left - 1} (omega arith) refl in omega (arith, n.number)
 
   pub count-end : left ≡ 0 → types ≡ among f
   unfolding among

@@ -1,14 +1,14 @@
 -- Closed shapes and plain kinds without a side: what `validate` comes to, for each way out.
 use Prim.Native.Nat.{ℕ}
-use mathlib.Core.Bool.{Bool, true, false, not, cond}
+use mathlib.Core.Bool.{Bool, true, false, cond}
 use mathlib.Core.List.{List, [], ◌∷◌}
 use mathlib.Core.Option.{none, some}
 use mathlib.Core.Path.{◌≡◌, refl, sym, ◌∙◌}
-use borrow.Author.Tests.{not-true, not-false}
 use Rattle.model.specs.Refusals.{wrong_scalar}
 use Rattle.model.specs.Types.{Dim, Kind, Scalar, shape, plain, ty}
-use Rattle.format.specs.Outcome.{Outcome, accepted, refused, mapped}
+use Rattle.format.specs.Outcome.{Outcome, accepted, refused, mapped, delivery, deliver}
 use Rattle.format.specs.Records.{code, write_scalar, write_ty}
+use Rattle.lent.specs.Delivers.{deliver-refused}
 use Rattle.record.specs.Answers.{dims_of}
 use Rattle.record.specs.declared.Dims.{Dims}
 use Rattle.rules.specs.Order.{code_of}
@@ -20,9 +20,6 @@ use Rattle.validation.proofs.CheckShapeLaws.{check_shape_match, check_shape-mism
 use Rattle.validation.specs.CheckScalar.{in_turn, check_scalar}
 use Rattle.validation.specs.Validate.{outermost, validate}
 use Rattle.writer.specs.Kinds.{closed_record}
-use Rattle.validate.specs.Answers.{clash_of}
-use Rattle.validate.specs.declared.Clash.{Clash}
-use Rattle.validate.specs.declared.Clash.TheVariants.{Clear, Numbered}
 
 -- a closed shape is not [..]
 not-any : (p : List Dim) → is_any (shape p none) ≡ false
@@ -73,12 +70,12 @@ module _ (o p : List Dim) where
       says : over ≡ superset_codes (code k) (code l)
       says = rw (← first, ← second) found
 
-      pub plain-uncovered : over ≡ false → answer ≡ refused wrong_scalar 0
-      plain-uncovered h = uncovered (sym says ∙ h)
+      pub plain_uncovered : over ≡ false → (buffer : List ℕ) → delivery (refused wrong_scalar 0) buffer ≡ deliver answer buffer
+      plain_uncovered h buffer = sym (deliver-refused buffer (uncovered (sym says ∙ h)))
 
-      module _ (h : over ≡ true) (r : Clash) (judged : clash_of r ≡ mismatch unsided o (shape p none)) where
-        pub plain-clash : {n : ℕ} → r ≡ Numbered n → answer ≡ refused n 0
-        plain-clash e = clashed (sym says ∙ h) (rw e at judged)
+      module _ (h : over ≡ true) where
+        pub plain_clash : {n : ℕ} → some n ≡ mismatch unsided o (shape p none) → (buffer : List ℕ) → delivery (refused n 0) buffer ≡ deliver answer buffer
+        plain_clash e buffer = sym (deliver-refused buffer (clashed (sym says ∙ h) e))
 
-        pub plain-clear : r ≡ Clear → (m : Dims) → dims_of m ≡ merge_dims p o → answer ≡ accepted (closed_record (dims_of m) y)
-        plain-clear e m is = clear (sym says ∙ h) (rw e at judged) ∙ rw (is, second)
+        pub plain_clear : none ≡ mismatch unsided o (shape p none) → (m : Dims) → dims_of m ≡ merge_dims p o → answer ≡ accepted (closed_record (dims_of m) y)
+        plain_clear e m is = clear (sym says ∙ h) e ∙ rw (is, second)

@@ -1,6 +1,5 @@
 -- What a spec's scalar asks of a type's: one law for each way out of a function that plans it.
 use Prim.Native.Nat.{ℕ, zero, suc, ◌+◌, ◌-◌, ◌*◌, ◌≤◌, ◌<◌}
-use native.Mathlib.Nat.{mul-le-mul}
 use native.Mathlib.Numerals.{add-one}
 use native.Mathlib.Omega.{arith}
 use mathlib.Core.Bool.{Bool, true, false, not, ◌&&◌, cond}
@@ -31,13 +30,19 @@ use Rattle.validation.proofs.OutcomeLaws.{and_rest}
 use Rattle.validation.specs.MeasureLaws.{limited, fields_limited}
 use Rattle.validation.proofs.MeasureLaws.{limited-true}
 use Rattle.validation.proofs.CheckScalarSteps.{check_any, check_plain, check_box_any, check_all, check_def, on_all-all, on_all-def, on_def-def, all-begun, def-begun, copies-among, copies-deepest, copied-limited}
-use Rattle.known.specs.Known.{TypeAt, ScalarAt, HasType, NameAt, SpanIs, is_named, Seen, SeenPlain, SeenAny, SeenAll, SeenDef}
+use Rattle.limits.specs.Codes.{code_for}
+use Rattle.limits.specs.contracts.codes.Kind.{the_type}
+use Rattle.limits.specs.declared.codes.Kind.{Kind as CodeKind}
+use Rattle.limits.specs.declared.codes.Kind.TheVariants as kinds
+use Rattle.limits.specs.declared.codes.Kind.TheVariants.{Any}
+use denote.Enum.Bare.{sameb}
+use Rattle.known.specs.Known.{TypeAt, ScalarAt, NameAt, SpanIs, is_named, Seen, SeenPlain, SeenAny, SeenAll, SeenDef}
 use Rattle.known.proofs.KnownLaws.{type_deeper, fields_deeper, scalar-behind}
 use Rattle.known.specs.declared.Span.{Span}
 use Rattle.known.specs.declared.View.{View}
 use Rattle.known.specs.declared.View.TheVariants.{Plain, BoxAny, BoxAll, BoxDef}
 use Rattle.validate.specs.Lists.{ListAt}
-use Rattle.validate.specs.Plans.{SomeView, Pair, scalar_after, any_bytes, InsideIs, PairsAre, Viewed, HasView, NotAny, AllAgainst, DefAgainst, as_named, as_copies, Copying}
+use Rattle.validate.specs.Plans.{SomeView, Pair, scalar_after, any_bytes, InsideIs, PairsAre, Viewed, NotAny, AllAgainst, DefAgainst, as_named, as_copies, Copying}
 use Rattle.validate.specs.declared.Items.{Items}
 use Rattle.validate.proofs.ListLaws.{has, list_copies}
 
@@ -66,7 +71,7 @@ pub view_of : {s : List ℕ} {at place : ℕ} → ((d : ℕ) (t : Ty) → TypeAt
 view_of {s} {at} {place} begins seen t h = record { place = place; seen = seen within (scalar_of t) (scalar-behind s at begins max_depth t h) }
 
 module _ {s : List ℕ} {k : Scalar} {v : View} (x : Viewed s k v) where
-  pub as_plain : {c e : ℕ} → v ≡ Plain c e → SeenPlain x.place k c e
+  pub as_plain : {c : CodeKind} {e : ℕ} → v ≡ Plain c e → SeenPlain x.place k (code_for c) e
   as_plain e = rw e at x.seen
 
   pub some-view : SomeView v
@@ -81,21 +86,22 @@ module _ {s : List ℕ} {k : Scalar} {v : View} (x : Viewed s k v) where
   pub as_box-def : {n f c : ℕ} {b : Bool} → v ≡ BoxDef n b f c → SeenDef s x.place within k n b f c
   as_box-def e = rw e at x.seen
 
-  pub code-plain : {c e : ℕ} → v ≡ Plain c e → c ≡ code_of k
+  -- the code of the kind that is seen
+  pub code_plain : {c : CodeKind} {e : ℕ} → v ≡ Plain c e → code_for c ≡ code_of k
   unfolding code_of
-  code-plain e = let h = as_plain e in sym (ap code_of h.is ∙ h.coded)
+  code_plain e = let h = as_plain e in sym (ap code_of h.is ∙ h.coded)
 
-  pub code-box_any : {e : ℕ} → v ≡ BoxAny e → box_code ≡ code_of k
+  pub code_box_any : {e : ℕ} → v ≡ BoxAny e → box_code ≡ code_of k
   unfolding code_of
-  code-box_any e = sym (ap code_of (as_box-any e))
+  code_box_any e = sym (ap code_of (as_box-any e))
 
-  pub code-box_all : {c : ℕ} → v ≡ BoxAll c → box_code ≡ code_of k
+  pub code_box_all : {c : ℕ} → v ≡ BoxAll c → box_code ≡ code_of k
   unfolding code_of
-  code-box_all e = sym (ap code_of (as_box-all e).is)
+  code_box_all e = sym (ap code_of (as_box-all e).is)
 
-  pub code-box_def : {n f c : ℕ} {b : Bool} → v ≡ BoxDef n b f c → box_code ≡ code_of k
+  pub code_box_def : {n f c : ℕ} {b : Bool} → v ≡ BoxDef n b f c → box_code ≡ code_of k
   unfolding code_of
-  code-box_def e = sym (ap code_of (as_box-def e).is)
+  code_box_def e = sym (ap code_of (as_box-def e).is)
 
 pub tested : (x : Outcome Scalar) (l : Scalar) {t b : Bool} → x ≡ cond t (accepted l) (refused wrong_scalar 0) → b ≡ t → x ≡ cond b (accepted l) (refused wrong_scalar 0)
 tested x l e q = e ∙ ap (λ c. cond c (accepted l) (refused wrong_scalar 0)) (sym q)
@@ -104,14 +110,32 @@ tested x l e q = e ∙ ap (λ c. cond c (accepted l) (refused wrong_scalar 0)) (
 pub def_flag : {s : List ℕ} {p : ℕ} {k : Scalar} {n f c : ℕ} {a b : Bool} → SeenDef s p within k n a f c → a ≡ b → SeenDef s p within k n b f c
 def_flag h e = rw e at h
 
-module _ (p : Shape) (k : Scalar) {m : Bool} (e : m ≡ is_any p) where
-  pub not-any : m ≡ false → false ≡ wholly_any (ty p k)
-  unfolding wholly_any
-  not-any h = rw (← e, h)
+-- the test for the kind Any
+pub tests_any : (k : CodeKind) → sameb the_type k Any ≡ eqb (code_for k) (code_for Any)
+tests_any = elim [
+  | kinds.Bool ↦ refl
+  | kinds.Nat ↦ refl
+  | kinds.Int ↦ refl
+  | kinds.Num ↦ refl
+  | kinds.Complex ↦ refl
+  | kinds.Ascii ↦ refl
+  | kinds.Char ↦ refl
+  | kinds.Stream ↦ refl
+  | kinds.Box ↦ refl
+  | Any ↦ refl
+]
 
-  pub any-by-code : {c : ℕ} → m ≡ true → c ≡ code_of k → eqb c 9 ≡ wholly_any (ty p k)
+pub any_tested : (k : CodeKind) {a b : Bool} → a ≡ sameb the_type k Any → a ≡ b → eqb (code_for k) 9 ≡ b
+any_tested k e f = sym (tests_any k) ∙ sym e ∙ f
+
+module _ (p : Shape) (k : Scalar) {m : Bool} (e : m ≡ is_any p) where
+  pub not_any : m ≡ false → m ≡ wholly_any (ty p k)
+  unfolding wholly_any
+  not_any h = rw (← e, h)
+
+  pub any_by_code : {c : ℕ} → m ≡ true → c ≡ code_of k → eqb c 9 ≡ wholly_any (ty p k)
   unfolding wholly_any code
-  any-by-code h f = rw (← e, h, f)
+  any_by_code h f = rw (← e, h, f)
 
 -- ---- the number of fields
 
@@ -153,15 +177,15 @@ module _ (t : DynShape) (n : ℕ) where
   pub fields_open : not t.closed ≡ true → n ≡ fields_for (shape_for t) n
   fields_open h = rw (not-true t.closed h) (for_open (dims_of t.dims) (dims_of t.suffix) n)
 
-  pub fields-many : {c : ℕ} → c ≡ length (dims_of t.dims) → (c ≡ 1 → ⊥) → n ≡ fields_for (shape_for t) n
-  fields-many e h = for_many (dims_of t.dims) (closing_for t) n (λ q. h (e ∙ q))
+  pub fields_many : {c : ℕ} → c ≡ length (dims_of t.dims) → (c ≡ 1 → ⊥) → n ≡ fields_for (shape_for t) n
+  fields_many e h = for_many (dims_of t.dims) (closing_for t) n (λ q. h (e ∙ q))
 
   module _ {c : ℕ} (h : not t.closed ≡ false) (e : c ≡ length (dims_of t.dims)) (one : c ≡ 1) where
-    pub fields-unknown : get_or t.dims.sizes 0 0 ≡ ones → n ≡ fields_for (shape_for t) n
-    fields-unknown u = rw (not-false t.closed h) (for_unknown (dims_of t.dims) n (sym e ∙ one) (get_or t.dims.sizes 0 0) (size-at t.dims 0 (omega arith)) u)
+    pub fields_unknown : get_or t.dims.sizes 0 0 ≡ ones → n ≡ fields_for (shape_for t) n
+    fields_unknown u = rw (not-false t.closed h) (for_unknown (dims_of t.dims) n (sym e ∙ one) (get_or t.dims.sizes 0 0) (size-at t.dims 0 (omega arith)) u)
 
-    pub fields-one : (get_or t.dims.sizes 0 0 ≡ ones → ⊥) → get_or t.dims.sizes 0 0 ≡ fields_for (shape_for t) n
-    fields-one u = rw (not-false t.closed h) (for_one (dims_of t.dims) n (sym e ∙ one) (get_or t.dims.sizes 0 0) (size-at t.dims 0 (omega arith)) u)
+    pub fields_one : (get_or t.dims.sizes 0 0 ≡ ones → ⊥) → get_or t.dims.sizes 0 0 ≡ fields_for (shape_for t) n
+    fields_one u = rw (not-false t.closed h) (for_one (dims_of t.dims) n (sym e ∙ one) (get_or t.dims.sizes 0 0) (size-at t.dims 0 (omega arith)) u)
 
 -- ---- names
 
@@ -254,10 +278,10 @@ module _ {s : List ℕ} {i : ℕ} {t : List ℕ} {j o a : ℕ} (w : Pair s i t j
     all-is : scalar_after w ≡ all_on o a all.shape all.scalar w.type-scalar
     all-is = ap (λ k. check_scalar k (limited o a) w.type-shape w.type-scalar) all.is ∙ (check_all (limited o a) w.type-shape w.type-scalar known.not-any all.shape all.scalar)
 
-    pub all_plain : {d e : ℕ} → v ≡ Plain d e → scalar_after w ≡ covered w.type-scalar box_code d
+    pub all_plain : {d : CodeKind} {e : ℕ} → v ≡ Plain d e → scalar_after w ≡ covered w.type-scalar box_code (code_for d)
     all_plain {d = d} q =
         let y = as_plain known.view q in
-        all-is ∙ ap (all_on o a all.shape all.scalar) y.is ∙ all_on-plain o a all.shape all.scalar y.kind y.coded ∙ ap (λ l. covered l box_code d) (sym y.is)
+        all-is ∙ ap (all_on o a all.shape all.scalar) y.is ∙ all_on-plain o a all.shape all.scalar y.kind y.coded ∙ ap (λ l. covered l box_code (code_for d)) (sym y.is)
 
     pub all_any : {e : ℕ} → v ≡ BoxAny e → scalar_after w ≡ measured (limited o a) w.spec-scalar
     all_any q = all-is ∙ ap (all_on o a all.shape all.scalar) (as_box-any known.view q) ∙ all_on-any o a all.shape all.scalar ∙ ap (measured (limited o a)) (sym all.is)
@@ -358,9 +382,9 @@ module _ {s : List ℕ} {i : ℕ} {t : List ℕ} {j o a : ℕ} (w : Pair s i t j
       unfolding as_fields
       named-is = def_is ∙ rw (e, ← x.counted)
 
-      titled-plain : {p d f : ℕ} → SeenPlain p w.type-scalar d f → (d ≡ code any → ⊥) → scalar_after w ≡ covered w.type-scalar box_code d
+      titled-plain : {p d f : ℕ} → SeenPlain p w.type-scalar d f → eqb d 9 ≡ false → scalar_after w ≡ covered w.type-scalar box_code d
       unfolding as_box named on_def superset_of code_of code
-      titled-plain {d = d} y h = named-is ∙ rw (y.is, y.coded) (go (ne_eqb d 9 h))
+      titled-plain {d = d} y h = named-is ∙ rw (y.is, y.coded) (go h)
         where
           go : eqb d 9 ≡ false
               → (named (limited o a) title (fields_for w.type-shape ct) (cond (eqb d 9) box_any (plain y.kind)) >>= def_on o a x.held (some title)) ≡ cond (superset_codes box_code d) (accepted (plain y.kind)) (refused wrong_scalar 0)
@@ -409,9 +433,9 @@ module _ {s : List ℕ} {i : ℕ} {t : List ℕ} {j o a : ℕ} (w : Pair s i t j
           is = copies_are ∙ rw (h, e, add-one o, add-one a) (on_def-def o a (some title) (some title) x.held (copies n u));
         }
 
-      holds_plain : {p d f : ℕ} → SeenPlain p w.type-scalar d f → d ≡ code any → as_named o a w.type-shape w.type-scalar title ct ≡ as_copies o a w.type-shape title ct any_ty
+      holds_plain : {p d f : ℕ} → SeenPlain p w.type-scalar d f → eqb d 9 ≡ true → as_named o a w.type-shape w.type-scalar title ct ≡ as_copies o a w.type-shape title ct any_ty
       unfolding as_box named code
-      holds_plain {d = d} y h = rw (y.is, y.coded, eq-eqb d 9 h)
+      holds_plain y h = rw (y.is, y.coded, h)
 
       holds_any : w.type-scalar ≡ box_any → as_named o a w.type-shape w.type-scalar title ct ≡ as_copies o a w.type-shape title ct any_ty
       unfolding as_box named
@@ -427,7 +451,7 @@ module _ {s : List ℕ} {i : ℕ} {t : List ℕ} {j o a : ℕ} (w : Pair s i t j
     bare : known.def.label ≡ none
     bare = name-none known.def.label known.def.known refl
 
-    pub unnamed-plain : {d e : ℕ} → v ≡ Plain d e → scalar_after w ≡ covered w.type-scalar box_code d
+    pub unnamed-plain : {d : CodeKind} {e : ℕ} → v ≡ Plain d e → scalar_after w ≡ covered w.type-scalar box_code (code_for d)
     unnamed-plain q = bare-plain known.not-any known.def bare (as_plain known.view q)
 
     pub unnamed-any : {e : ℕ} → v ≡ BoxAny e → scalar_after w ≡ measured (limited o a) w.spec-scalar
@@ -445,7 +469,7 @@ module _ {s : List ℕ} {i : ℕ} {t : List ℕ} {j o a : ℕ} (w : Pair s i t j
     titled : {C : Type 0} → ((title : List ℕ) → known.def.label ≡ some title → C) → C
     titled = name-some known.def.label known.def.known refl
 
-    pub named-plain : {d e : ℕ} → v ≡ Plain d e → (d ≡ code any → ⊥) → scalar_after w ≡ covered w.type-scalar box_code d
+    pub named-plain : {d : CodeKind} {e : ℕ} → v ≡ Plain d e → eqb (code_for d) 9 ≡ false → scalar_after w ≡ covered w.type-scalar box_code (code_for d)
     named-plain q h = titled λ m e. titled-plain known.not-any known.def m e (as_plain known.view q) h
 
     pub named-own : {n f m : ℕ} {b : Bool} → v ≡ BoxDef n b f m → b ≡ true → PairsOf (items fl ct true) (items f m true) false n false
@@ -470,7 +494,7 @@ module _ {s : List ℕ} {i : ℕ} {t : List ℕ} {j o a : ℕ} (w : Pair s i t j
         high = high;
       }
 
-      pub copies_plain : {d e : ℕ} → v ≡ Plain d e → d ≡ code any → Copying w n 1 1 0 true nm fl ct
+      pub copies_plain : {d : CodeKind} {e : ℕ} → v ≡ Plain d e → eqb (code_for d) 9 ≡ true → Copying w n 1 1 0 true nm fl ct
       copies_plain q h = made_of any_ty (λ m e. holds_plain known.not-any known.def m e (as_plain known.view q) h) true any-there any-types any-depth
 
       pub copies-any : {e : ℕ} → v ≡ BoxAny e → Copying w n 1 1 0 true nm fl ct
@@ -540,32 +564,14 @@ module _ {s : List ℕ} {i : ℕ} {t : List ℕ} {j o a : ℕ} (w : Pair s i t j
 
 -- ---- what the functions that plan ask of each other
 
-pub any-coded : {d : ℕ} → d ≡ 9 → d ≡ code any
-unfolding code
-any-coded e = e
-
-pub not-coded : {d : ℕ} → (d ≡ 9 → ⊥) → d ≡ code any → ⊥
-unfolding code
-not-coded h e = h e
-
-module _ {s : List ℕ} {v : View} (x : HasView s v) {c : ℕ} (e : v ≡ BoxAll c) where
-  pub view-content : HasType s c max_depth
-  view-content = has (content-there (as_box-all x.viewed e))
-
-  pub content-span : {r : Span} → ((u : Ty) → TypeAt s c max_depth u → SpanIs c u r) → (r.types ≤ max_types) × (r.depth ≤ max_depth)
-  content-span spans =
-      let h = view-content in
-      let span = spans h.type h.there in
-      (omega (arith, span.types, h.there.few), omega (arith, span.depth, h.there.shallow))
-
 module _ (o a : ℕ) where
-  pub limited-over : (t : Ty) {at : ℕ} {r : Span} → SpanIs at t r → max_types < o + r.types → false ≡ limited o a (scalar_of t)
+  pub limited_over : (t : Ty) {at : ℕ} {r : Span} → SpanIs at t r → max_types < o + r.types → leb (o + r.types) max_types ≡ limited o a (scalar_of t)
   unfolding limited
-  limited-over (ty p k) span h = rw (lt-leb (o + suc (inside k)) max_types (omega (arith, span.types)))
+  limited_over (ty p k) {r = r} span h = rw (lt-leb (o + r.types) max_types h, lt-leb (o + suc (inside k)) max_types (omega (arith, span.types)))
 
-  pub limited-by : (t : Ty) {at : ℕ} {r : Span} → SpanIs at t r → o + r.types ≤ max_types → leb (a + r.depth) max_depth ≡ limited o a (scalar_of t)
+  pub limited_by : (t : Ty) {at : ℕ} {r : Span} → SpanIs at t r → o + r.types ≤ max_types → leb (a + r.depth) max_depth ≡ limited o a (scalar_of t)
   unfolding limited
-  limited-by (ty p k) span h = rw (le-leb (o + suc (inside k)) max_types (omega (arith, span.types)), span.depth)
+  limited_by (ty p k) span h = rw (le-leb (o + suc (inside k)) max_types (omega (arith, span.types)), span.depth)
 
 module _ {s : List ℕ} {i : ℕ} {t : List ℕ} {j o a : ℕ} (w : Pair s i t j o a) where
   abbrev pub spec_ty : Ty
@@ -587,6 +593,3 @@ module _ {s : List ℕ} {i : ℕ} {t : List ℕ} {j o a : ℕ} (w : Pair s i t j
 
     pub def_against : {n f c : ℕ} {h g : Bool} → u ≡ BoxDef n h f c → h ≡ g → DefAgainst w n g f c v
     def_against e q = record { not-any = z; place = x.place; def = def_flag (as_box-def x e) q; view = b }
-
-pub product_small : (n m : ℕ) → n ≤ max_fields → m ≤ max_types → n * m ≤ max_fields * max_types
-product_small n m h k = mul-le-mul h k

@@ -1,25 +1,21 @@
 -- `check_shape` on shapes by value: one law for each way out of a function.
 use Prim.Native.Nat.{ℕ, ◌+◌}
 use native.Mathlib.Omega.{arith}
-use mathlib.Core.Bool.{Bool, true, false, not}
+use mathlib.Core.Bool.{Bool, true, false}
 use mathlib.Core.List.{List, [], reverse}
 use mathlib.Core.Option.{none, some}
 use mathlib.Core.Path.{◌≡◌, refl, sym, ◌∙◌, ap}
 use lib.ListN.{length, drop}
 use lib.Dec.{eqb, leb}
-use borrow.Author.Tests.{not-true, not-false}
 use Rattle.model.specs.Types.{Dim, Shape, shape}
 use Rattle.record.specs.Answers.{dims_of, shape_for}
 use Rattle.record.specs.declared.Dims.{Dims}
 use Rattle.record.specs.declared.DynShape.{DynShape}
-use Rattle.format.specs.Outcome.{accepted}
+use Rattle.format.specs.Outcome.{accepted, refused}
 use Rattle.rules.specs.Sizes.{compatible}
 use Rattle.rules.specs.Shapes.{is_any, rank, merge_from}
-use Rattle.validation.specs.CheckShape.{Side, unsided, left, right, agree, equal_dim, sizes_agree, count_test, names_all, clash, mismatch, shape_mismatch, sided_shape, refused_by, check_shape}
+use Rattle.validation.specs.CheckShape.{Side, unsided, left, right, agree, equal_dim, sizes_agree, count_test, names_all, clash, mismatch, shape_mismatch, sided_shape, check_shape}
 use Rattle.validation.proofs.CheckShapeLaws.{check_shape_match, check_shape-mismatch}
-use Rattle.validate.specs.Answers.{clash_of}
-use Rattle.validate.specs.declared.Clash.{Clash}
-use Rattle.validate.specs.declared.Clash.TheVariants.{Clear, Numbered}
 
 -- m sizes of a closed type, n of the spec, and whether they agree
 pub closed-unsided : (o p : List Dim) {m n : ℕ} → m ≡ length p → n ≡ length o → {b : Bool} → b ≡ agree compatible p o → clash (eqb m n) b true ≡ mismatch unsided o (shape p none)
@@ -33,39 +29,36 @@ module _ (o : List Dim) (t : DynShape) where
   abbrev d : List Dim
   d = dims_of t.suffix
 
-  pub unsided-closed : t.closed ≡ true → mismatch unsided o (shape p none) ≡ mismatch unsided o (shape_for t)
-  unsided-closed e = rw e
-
   -- m sizes of the type, n of the spec, and whether they agree
-  module _ (e : t.closed ≡ true) {m n : ℕ} (f : m ≡ length p) (g : n ≡ length o) {b : Bool} where
-    pub left-closed : b ≡ agree compatible p o → clash (leb n m) b true ≡ mismatch left o (shape_for t)
+  module _ (e : t.closed ≡ true) {b : Bool} {m n : ℕ} where
+    pub left-closed : {few : Bool} → few ≡ leb n m → m ≡ length p → n ≡ length o → b ≡ agree compatible p o → clash few b true ≡ mismatch left o (shape_for t)
     unfolding mismatch count_test sizes_agree names_all
-    left-closed a = rw (e, f, g, a)
+    left-closed c f g s = rw (e, c, f, g, s)
 
-    pub right-closed : b ≡ agree compatible (reverse p) (reverse o) → clash (leb n m) b true ≡ mismatch right o (shape_for t)
+    pub right_closed : m ≡ length p → n ≡ length o → b ≡ agree compatible (reverse p) (reverse o) → clash (leb n m) b true ≡ mismatch right o (shape_for t)
     unfolding mismatch count_test sizes_agree names_all rank
-    right-closed a = let q : m ≡ length p + 0 = omega (arith, f) in rw (e, q, g, a)
+    right_closed f g s = let q : m ≡ length p + 0 = omega (arith, f) in rw (e, q, g, s)
 
   module _ (e : t.closed ≡ false) {b : Bool} where
     -- l and m sizes of the type
     module _ {l m n : ℕ} (x : l ≡ length p) (f : m ≡ length d) (g : n ≡ length o) where
       pub unsided_open : b ≡ sizes_agree unsided o (shape p (some d)) → clash (leb (l + m) n) b (leb n (l + m)) ≡ mismatch unsided o (shape_for t)
       unfolding mismatch count_test names_all
-      unsided_open a = rw (e, x, f, g, a)
+      unsided_open s = rw (e, x, f, g, s)
 
       pub right_open : b ≡ agree compatible (reverse d) (reverse o) → clash (leb n (l + m)) b true ≡ mismatch right o (shape_for t)
       unfolding mismatch count_test sizes_agree names_all rank
-      right_open a = rw (e, x, f, g, a)
+      right_open s = rw (e, x, f, g, s)
 
-    pub left_open : b ≡ agree compatible p o → clash true b true ≡ mismatch left o (shape_for t)
+    pub left_open : {few : Bool} → few ≡ true → b ≡ agree compatible p o → clash few b true ≡ mismatch left o (shape_for t)
     unfolding mismatch count_test sizes_agree names_all
-    left_open a = rw (e, a)
+    left_open c s = rw (e, c, s)
 
 -- an open type without a side: its opening sizes, then its closing ones
 module _ (o p d : List Dim) {a : Bool} (f : a ≡ agree equal_dim p o) where
-  pub opening-differ : a ≡ false → false ≡ sizes_agree unsided o (shape p (some d))
+  pub opening_decides : a ≡ false → a ≡ sizes_agree unsided o (shape p (some d))
   unfolding sizes_agree
-  opening-differ h = rw (← f, h)
+  opening_decides h = rw (← f, h)
 
   pub closing_decide : {b : Bool} → a ≡ true → b ≡ agree equal_dim (reverse d) (reverse (drop (length p) o)) → b ≡ sizes_agree unsided o (shape p (some d))
   unfolding sizes_agree
@@ -89,27 +82,27 @@ module _ (side : Side) (o : List Dim) (c : _) (t : Shape) {a : Bool} (f : a ≡ 
 
 -- ---- the answer
 
-module _ (side : Side) (s t : Shape) {r : Clash} (e : clash_of r ≡ shape_mismatch side s t) where
-  pub clashed : (u : Shape) {n : ℕ} → r ≡ Numbered n → refused_by (clash_of r) u ≡ check_shape side s t
-  clashed u h = ap (λ c. refused_by (clash_of c) u) h ∙ sym (check_shape-mismatch side s t (sym e ∙ ap clash_of h))
+module _ (side : Side) (s t : Shape) where
+  pub clashed : {n : ℕ} → some n ≡ shape_mismatch side s t → refused n 0 ≡ check_shape side s t
+  clashed e = sym (check_shape-mismatch side s t (sym e))
 
-  pub merged : {u : Shape} → r ≡ Clear → u ≡ merge_from t (sided_shape side s) → refused_by (clash_of r) u ≡ check_shape side s t
-  merged {u} h m = ap (λ c. refused_by (clash_of c) u) h ∙ ap accepted m ∙ sym (check_shape_match side s t (sym e ∙ ap clash_of h))
+  pub merged : {u : Shape} → none ≡ shape_mismatch side s t → u ≡ merge_from t (sided_shape side s) → accepted u ≡ check_shape side s t
+  merged e m = ap accepted m ∙ sym (check_shape_match side s t (sym e))
 
 -- ---- what is merged
 
-pub sided-not : (s : Shape) → s ≡ sided_shape unsided s
+pub sided_not : (s : Shape) → s ≡ sided_shape unsided s
 unfolding sided_shape
-sided-not s = refl
+sided_not s = refl
 
 none_of : (d : Dims) → d.count ≡ 0 → dims_of d ≡ []
 none_of d e = rw e
 
 module _ (s : DynShape) (d : Dims) (e : d.count ≡ 0) where
-  pub sided-left : shape (dims_of s.dims) (some (dims_of d)) ≡ sided_shape left (shape_for s)
+  pub sided_left : shape (dims_of s.dims) (some (dims_of d)) ≡ sided_shape left (shape_for s)
   unfolding sided_shape
-  sided-left = rw (none_of d e)
+  sided_left = rw (none_of d e)
 
-  pub sided-right : shape (dims_of d) (some (dims_of s.dims)) ≡ sided_shape right (shape_for s)
+  pub sided_right : shape (dims_of d) (some (dims_of s.dims)) ≡ sided_shape right (shape_for s)
   unfolding sided_shape
-  sided-right = rw (none_of d e)
+  sided_right = rw (none_of d e)

@@ -7,15 +7,21 @@ use mathlib.Core.List.{List, [], ◌∷◌, ◌++◌, append_assoc, append-nil}
 use mathlib.Core.Option.{Option}
 use mathlib.Core.Path.{◌≡◌, refl, sym, ◌∙◌, ap, subst}
 use lib.ListN.{length, take}
+use Rattle.std.specs.Prelude.{Result, Ok, Err}
+use Rattle.std.specs.Result.{result_unwrap_or}
 use Rattle.model.specs.Limits.{max_types, max_depth}
+use Rattle.model.specs.Within.{ShapeWithin}
 use Rattle.model.specs.Types.{Shape, Scalar, box_def, Fields, no_fields, field, Ty, ty, shape_of, box_of, field_of, field_count, inside, among, types}
 use Rattle.format.specs.Records.{box_start, count_of, list_of, write_shape, write_scalar, write_fields}
-use Rattle.format.specs.Suffices.{shape_bytes, box_bytes}
+use Rattle.format.specs.Suffices.{shape_bytes, box_bytes, shape-suffices}
 use Rattle.format.specs.Outcome.{Outcome, accepted, refused, mapped}
 use Rattle.lent.specs.Over.{over, take-over}
+use Rattle.limits.specs.Answers.{number_of}
+use Rattle.limits.specs.declared.refusal.Reason.{Reason}
 use Rattle.record.specs.Answers.{shape_for}
 use Rattle.record.specs.declared.DynShape.{DynShape}
-use Rattle.validation.specs.CheckShape.{Side, unsided, refused_by, check_shape}
+use Rattle.validation.specs.CheckShape.{Side, unsided, check_shape}
+use Rattle.validation.proofs.CheckShapeLaws.{check_shape-within}
 use Rattle.validation.specs.CheckScalar.{◌>>=◌, in_turn, check_scalar, check_fields}
 use Rattle.validation.proofs.OutcomeLaws.{and_rest}
 use Rattle.validation.specs.MeasureLaws.{limited, fields_limited}
@@ -24,44 +30,30 @@ use Rattle.validation.proofs.KeepsLaws.{check_scalar-keeps}
 use Rattle.validation.proofs.CheckScalarSteps.{at_hand, after_it, fields-step, field-begun, field_next}
 use Rattle.known.specs.Known.{TypeAt, HasType, SpanIs}
 use Rattle.known.specs.declared.Span.{Span}
-use Rattle.validate.specs.Answers.{clash_of, checked_of}
+use Rattle.validate.specs.Answers.{checked_of}
 use Rattle.validate.specs.Lists.{next_place, ListAt, Countable}
 use Rattle.validate.specs.Plans.{Pair, scalar_after, shape_after, type_after, TwoLists, fields_after, any_bytes, InsideIs, PairsAre, Planned}
 use Rattle.validate.specs.Walk.{type_bytes, Piece, piece, validated_of, scalar_piece, type_piece, fields_piece, Roomy, TypeDone, ScalarDone, FieldsDone, CopyIs, HeadIs, Copyable, Listable, def_head}
-use Rattle.validate.specs.declared.Clash.TheVariants.{Clear, Numbered}
 use Rattle.validate.specs.declared.Extent.{Extent}
 use Rattle.validate.specs.declared.Items.{Items}
 use Rattle.validate.specs.declared.Plan.{Plan}
-use Rattle.validate.specs.declared.Plan.TheVariants.{Refuse, Keep, Take, Inside, Pairs}
-use Rattle.validate.specs.declared.ShapeChecked.{ShapeChecked}
-use Rattle.validate.specs.declared.Validated.{Validated}
-use Rattle.validate.specs.declared.Validated.TheVariants.{Done, Refused}
+use Rattle.validate.specs.declared.Plan.TheVariants.{Keep, Take, Inside, Pairs}
 use Rattle.validate.proofs.ListLaws.{has, list-first, list_rest, next-by-span}
 use Rattle.validate.proofs.HeadLaws.{head-behind}
 use Rattle.validate.proofs.PlanLaws.{items, some_left}
 
+-- what is answered: where the bytes end and how many types they are, or why it is refused
+abbrev pub Validated : Type 0
+Validated = Result Extent Reason
+
 roomy_more : (r : Validated) (m n : ℕ) → m ≤ n → Roomy r m → Roomy r n
-roomy_more (Done e k) m n h j = omega arith
-roomy_more (Refused k) m n h j = tt
-
--- what an accepted answer says
-done-is : {r : Validated} {e n : ℕ} (out : List ℕ) {o : Outcome Piece} → r ≡ Done e n → validated_of r out ≡ o → accepted (piece (take e out) n) ≡ o
-done-is out d h = sym (ap (λ v. validated_of v out) d) ∙ h
-
-refused-is : {r : Validated} {m : ℕ} (out : List ℕ) {o : Outcome Piece} → r ≡ Refused m → validated_of r out ≡ o → refused m 0 ≡ o
-refused-is out d h = sym (ap (λ v. validated_of v out) d) ∙ h
+roomy_more (Ok x) m n h j = omega arith
+roomy_more (Err r) m n h j = tt
 
 -- ---- a type: its shape was written, its scalar is judged first
 
 -- `before` stood before the type and `after` before its scalar, which became os
 module _ (before after out : List ℕ) (os : Outcome Scalar) (oh : Outcome Shape) where
-  type-refused : (m : ℕ) → refused m 0 ≡ mapped (scalar_piece after) os → refused m 0 ≡ mapped (type_piece before) (in_turn os oh)
-  type-refused m e = go os e
-    where
-      go : (o : Outcome Scalar) → refused m 0 ≡ mapped (scalar_piece after) o → refused m 0 ≡ mapped (type_piece before) (in_turn o oh)
-      go (accepted x) e = let z : ◌≡◌ {A = ℕ} 0 1 = cc in absurd (omega arith)
-      go (refused k p) e = e
-
   module _ (end n : ℕ) (wrote : accepted (piece (take end out) n) ≡ mapped (scalar_piece after) os) where
     type-clash : (k : ℕ) → oh ≡ refused k 0 → refused k 0 ≡ mapped (type_piece before) (in_turn os oh)
     type-clash m h = go os wrote
@@ -81,60 +73,65 @@ module _ (before after out : List ℕ) (os : Outcome Scalar) (oh : Outcome Shape
             rw h (ap (λ l. accepted (piece l (n + 1))) bytes ∙ ap (λ k. accepted (piece (before ++ (write_shape v ++ write_scalar x)) k)) (add-one n ∙ ap suc m))
         go (refused k p) q = let z : ◌≡◌ {A = ℕ} 0 1 = cc in absurd (omega arith)
 
-pub scalar-few : {s : List ℕ} {i : ℕ} {t : List ℕ} {j o a : ℕ} (w : Pair s i t j o a) (to : ℕ) (before out : List ℕ) (r : Validated) {e n : ℕ} → r ≡ Done e n → ScalarDone w to before r out → n < max_types
-scalar-few {s} {i} {t} {j} {o} {a} w to before out r {e} {n} d h = go (scalar_after w) refl (done-is out d h.0)
+pub scalar-few : {s : List ℕ} {i : ℕ} {t : List ℕ} {j o a : ℕ} (w : Pair s i t j o a) (to : ℕ) (before out : List ℕ) (x : Extent) → ScalarDone w to before (Ok x) out → x.types < max_types
+scalar-few {s} {i} {t} {j} {o} {a} w to before out x h = go (scalar_after w) refl h.0
   where
-    go : (u : Outcome Scalar) → scalar_after w ≡ u → accepted (piece (take e out) n) ≡ mapped (scalar_piece (take to before)) u → n < max_types
-    go (accepted x) q c =
-        let m : n ≡ inside x = cc in
-        let k = check_scalar-keeps w.spec-scalar (limited o a) (limited-counts o a) w.type-shape w.type-scalar x w.limits q in
-        omega (arith, m, (limited-true o a x k).0)
+    go : (u : Outcome Scalar) → scalar_after w ≡ u → accepted (piece (take x.end out) x.types) ≡ mapped (scalar_piece (take to before)) u → x.types < max_types
+    go (accepted l) q c =
+        let m : x.types ≡ inside l = cc in
+        let k = check_scalar-keeps w.spec-scalar (limited o a) (limited-counts o a) w.type-shape w.type-scalar l w.limits q in
+        omega (arith, m, (limited-true o a l k).0)
     go (refused k p) q c = let z : ◌≡◌ {A = ℕ} 0 1 = cc in absurd (omega arith)
 
 -- ---- shapes as they were checked
 
-checked-clash : (r : ShapeChecked) {o : Outcome Shape} {n : ℕ} → checked_of r ≡ o → r.clash ≡ Numbered n → o ≡ refused n 0
-checked-clash r e h = sym e ∙ ap (λ c. refused_by (clash_of c) (shape_for r.shape)) h
+-- the shapes x and y of two types, by value, and what is written: the merged shape, or the type's where there is none
+module _ {s : List ℕ} {i : ℕ} {t : List ℕ} {j o a : ℕ} (w : Pair s i t j o a) (side : Side) (x y : DynShape) (c : Result DynShape Reason) (checked : checked_of c ≡ check_shape side (shape_for x) (shape_for y))
+    (first : (d : ℕ) (u : Ty) → TypeAt s i d u → shape_for x ≡ shape_of u) (second : (d : ℕ) (u : Ty) → TypeAt t j d u → shape_for y ≡ shape_of u) where
+  type-shape-is : shape_for y ≡ w.type-shape
+  type-shape-is = second max_depth (ty w.type-shape w.type-scalar) w.type-there
 
-checked-merged : (r : ShapeChecked) {o : Outcome Shape} → checked_of r ≡ o → r.clash ≡ Clear → o ≡ accepted (shape_for r.shape)
-checked-merged r e h = sym e ∙ ap (λ c. refused_by (clash_of c) (shape_for r.shape)) h
+  pub shapes-checked : checked_of c ≡ shape_after side w
+  shapes-checked =
+      checked
+      ∙ ap (λ p. check_shape side p (shape_for y)) (first max_depth (ty w.spec-shape w.spec-scalar) w.spec-there)
+      ∙ ap (check_shape side w.spec-shape) type-shape-is
 
--- the shapes of two types, by value
-pub shapes-checked : {s : List ℕ} {i : ℕ} {t : List ℕ} {j o a : ℕ} (w : Pair s i t j o a) (side : Side) (x y : DynShape) (c : ShapeChecked)
-    → checked_of c ≡ check_shape side (shape_for x) (shape_for y) → ((d : ℕ) (u : Ty) → TypeAt s i d u → shape_for x ≡ shape_of u) → ((d : ℕ) (u : Ty) → TypeAt t j d u → shape_for y ≡ shape_of u) → checked_of c ≡ shape_after side w
-shapes-checked w side x y c checked first second =
-    checked
-    ∙ ap (λ p. check_shape side p (shape_for y)) (first max_depth (ty w.spec-shape w.spec-scalar) w.spec-there)
-    ∙ ap (check_shape side w.spec-shape) (second max_depth (ty w.type-shape w.type-scalar) w.type-there)
+  pub shape-short : {p : DynShape} → p ≡ result_unwrap_or c y → length (write_shape (shape_for p)) ≤ shape_bytes
+  shape-short {p} put = shape-suffices (shape_for p) (rw put (go c shapes-checked))
+    where
+      go : (r : Result DynShape Reason) → checked_of r ≡ shape_after side w → ShapeWithin (shape_for (result_unwrap_or r y))
+      go (Ok m) e = check_shape-within side w.spec-shape w.type-shape (shape_for m) w.spec-there.records.0 w.type-there.records.0 (sym e)
+      go (Err r) e = subst ShapeWithin (sym type-shape-is) w.type-there.records.0
+
+  pub merged-is : {m p : DynShape} → c ≡ Ok m → p ≡ result_unwrap_or c y → checked_of (Ok p) ≡ shape_after side w
+  merged-is {m} {p} e put = let q : p ≡ m = put ∙ ap (λ r. result_unwrap_or r y) e in ap (λ u. checked_of (Ok u)) q ∙ ap checked_of (sym e) ∙ shapes-checked
+
+  pub clash-is : {r : Reason} → c ≡ Err r → checked_of (Err r) ≡ shape_after side w
+  clash-is e = ap checked_of (sym e) ∙ shapes-checked
 
 pub laid-behind : (d w : List ℕ) (to : ℕ) {end : ℕ} {after : List ℕ} → end ≡ to + length w → end ≤ length d → after ≡ over d to w → take end after ≡ take to d ++ w
 laid-behind d w to {end} {after} e h laid = ap (λ n. take n after) e ∙ ap (take (to + length w)) laid ∙ take-over d to w (omega (arith, e))
 
--- one pair of types: the shape c of n bytes was laid at `to`, which gave d'
-module _ {s : List ℕ} {i : ℕ} {t : List ℕ} {j o a : ℕ} (w : Pair s i t j o a) (to : ℕ) (d : List ℕ) (room : to + type_bytes * (max_types - o) ≤ length d) {n : ℕ} (short : n ≤ shape_bytes) where
-  pub shape-room : to + n ≤ length d
+-- one pair of types: the shape p was laid at `to`, up to n, which gave d'
+module _ {s : List ℕ} {i : ℕ} {t : List ℕ} {j o a : ℕ} (w : Pair s i t j o a) (to : ℕ) (d : List ℕ) (room : to + type_bytes * (max_types - o) ≤ length d) (p : DynShape) (short : length (write_shape (shape_for p)) ≤ shape_bytes) where
+  pub shape-room : to + length (write_shape (shape_for p)) ≤ length d
   shape-room = let r = some_left o a w.type-scalar w.limits in omega (arith, r.0)
 
-  pub scalar-room : (d' : List ℕ) → length d' ≡ length d → to + n + box_bytes + type_bytes * (max_types - 1 - o) ≤ length d'
-  scalar-room d' e = let r = some_left o a w.type-scalar w.limits in omega (arith, r.0)
+  module _ {n : ℕ} (begins : n ≡ to + length (write_shape (shape_for p))) where
+    pub scalar-room : (d' : List ℕ) → length d' ≡ length d → n + box_bytes + type_bytes * (max_types - 1 - o) ≤ length d'
+    scalar-room d' e = let r = some_left o a w.type-scalar w.limits in omega (arith, r.0)
 
-  module _ (side : Side) (c : ShapeChecked) (checked : checked_of c ≡ shape_after side w) (d' : List ℕ) (r : Validated) (out : List ℕ) (done : ScalarDone w (to + n) d' r out) where
-    pub pair-refused : {m : ℕ} → r ≡ Refused m → TypeDone side w to d r out
-    pair-refused {m} e = (ap (λ v. validated_of v out) e ∙ type-refused (take to d) (take (to + n) d') out (scalar_after w) (shape_after side w) m (refused-is out e done.0), rw e tt)
+    module _ (side : Side) (d' : List ℕ) (out : List ℕ) where
+      module _ {x : Extent} (done : ScalarDone w n d' (Ok x) out) where
+        pub pair-clash : (r : Reason) → checked_of (Err r) ≡ shape_after side w → TypeDone side w to d (Err r) out
+        pair-clash r h = (type-clash (take to d) (take n d') out (scalar_after w) (shape_after side w) x.end x.types done.0 (number_of r) (sym h), tt)
 
-    module _ {e k : ℕ} (q : r ≡ Done e k) where
-      wrote : accepted (piece (take e out) k) ≡ mapped (scalar_piece (take (to + n) d')) (scalar_after w)
-      wrote = done-is out q done.0
-
-      pub pair-clash : {m : ℕ} → c.clash ≡ Numbered m → TypeDone side w to d (Refused m) out
-      pair-clash {m} h = (type-clash (take to d) (take (to + n) d') out (scalar_after w) (shape_after side w) e k wrote m (checked-clash c checked h), tt)
-
-      pub pair-done : n ≡ length (write_shape (shape_for c.shape)) → d' ≡ over d to (write_shape (shape_for c.shape)) → c.clash ≡ Clear → TypeDone side w to d (Done e (k + 1)) out
-      pair-done long laid h =
-          let u : Shape = shape_for c.shape in
-          let b : take (to + n) d' ≡ take to d ++ write_shape u = laid-behind d (write_shape u) to (omega (arith, long)) shape-room laid in
-          let l : Roomy (Done e k) (to + n + box_bytes) = rw q at done.1 in
-          (type-done (take to d) (take (to + n) d') out (scalar_after w) (shape_after side w) e k wrote u (checked-merged c checked h) b, omega (arith, l))
+        pub pair-done : d' ≡ over d to (write_shape (shape_for p)) → checked_of (Ok p) ≡ shape_after side w → TypeDone side w to d (Ok (record { end = x.end; types = x.types + 1 })) out
+        pair-done laid h =
+            let u : Shape = shape_for p in
+            let b : take n d' ≡ take to d ++ write_shape u = laid-behind d (write_shape u) to begins (omega (arith, shape-room)) laid in
+            (type-done (take to d) (take n d') out (scalar_after w) (shape_after side w) x.end x.types done.0 u (sym h) b, omega (arith, done.1))
 
 -- ---- a scalar: what is copied has room
 
@@ -151,12 +148,9 @@ module _ {s : List ℕ} {i : ℕ} {t : List ℕ} {j o a : ℕ} (w : Pair s i t j
   pub head-room : to + box_bytes ≤ room
   head-room = omega arith
 
-pub refused-done : {s : List ℕ} {i : ℕ} {t : List ℕ} {j o a : ℕ} (w : Pair s i t j o a) (to : ℕ) (before out : List ℕ) {n : ℕ} → scalar_after w ≡ refused n 0 → ScalarDone w to before (Refused n) out
-refused-done w to before out e = (ap (mapped (scalar_piece (take to before))) (sym e), tt)
-
-module _ {s : List ℕ} {i : ℕ} {t : List ℕ} {j o a : ℕ} (w : Pair s i t j o a) (to : ℕ) (before out : List ℕ) {r : Validated} (x : Extent) (d : r ≡ Done x.end x.types) where
-  pub copied-done : (k : Scalar) → scalar_after w ≡ accepted k → CopyIs x out (scalar_piece (take to before) k) (to + box_bytes) → ScalarDone w to before r out
-  copied-done k e h = rw d (ap accepted h.bytes ∙ ap (mapped (scalar_piece (take to before))) (sym e), h.room)
+module _ {s : List ℕ} {i : ℕ} {t : List ℕ} {j o a : ℕ} (w : Pair s i t j o a) (to : ℕ) (before out : List ℕ) (x : Extent) where
+  pub copied-done : (k : Scalar) → scalar_after w ≡ accepted k → CopyIs x out (scalar_piece (take to before) k) (to + box_bytes) → ScalarDone w to before (Ok x) out
+  copied-done k e h = (ap accepted h.bytes ∙ ap (mapped (scalar_piece (take to before))) (sym e), h.room)
 
 -- ---- into boxes
 
@@ -238,19 +232,24 @@ pub record Pacing (s : List ℕ) (moves : Bool) (t : List ℕ) (steps : Bool) (o
   pub room : end ≤ to + type_bytes * done
 
 module _ {s : List ℕ} {x : Items} {t : List ℕ} {y : Items} {o a : ℕ} (w : TwoLists s x t y o a) where
-  abbrev itemized : TwoLists s (items x.at x.count x.moves) t (items y.at y.count y.moves) o a
-  itemized = record {
-    spec-fields = w.spec-fields;
-    type-fields = w.type-fields;
-    spec_list = w.spec_list;
-    spec-count = w.spec-count;
-    type_list = w.type_list;
-    type-count = w.type-count;
-    limits = w.limits;
+  pub pacing_start : (before : List ℕ) (to : ℕ) {todo left : ℕ} → todo ≡ x.count → left ≡ y.count → {rest : ℕ} → rest ≡ among w.type-fields
+      → Pacing s x.moves t y.moves o a (mapped (fields_piece before 0) (fields_after w)) to x.at y.at todo left o rest before to
+  pacing_start before to m n e = record {
+    lists = record {
+      spec-fields = w.spec-fields;
+      type-fields = w.type-fields;
+      spec_list = w.spec_list;
+      spec-count = w.spec-count ∙ sym m;
+      type_list = w.type_list;
+      type-count = w.type-count ∙ sym n;
+      limits = w.limits;
+    };
+    number = e;
+    done = 0;
+    ahead = omega arith;
+    goes = refl;
+    room = omega arith;
   }
-
-  pub pacing_start : (before : List ℕ) (to : ℕ) {rest : ℕ} → rest ≡ among w.type-fields → Pacing s x.moves t y.moves o a (mapped (fields_piece before 0) (fields_after w)) to x.at y.at x.count y.count o rest before to
-  pacing_start before to e = record { lists = itemized; number = e; done = 0; ahead = omega arith; goes = refl; room = omega arith }
 
   pub lists_countable : Countable t y.at y.count y.moves
   lists_countable = record { fields = w.type-fields; there = w.type_list; counted = w.type-count; few = omega (arith, (fields_limited-true o a w.type-fields w.limits).0) }
@@ -354,29 +353,25 @@ module _ {s : List ℕ} {moves : Bool} {t : List ℕ} {steps : Bool} {others abo
       at-hand : type_after unsided pacing_pair ≡ hand
       at-hand = ap (λ m. in_turn (check_scalar first.k (limited (before + m) above) first.q first.l) (check_shape unsided first.p first.q)) rest-is
 
-      module _ (out after : List ℕ) (w : Validated) (same : so_far ≡ take end out) (both : TypeDone unsided pacing_pair end out w after) where
-        validated : validated_of w after ≡ mapped (type_piece so_far) hand
-        validated = both.0 ∙ ap (λ b. mapped (type_piece b) (type_after unsided pacing_pair)) (sym same) ∙ ap (mapped (type_piece so_far)) at-hand
+      module _ (out after : List ℕ) (same : so_far ≡ take end out) where
+        validated : (w : Validated) → TypeDone unsided pacing_pair end out w after → validated_of w after ≡ mapped (type_piece so_far) hand
+        validated w both = both.0 ∙ ap (λ b. mapped (type_piece b) (type_after unsided pacing_pair)) (sym same) ∙ ap (mapped (type_piece so_far)) at-hand
 
-        pub pacing_stop : {m : ℕ} → w ≡ Refused m → (validated_of w after ≡ goal) × Roomy w to
-        pacing_stop {m} e =
-            let stops = step_stops so_far c.done hand (λ v. after_it before above first.f' first.g' v >>= λ h. accepted (field_of v h)) m (refused-is after e validated) in
-            (ap (λ v. validated_of v after) e ∙ stops ∙ sym (c.goes ∙ ap (mapped (fields_piece so_far c.done)) pacing_outcome), rw e tt)
+        pub pacing_stop : (r : Reason) → TypeDone unsided pacing_pair end out (Err r) after → (validated_of (Err r) after ≡ goal) × Roomy (Err r) to
+        pacing_stop r both =
+            let stops = step_stops so_far c.done hand (λ v. after_it before above first.f' first.g' v >>= λ h. accepted (field_of v h)) (number_of r) (validated (Err r) both) in
+            (stops ∙ sym (c.goes ∙ ap (mapped (fields_piece so_far c.done)) pacing_outcome), tt)
 
-        module _ {e n : ℕ} (d : w ≡ Done e n) where
-          one-wrote : accepted (piece (take e after) n) ≡ mapped (type_piece so_far) hand
-          one-wrote = done-is after d validated
+        module _ {v : Extent} (both : TypeDone unsided pacing_pair end out (Ok v) after) where
+          limits-kept : fields_limited (before + v.types) above first.g' ≡ true
+          limits-kept = step-limits before above first.p first.k first.q first.l first.g' so_far after v.end v.types first.limits (validated (Ok v) both)
 
-          limits-kept : fields_limited (before + n) above first.g' ≡ true
-          limits-kept = step-limits before above first.p first.k first.q first.l first.g' so_far after e n first.limits one-wrote
+          pub types-few : before + v.types ≤ max_types
+          types-few = omega (arith, (fields_limited-true (before + v.types) above first.g' limits-kept).0)
 
-          pub types-few : before + n ≤ max_types
-          types-few = omega (arith, (fields_limited-true (before + n) above first.g' limits-kept).0)
-
-          module _ {i' j' : ℕ} (mi : (u : Ty) → TypeAt s i max_depth u → i' ≡ next_place moves i u) (mj : j' ≡ cond steps r.end j) where
-            pub pacing_next : Pacing s moves t steps others above goal to i' j' (todo - 1) (left - 1) (before + n) (rest - r.types) (take e after) e
+          module _ {todo' left' : ℕ} (one : todo' + 1 ≡ todo) (other : left' + 1 ≡ left) {i' j' : ℕ} (mi : (u : Ty) → TypeAt s i max_depth u → i' ≡ next_place moves i u) (mj : j' ≡ cond steps r.end j) where
+            pub pacing_next : Pacing s moves t steps others above goal to i' j' todo' left' (before + v.types) (rest - r.types) (take v.end after) v.end
             pacing_next =
-                let l : Roomy (Done e n) end = rw d at both.1 in
                 let sc : suc (field_count first.f') ≡ todo = ap field_count (sym first.f-is) ∙ c.lists.spec-count in
                 let tc : suc (field_count first.g') ≡ left = ap field_count (sym first.g-is) ∙ c.lists.type-count in
                 record {
@@ -390,10 +385,10 @@ module _ {s : List ℕ} {moves : Bool} {t : List ℕ} {steps : Bool} {others abo
                     limits = limits-kept;
                   };
                   number = rest-is;
-                  done = c.done + n;
+                  done = c.done + v.types;
                   ahead = omega (arith, c.ahead);
-                  goes = c.goes ∙ ap (mapped (fields_piece so_far c.done)) pacing_outcome ∙ step-goes so_far c.done before above first.f' first.g' hand after e n one-wrote;
-                  room = omega (arith, l, c.room);
+                  goes = c.goes ∙ ap (mapped (fields_piece so_far c.done)) pacing_outcome ∙ step-goes so_far c.done before above first.f' first.g' hand after v.end v.types (validated (Ok v) both);
+                  room = omega (arith, both.1, c.room);
                 }
 
 -- ---- a list has ended
@@ -417,7 +412,7 @@ module _ {s : List ℕ} {moves : Bool} {t : List ℕ} {steps : Bool} {others abo
   own = c.lists.type-fields
 
   -- the type's
-  pub pacing_ended : left ≡ 0 → (validated_of (Done end (before - others)) out ≡ goal) × Roomy (Done end (before - others)) to
+  pub pacing_ended : left ≡ 0 → (validated_of (Ok (record { end = end; types = before - others })) out ≡ goal) × Roomy (Ok (record { end = end; types = before - others })) to
   unfolding write_fields among
   pacing_ended z =
       let g : own ≡ no_fields = fields_none own (c.lists.type-count ∙ z) in
@@ -428,11 +423,11 @@ module _ {s : List ℕ} {moves : Bool} {t : List ℕ} {steps : Bool} {others abo
 
   -- the spec's: what is left of the type's has room, and stays
   module _ {room : ℕ} (l : to + type_bytes * (max_types - others) ≤ room) where
-    pub pacing_listable : Listable t j left steps end room
-    pacing_listable = record {
+    pub pacing_listable : {n : ℕ} → n ≡ left → Listable t j n steps end room
+    pacing_listable e = record {
       fields = own;
       there = c.lists.type_list;
-      counted = c.lists.type-count;
+      counted = c.lists.type-count ∙ sym e;
       space = omega (arith, c.room, c.ahead, c.number, pacing_few c);
       few = omega (arith, c.number, pacing_few c);
     }
@@ -444,7 +439,7 @@ module _ {s : List ℕ} {moves : Bool} {t : List ℕ} {steps : Bool} {others abo
     pub tail-few : before - others + x.types ≤ max_types
     tail-few = omega (arith, tail-types, c.ahead, c.number, pacing_few c)
 
-    pub pacing_rest : todo ≡ 0 → (validated_of (Done x.end (before - others + x.types)) after ≡ goal) × Roomy (Done x.end (before - others + x.types)) to
+    pub pacing_rest : todo ≡ 0 → (validated_of (Ok (record { end = x.end; types = before - others + x.types })) after ≡ goal) × Roomy (Ok (record { end = x.end; types = before - others + x.types })) to
     pacing_rest z =
         let f : c.lists.spec-fields ≡ no_fields = fields_none c.lists.spec-fields (c.lists.spec-count ∙ z) in
         let o : fields_after c.lists ≡ accepted own = ap (λ x. check_fields x (fields_limited before above) own) f ∙ check_fields-end own (fields_limited before above) in
@@ -456,10 +451,7 @@ module _ {s : List ℕ} {moves : Bool} {t : List ℕ} {steps : Bool} {others abo
 
 -- ---- the plan
 
-module _ {s : List ℕ} {i : ℕ} {t : List ℕ} {j o a : ℕ} (w : Pair s i t j o a) (plan : Plan) (planned : Planned w plan) where
-  pub plan_refuse : {n : ℕ} → plan ≡ Refuse n → scalar_after w ≡ refused n 0
-  plan_refuse e = rw e at planned
-
+module _ {s : List ℕ} {i : ℕ} {t : List ℕ} {j o a : ℕ} (w : Pair s i t j o a) {plan : Plan} (planned : Planned w (Ok plan)) where
   pub plan_keep : plan ≡ Keep → scalar_after w ≡ accepted w.type-scalar
   plan_keep e = rw e at planned
 

@@ -2,15 +2,19 @@
 use Prim.Native.Nat.{ℕ, suc, ◌+◌, ◌-◌, ◌*◌, ◌≤◌}
 use native.Mathlib.Omega.{arith}
 use mathlib.Core.List.{List, [], ◌++◌}
-use mathlib.Core.Path.{◌≡◌, refl, sym, ◌∙◌, ap}
+use mathlib.Core.Path.{◌≡◌, refl, sym, ◌∙◌, ap, subst}
 use lib.ListN.{length, take}
+use Rattle.std.specs.Prelude.{Ok, Err}
 use Rattle.model.specs.Limits.{max_types, max_depth, max_bytes}
+use Rattle.model.specs.Within.{ShapeWithin}
 use Rattle.model.specs.Types.{Shape, Scalar, Ty, ty, shape_of, inside}
 use Rattle.format.specs.Reader.{Bytes}
 use Rattle.format.specs.Records.{write_shape, write_scalar, write_ty}
-use Rattle.format.specs.Suffices.{shape_bytes, box_bytes}
+use Rattle.format.specs.Suffices.{shape_bytes, box_bytes, shape-suffices}
 use Rattle.format.specs.Outcome.{Outcome, accepted, refused, mapped, both, lone}
 use Rattle.lent.specs.Over.{over}
+use Rattle.limits.specs.Answers.{number_of}
+use Rattle.limits.specs.declared.refusal.Reason.{Reason}
 use Rattle.record.specs.Answers.{nothings, shape_for}
 use Rattle.record.specs.declared.DynShape.{DynShape}
 use Rattle.record.proofs.LoneLaws.{both-accepted}
@@ -24,9 +28,8 @@ use Rattle.validation.proofs.CheckScalarSteps.{validate-limited, check_scalar_on
 use Rattle.known.specs.Known.{TypeAt}
 use Rattle.known.proofs.WholeLaws.{type-there}
 use Rattle.validate.specs.Plans.{Pair, scalar_after, shape_after, type_after}
-use Rattle.validate.specs.Walk.{type_bytes, piece, validated_of, scalar_piece, type_piece, TypeDone, ScalarDone, Roomy}
-use Rattle.validate.specs.declared.Validated.{Validated}
-use Rattle.validate.specs.declared.Validated.TheVariants.{Done, Refused}
+use Rattle.validate.specs.Walk.{type_bytes, piece, scalar_piece, type_piece, TypeDone, ScalarDone}
+use Rattle.validate.specs.declared.Extent.{Extent}
 use Rattle.validate.proofs.WalkLaws.{laid-behind, scalar-few}
 
 -- ---- two lone types
@@ -60,17 +63,17 @@ lones s t small little e =
 
 -- ---- `validate`
 
-module _ (u : Outcome Ty) {r : Validated} (out : List ℕ) (wrote : validated_of r out ≡ mapped (type_piece []) u) where
-  type-written : {e n : ℕ} → r ≡ Done e n → mapped write_ty u ≡ accepted (take e out)
+module _ (u : Outcome Ty) (out : List ℕ) where
+  type-written : (x : Extent) → accepted (piece (take x.end out) x.types) ≡ mapped (type_piece []) u → mapped write_ty u ≡ accepted (take x.end out)
   unfolding write_ty
-  type-written {e} {n} d = go u (sym (ap (λ w. validated_of w out) d) ∙ wrote)
+  type-written x wrote = go u wrote
     where
-      go : (u : Outcome Ty) → accepted (piece (take e out) n) ≡ mapped (type_piece []) u → mapped write_ty u ≡ accepted (take e out)
-      go (accepted (ty v x)) q = let b : take e out ≡ write_shape v ++ write_scalar x = cc in ap accepted (sym b)
+      go : (u : Outcome Ty) → accepted (piece (take x.end out) x.types) ≡ mapped (type_piece []) u → mapped write_ty u ≡ accepted (take x.end out)
+      go (accepted (ty v k)) q = let b : take x.end out ≡ write_shape v ++ write_scalar k = cc in ap accepted (sym b)
       go (refused k p) q = let z : ◌≡◌ {A = ℕ} 0 1 = cc in absurd (omega arith)
 
-  type-not : {m : ℕ} → r ≡ Refused m → mapped write_ty u ≡ refused m 0
-  type-not {m} d = go u (sym (ap (λ w. validated_of w out) d) ∙ wrote)
+  type-not : {m : ℕ} → refused m 0 ≡ mapped (type_piece []) u → mapped write_ty u ≡ refused m 0
+  type-not {m} wrote = go u wrote
     where
       go : (u : Outcome Ty) → refused m 0 ≡ mapped (type_piece []) u → mapped write_ty u ≡ refused m 0
       go (accepted (ty v x)) q = let z : ◌≡◌ {A = ℕ} 0 1 = cc in absurd (omega arith)
@@ -97,40 +100,38 @@ module _ {s t : List ℕ} (v : Lones s t) (side : Side) where
   validated : validation ≡ mapped write_ty (type_after side v.pair)
   validated = rw (v.first, v.second) (ap (mapped write_ty) (validate-limited side v.pair.spec-shape v.pair.type-shape v.pair.spec-scalar v.pair.type-scalar))
 
-  module _ (r : Validated) (before out : List ℕ) (done : TypeDone side v.pair 0 before r out) where
-    pub validate-done : {e n : ℕ} → r ≡ Done e n → validation ≡ accepted (take e out)
-    validate-done d = validated ∙ type-written (type_after side v.pair) out done.0 d
+  module _ (before out : List ℕ) where
+    pub validate-done : {x : Extent} → TypeDone side v.pair 0 before (Ok x) out → validation ≡ accepted (take x.end out)
+    validate-done {x} done = validated ∙ type-written (type_after side v.pair) out x done.0
 
-    pub validate-not : {m : ℕ} → r ≡ Refused m → validation ≡ refused m 0
-    validate-not d = validated ∙ type-not (type_after side v.pair) out done.0 d
+    pub validate-not : (r : Reason) → TypeDone side v.pair 0 before (Err r) out → validation ≡ refused (number_of r) 0
+    validate-not r done = validated ∙ type-not (type_after side v.pair) out done.0
 
-    pub validate-ends : {e n : ℕ} → r ≡ Done e n → e ≤ max_bytes
-    validate-ends {e} {n} d =
-        let few = type-few v.pair (shape_after side v.pair) out [] e (sym (ap (λ w. validated_of w out) d) ∙ done.0) in
-        let room : Roomy (Done e n) 0 = rw d at done.1 in
-        omega (arith, few, room)
+    pub validate-ends : {x : Extent} → TypeDone side v.pair 0 before (Ok x) out → x.end ≤ max_bytes
+    validate-ends {x} done =
+        let few = type-few v.pair (shape_after side v.pair) out [] x.end done.0 in
+        omega (arith, few, done.1)
 
 -- ---- `check_scalar`, behind a shape that was laid at the front
 
-module _ (q : Shape) (before : List ℕ) (b : before ≡ write_shape q) (x : Outcome Scalar) {r : Validated} (out : List ℕ) (wrote : validated_of r out ≡ mapped (scalar_piece before) x) where
-  scalar-written : {e n : ℕ} → r ≡ Done e n → mapped write_ty (mapped (ty q) x) ≡ accepted (take e out)
+module _ (q : Shape) (before : List ℕ) (b : before ≡ write_shape q) (x : Outcome Scalar) (out : List ℕ) where
+  scalar-written : (y : Extent) → accepted (piece (take y.end out) y.types) ≡ mapped (scalar_piece before) x → mapped write_ty (mapped (ty q) x) ≡ accepted (take y.end out)
   unfolding write_ty
-  scalar-written {e} {n} d = go x (sym (ap (λ w. validated_of w out) d) ∙ wrote)
+  scalar-written y wrote = go x wrote
     where
-      go : (x : Outcome Scalar) → accepted (piece (take e out) n) ≡ mapped (scalar_piece before) x → mapped write_ty (mapped (ty q) x) ≡ accepted (take e out)
-      go (accepted y) c = let l : take e out ≡ before ++ write_scalar y = cc in ap accepted (sym (l ∙ ap (λ w. w ++ write_scalar y) b))
+      go : (x : Outcome Scalar) → accepted (piece (take y.end out) y.types) ≡ mapped (scalar_piece before) x → mapped write_ty (mapped (ty q) x) ≡ accepted (take y.end out)
+      go (accepted k) c = let l : take y.end out ≡ before ++ write_scalar k = cc in ap accepted (sym (l ∙ ap (λ w. w ++ write_scalar k) b))
       go (refused k p) c = let z : ◌≡◌ {A = ℕ} 0 1 = cc in absurd (omega arith)
 
-  scalar-not : {m : ℕ} → r ≡ Refused m → mapped write_ty (mapped (ty q) x) ≡ refused m 0
-  scalar-not {m} d = go x (sym (ap (λ w. validated_of w out) d) ∙ wrote)
+  scalar-not : {m : ℕ} → refused m 0 ≡ mapped (scalar_piece before) x → mapped write_ty (mapped (ty q) x) ≡ refused m 0
+  scalar-not {m} wrote = go x wrote
     where
       go : (x : Outcome Scalar) → refused m 0 ≡ mapped (scalar_piece before) x → mapped write_ty (mapped (ty q) x) ≡ refused m 0
       go (accepted y) c = let z : ◌≡◌ {A = ℕ} 0 1 = cc in absurd (omega arith)
       go (refused k p) c = let a : k ≡ m = cc in let b : p ≡ 0 = cc in rw (a, b)
 
--- the type's shape o, of n bytes, was laid at the front of d, which gave d'
-module _ {s t : List ℕ} (v : Lones s t) (o : DynShape) (shaped : (d : ℕ) (u : Ty) → TypeAt t 0 d u → shape_for o ≡ shape_of u) {n : ℕ} (long : n ≡ length (write_shape (shape_for o)))
-    (short : n ≤ shape_bytes) (d d' : List ℕ) (full : length d ≡ max_bytes) (laid : d' ≡ over d 0 (write_shape (shape_for o))) where
+-- the type's shape o was laid at the front, up to n, which gave d
+module _ {s t : List ℕ} (v : Lones s t) (o : DynShape) (shaped : (d : ℕ) (u : Ty) → TypeAt t 0 d u → shape_for o ≡ shape_of u) where
   -- what the call comes to
   abbrev pub scalar_check : Outcome (List ℕ)
   scalar_check = both (λ a b. mapped write_ty (check_scalar_only a b)) (lone s) (lone t)
@@ -138,24 +139,34 @@ module _ {s t : List ℕ} (v : Lones s t) (o : DynShape) (shaped : (d : ℕ) (u 
   abbrev q : Shape
   q = v.pair.type-shape
 
-  pub front-room : length d' ≡ length d → n + box_bytes + type_bytes * (max_types - 1 - 0) ≤ length d'
-  front-room e = omega (arith, short)
+  shape-is : shape_for o ≡ q
+  shape-is = shaped max_depth (ty q v.pair.type-scalar) v.pair.type-there
 
-  scalar-checked : scalar_check ≡ mapped write_ty (mapped (ty q) (scalar_after v.pair))
-  scalar-checked = rw (v.first, v.second) (ap (mapped write_ty) (check_scalar_only-limited v.pair.spec-shape q v.pair.spec-scalar v.pair.type-scalar))
+  short : length (write_shape (shape_for o)) ≤ shape_bytes
+  short = shape-suffices (shape_for o) (subst ShapeWithin (sym shape-is) v.pair.type-there.records.0)
 
-  front : take n d' ≡ write_shape q
-  front = laid-behind d (write_shape (shape_for o)) 0 {end = n} (omega (arith, long)) (omega (arith, short)) laid ∙ ap write_shape (shaped max_depth (ty q v.pair.type-scalar) v.pair.type-there)
+  pub shape-fits : 0 + length (write_shape (shape_for o)) ≤ max_bytes
+  shape-fits = omega (arith, short)
 
-  module _ (r : Validated) (out : List ℕ) (done : ScalarDone v.pair n d' r out) where
-    pub check_done : {e m : ℕ} → r ≡ Done e m → scalar_check ≡ accepted (take e out)
-    check_done e = scalar-checked ∙ scalar-written q (take n d') front (scalar_after v.pair) out done.0 e
+  module _ {n : ℕ} (begins : n ≡ 0 + length (write_shape (shape_for o))) (d : List ℕ) where
+    pub front-room : length d ≡ max_bytes → n + box_bytes + type_bytes * (max_types - 1 - 0) ≤ length d
+    front-room e = omega (arith, short)
 
-    pub check_not : {m : ℕ} → r ≡ Refused m → scalar_check ≡ refused m 0
-    check_not e = scalar-checked ∙ scalar-not q (take n d') front (scalar_after v.pair) out done.0 e
+    scalar-checked : scalar_check ≡ mapped write_ty (mapped (ty q) (scalar_after v.pair))
+    scalar-checked = rw (v.first, v.second) (ap (mapped write_ty) (check_scalar_only-limited v.pair.spec-shape q v.pair.spec-scalar v.pair.type-scalar))
 
-    pub check_ends : {e m : ℕ} → r ≡ Done e m → e ≤ max_bytes
-    check_ends {e} {m} d =
-        let few = scalar-few v.pair n d' out r d done in
-        let room : Roomy (Done e m) (n + box_bytes) = rw d at done.1 in
-        omega (arith, short, few, room)
+    module _ (out : List ℕ) where
+      module _ (before : List ℕ) (full : length before ≡ max_bytes) (laid : d ≡ over before 0 (write_shape (shape_for o))) where
+        front : take n d ≡ write_shape q
+        front = laid-behind before (write_shape (shape_for o)) 0 begins (omega (arith, short)) laid ∙ ap write_shape shape-is
+
+        pub check_done : {x : Extent} → ScalarDone v.pair n d (Ok x) out → scalar_check ≡ accepted (take x.end out)
+        check_done {x} done = scalar-checked ∙ scalar-written q (take n d) front (scalar_after v.pair) out x done.0
+
+        pub check_not : (r : Reason) → ScalarDone v.pair n d (Err r) out → scalar_check ≡ refused (number_of r) 0
+        check_not r done = scalar-checked ∙ scalar-not q (take n d) front (scalar_after v.pair) out done.0
+
+      pub check_ends : {x : Extent} → ScalarDone v.pair n d (Ok x) out → x.end ≤ max_bytes
+      check_ends {x} done =
+          let few = scalar-few v.pair n d out x done in
+          omega (arith, short, few, done.1)

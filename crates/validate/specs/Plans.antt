@@ -1,5 +1,5 @@
 -- What a spec's scalar asks of a type's, where both stand at their places.
-use Rattle.std.specs.Prelude.{ℕ, ◌+◌, ◌-◌, ◌≤◌, Bool, true, false, cond, List, [], ◌∷◌, ◌≡◌}
+use Rattle.std.specs.Prelude.{ℕ, ◌+◌, ◌-◌, ◌≤◌, Bool, true, false, cond, List, [], ◌∷◌, ◌≡◌, Result, Ok, Err}
 use Rattle.std.proofs.Math.Option.{Option, some}
 use Rattle.model.specs.Limits.{max_fields, max_depth}
 use Rattle.model.specs.Refusals.{wrong_scalar}
@@ -15,7 +15,9 @@ use Rattle.known.specs.declared.View.{View}
 use Rattle.validate.specs.Lists.{ListAt}
 use Rattle.validate.specs.declared.Items.{Items}
 use Rattle.validate.specs.declared.Plan.{Plan}
-use Rattle.validate.specs.declared.Plan.TheVariants.{Refuse, Keep, Take, Inside, Pairs}
+use Rattle.validate.specs.declared.Plan.TheVariants.{Keep, Take, Inside, Pairs}
+use Rattle.limits.specs.Answers.{number_of}
+use Rattle.limits.specs.declared.refusal.Reason.{Reason}
 
 -- ---- a spec and a type
 
@@ -75,14 +77,14 @@ module _ (s t : List ℕ) (o a : ℕ) (outcome : Outcome Scalar) (k l : Scalar) 
     pub is : outcome ≡ mapped (box_def label) (fields_after inner)
 
   -- A plan for the outcome of the spec's scalar k on the type's scalar l.
-  abbrev pub Plans : Plan → Type 0
-  Plans (Refuse n) = outcome ≡ refused n 0
-  Plans Keep = outcome ≡ accepted l
-  Plans Take = outcome ≡ accepted k
-  Plans (Inside c d) = InsideIs c d
-  Plans (Pairs wanted own fresh name borrowed) = PairsAre wanted own fresh name borrowed
+  abbrev pub Plans : Result Plan Reason → Type 0
+  Plans (Err r) = outcome ≡ refused (number_of r) 0
+  Plans (Ok Keep) = outcome ≡ accepted l
+  Plans (Ok Take) = outcome ≡ accepted k
+  Plans (Ok (Inside c d)) = InsideIs c d
+  Plans (Ok (Pairs wanted own fresh name borrowed)) = PairsAre wanted own fresh name borrowed
 
-abbrev pub Planned : {s : List ℕ} {i : ℕ} {t : List ℕ} {j o a : ℕ} → Pair s i t j o a → Plan → Type 0
+abbrev pub Planned : {s : List ℕ} {i : ℕ} {t : List ℕ} {j o a : ℕ} → Pair s i t j o a → Result Plan Reason → Type 0
 Planned {s} {i} {t} {j} {o} {a} w p = Plans s t o a (scalar_after w) w.spec-scalar w.type-scalar p
 
 -- ---- what is known when a plan is made
@@ -139,24 +141,24 @@ module _ {s : List ℕ} {i : ℕ} {t : List ℕ} {j o a : ℕ} (w : Pair s i t j
     pub high : deep ≡ depth copy
 
 -- A plan where the spec must be a superset, and one where the spec's scalar, of the type at i, is taken.
-abbrev pub PlannedKeep : Bool → Plan → Type 0
+abbrev pub PlannedKeep : Bool → Result Plan Reason → Type 0
 PlannedKeep over r = (s t : List ℕ) (o a : ℕ) (x : Outcome Scalar) (k l : Scalar) → x ≡ cond over (accepted l) (refused wrong_scalar 0) → Plans s t o a x k l r
 
-abbrev pub PlannedTake : List ℕ → ℕ → ℕ → ℕ → Plan → Type 0
+abbrev pub PlannedTake : List ℕ → ℕ → ℕ → ℕ → Result Plan Reason → Type 0
 PlannedTake s i o a r =
     (t : List ℕ) (x : Outcome Scalar) (u : Ty) (l : Scalar) → TypeAt s i max_depth u → x ≡ measured (limited o a) (scalar_of u) → Plans s t o a x (scalar_of u) l r
 
 -- A plan for whatever pair is so known.
-abbrev pub PlannedAll : List ℕ → ℕ → ℕ → View → ℕ → ℕ → Plan → Type 0
+abbrev pub PlannedAll : List ℕ → ℕ → ℕ → View → ℕ → ℕ → Result Plan Reason → Type 0
 PlannedAll s i content v o a r = (t : List ℕ) (j : ℕ) (w : Pair s i t j o a) → AllAgainst w content v → Planned w r
 
-abbrev pub PlannedDef : List ℕ → ℕ → ℕ → Bool → ℕ → ℕ → View → ℕ → ℕ → Plan → Type 0
+abbrev pub PlannedDef : List ℕ → ℕ → ℕ → Bool → ℕ → ℕ → View → ℕ → ℕ → Result Plan Reason → Type 0
 PlannedDef s i name has fields limit v o a r = (t : List ℕ) (j : ℕ) (w : Pair s i t j o a) → DefAgainst w name has fields limit v → Planned w r
 
-abbrev pub PlannedCopies : ℕ → ℕ → ℕ → ℕ → Bool → ℕ → ℕ → ℕ → ℕ → ℕ → Plan → Type 0
+abbrev pub PlannedCopies : ℕ → ℕ → ℕ → ℕ → Bool → ℕ → ℕ → ℕ → ℕ → ℕ → Result Plan Reason → Type 0
 PlannedCopies n many deep other fresh name fields limit o a r =
     (s t : List ℕ) (i j : ℕ) (w : Pair s i t j o a) → Copying w n many deep other fresh name fields limit → Planned w r
 
-abbrev pub PlannedNamed : ℕ → ℕ → ℕ → Shape → List ℕ → View → ℕ → ℕ → Plan → Type 0
+abbrev pub PlannedNamed : ℕ → ℕ → ℕ → Shape → List ℕ → View → ℕ → ℕ → Result Plan Reason → Type 0
 PlannedNamed name fields limit p t v o a r =
     (s : List ℕ) (i j : ℕ) (w : Pair s i t j o a) → p ≡ w.type-shape → DefAgainst w name true fields limit v → Planned w r

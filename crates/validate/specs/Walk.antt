@@ -1,5 +1,5 @@
 -- What a walk writes: the bytes up to an end, behind those that stood there before, and how many types they are.
-use Rattle.std.specs.Prelude.{ℕ, suc, ◌+◌, ◌*◌, ◌≤◌, Bool, List, [], ◌∷◌, ◌++◌, ◌≡◌, length, take}
+use Rattle.std.specs.Prelude.{ℕ, suc, ◌+◌, ◌*◌, ◌≤◌, Bool, List, [], ◌∷◌, ◌++◌, ◌≡◌, length, take, Result, Ok, Err}
 use Rattle.std.proofs.Math.Option.{Option}
 use Rattle.model.specs.Limits.{max_types, max_depth}
 use Rattle.model.specs.Types.{Scalar, Fields, Ty, ty, field_count, inside, among, types, scalar_of}
@@ -13,8 +13,8 @@ use Rattle.validate.specs.Lists.{ListAt}
 use Rattle.validate.specs.Plans.{Pair, scalar_after, type_after, TwoLists, fields_after}
 use Rattle.validate.specs.declared.Extent.{Extent}
 use Rattle.validate.specs.declared.Items.{Items}
-use Rattle.validate.specs.declared.Validated.{Validated}
-use Rattle.validate.specs.declared.Validated.TheVariants.{Done, Refused}
+use Rattle.limits.specs.Answers.{number_of}
+use Rattle.limits.specs.declared.refusal.Reason.{Reason}
 
 -- A type's own records, without those of the types that it holds: its shape's, and a box's head.
 abbrev pub type_bytes : ℕ
@@ -36,23 +36,23 @@ fields_piece before n f = piece (before ++ write_fields f) (n + among f)
 -- ---- what is answered
 
 -- An answer, with the bytes of the buffer before its end; a refusal is at place 0 and says nothing of the buffer.
-abbrev pub validated_of : Validated → List ℕ → Outcome Piece
-validated_of (Done end types) out = accepted (piece (take end out) types)
-validated_of (Refused k) out = refused k 0
+abbrev pub validated_of : Result Extent Reason → List ℕ → Outcome Piece
+validated_of (Ok x) out = accepted (piece (take x.end out) x.types)
+validated_of (Err r) out = refused (number_of r) 0
 
 -- It ends where its types had room.
-abbrev pub Roomy : Validated → ℕ → Type 0
-Roomy (Done end types) limit = end ≤ limit + type_bytes * types
-Roomy (Refused k) limit = Unit {0}
+abbrev pub Roomy : Result Extent Reason → ℕ → Type 0
+Roomy (Ok x) limit = x.end ≤ limit + type_bytes * x.types
+Roomy (Err r) limit = Unit {0}
 
 -- A pair of types, of their scalars and of two lists, validated to a buffer from `to` on.
-abbrev pub TypeDone : Side → {s : List ℕ} {i : ℕ} {t : List ℕ} {j o a : ℕ} → Pair s i t j o a → ℕ → List ℕ → Validated → List ℕ → Type 0
+abbrev pub TypeDone : Side → {s : List ℕ} {i : ℕ} {t : List ℕ} {j o a : ℕ} → Pair s i t j o a → ℕ → List ℕ → Result Extent Reason → List ℕ → Type 0
 TypeDone side w to before r after = (validated_of r after ≡ mapped (type_piece (take to before)) (type_after side w)) × Roomy r to
 
-abbrev pub ScalarDone : {s : List ℕ} {i : ℕ} {t : List ℕ} {j o a : ℕ} → Pair s i t j o a → ℕ → List ℕ → Validated → List ℕ → Type 0
+abbrev pub ScalarDone : {s : List ℕ} {i : ℕ} {t : List ℕ} {j o a : ℕ} → Pair s i t j o a → ℕ → List ℕ → Result Extent Reason → List ℕ → Type 0
 ScalarDone w to before r after = (validated_of r after ≡ mapped (scalar_piece (take to before)) (scalar_after w)) × Roomy r (to + box_bytes)
 
-abbrev pub FieldsDone : {s : List ℕ} {x : Items} {t : List ℕ} {y : Items} {o a : ℕ} → TwoLists s x t y o a → ℕ → List ℕ → Validated → List ℕ → Type 0
+abbrev pub FieldsDone : {s : List ℕ} {x : Items} {t : List ℕ} {y : Items} {o a : ℕ} → TwoLists s x t y o a → ℕ → List ℕ → Result Extent Reason → List ℕ → Type 0
 FieldsDone w to before r after = (validated_of r after ≡ mapped (fields_piece (take to before) 0) (fields_after w)) × Roomy r to
 
 -- What a copy came to.

@@ -13,33 +13,31 @@ use known::{scalar_at, span_at};
 use lent::lay;
 
 // The scalar of the type at `at`.
+#[tactic(auto, using(crate::proofs::CopyLaws::scalar_fits))]
 pub fn copy_scalar(s: &[u8], at: usize, out: &mut [u8], to: usize) -> Extent
     requires { Copyable s.now at to (length out.old) }
     ensures { (t : Ty) → TypeAt s.now at max_depth t → CopyIs result out.new (scalar_piece (take to out.old) (scalar_of t)) (to + box_bytes) }
 {
     let start = scalar_at(s, at);
     let span = span_at(s, at);
-    let end = span.end;
-    let types = span.types;
-    lay(&s[start..end], &mut *out, to);
+    lay(&s[start..span.end], &mut *out, to);
     Extent {
-        end: to + (end - start),
-        types: types - 1,
+        end: to + (span.end - start),
+        types: span.types - 1,
     }
 }
 
 // The type at `at`.
+#[tactic(auto, using(crate::proofs::CopyLaws::type_fits))]
 pub fn copy_type(s: &[u8], at: usize, out: &mut [u8], to: usize) -> Extent
     requires { Placeable s.now at to (length out.old) }
     ensures { (t : Ty) → TypeAt s.now at max_depth t → CopyIs result out.new (type_piece (take to out.old) t) to }
 {
     let span = span_at(s, at);
-    let end = span.end;
-    let types = span.types;
-    lay(&s[at..end], &mut *out, to);
+    lay(&s[at..span.end], &mut *out, to);
     Extent {
-        end: to + (end - at),
-        types,
+        end: to + (span.end - at),
+        types: span.types,
     }
 }
 
@@ -57,14 +55,12 @@ pub fn copy_fields(
 {
     let mut at = start;
     let mut end = to;
-    let mut types = 0u64;
-    let mut left = count;
-    while 0 < left {
-        let w = copy_type(s, at, &mut *out, end);
+    let mut types = 0;
+    for _ in 0..count {
+        let copied = copy_type(s, at, &mut *out, end);
         at = next_type(s, at, moves);
-        end = w.end;
-        types += w.types;
-        left -= 1;
+        end = copied.end;
+        types += copied.types;
     }
     Extent { end, types }
 }

@@ -2,26 +2,26 @@
 // contents, unsided. The spec's type stands at i and the type's at j; of the outermost type, `others` types stand elsewhere and `above`
 // around this one. What the type then is goes to a buffer from `to` on; a refusal says nothing of the buffer. The merged shape is
 // written first, since its length is needed, though a clash of shapes is answered only after one of scalars.
-ghost use Rattle.std.specs.Prelude.{◌≡◌, ◌+◌, ◌-◌, ◌*◌, ◌≤◌, length};
+ghost use Rattle.std.specs.Prelude.{◌+◌, ◌-◌, ◌*◌, ◌≤◌, length};
 ghost use Rattle.format.specs.Suffices.{box_bytes};
 ghost use Rattle.model.specs.Limits.{max_types};
 ghost use Rattle.validate.specs.Answers.{side_of};
 ghost use Rattle.validate.specs.Plans.{Pair, TwoLists};
 ghost use Rattle.validate.specs.Walk.{type_bytes, TypeDone, ScalarDone, FieldsDone};
-ghost use Rattle.validate.specs.declared.Validated.TheVariants.{Done};
 
 use crate::copies::{copy_fields, copy_scalar};
 use crate::heads::put_name;
 use crate::lists::{next_place, next_type, types_in};
 use crate::plans::plan_scalar;
 use crate::shapes::check_shapes;
-use crate::{Clash, Extent, Items, Plan, Side, Validated};
+use crate::{Extent, Items, Plan, Side};
 use known::{shape_at, span_at};
-use limits::BOX_ALL;
+use limits::Form;
 use limits::records::ANY_TYPE;
-use writer::{put_box, put_shape, shape_length};
+use limits::refusal::Reason;
+use writer::{put_box, put_shape};
 
-#[cycle(check_fields_check_scalar_at_check_type)]
+#[cycle(checking)]
 pub fn check_type(
     side: Side,
     spec: &[u8],
@@ -32,29 +32,22 @@ pub fn check_type(
     above: u64,
     out: &mut [u8],
     to: usize,
-) -> Validated
+) -> Result<Extent, Reason>
     requires { Pair spec.now i ty.now j others above × (to + type_bytes * (max_types - others) ≤ length out.old) }
     ensures { (w : Pair spec.now i ty.now j others above) → TypeDone (side_of side) w to out.old result out.new }
 {
-    let checked = check_shapes(side, shape_at(spec, i), shape_at(ty, j));
-    let shape = checked.shape;
-    let n = shape_length(shape);
-    put_shape(&mut *out, to, shape);
-    let w = check_scalar_at(spec, i, ty, j, others, above, &mut *out, to + n);
-    let Validated::Done { end, types } = w else {
-        return w;
-    };
-    let clash = checked.clash;
-    match clash {
-        Clash::Clear => Validated::Done {
-            end,
-            types: types + 1,
-        },
-        Clash::Numbered { number } => Validated::Refused { number },
-    }
+    let own = shape_at(ty, j);
+    let checked = check_shapes(side, shape_at(spec, i), own);
+    let start = put_shape(&mut *out, to, checked.unwrap_or(own));
+    let scalar = check_scalar_at(spec, i, ty, j, others, above, &mut *out, start)?;
+    checked?;
+    Ok(Extent {
+        end: scalar.end,
+        types: scalar.types + 1,
+    })
 }
 
-#[cycle(check_fields_check_scalar_at_check_type)]
+#[cycle(checking)]
 pub fn check_scalar_at(
     spec: &[u8],
     i: usize,
@@ -64,17 +57,15 @@ pub fn check_scalar_at(
     above: u64,
     out: &mut [u8],
     to: usize,
-) -> Validated
+) -> Result<Extent, Reason>
     requires { Pair spec.now i ty.now j others above × (to + box_bytes + type_bytes * (max_types - 1 - others) ≤ length out.old) }
     ensures { (w : Pair spec.now i ty.now j others above) → ScalarDone w to out.old result out.new }
 {
-    let plan = plan_scalar(spec, i, ty, j, others, above);
-    match plan {
-        Plan::Refuse { number } => Validated::Refused { number },
-        Plan::Keep => done(copy_scalar(ty, j, &mut *out, to)),
-        Plan::Take => done(copy_scalar(spec, i, &mut *out, to)),
+    match plan_scalar(spec, i, ty, j, others, above)? {
+        Plan::Keep => Ok(copy_scalar(ty, j, &mut *out, to)),
+        Plan::Take => Ok(copy_scalar(spec, i, &mut *out, to)),
         Plan::Inside { content, other } => {
-            let inner = put_box(&mut *out, to, BOX_ALL);
+            let inner = put_box(&mut *out, to, Form::All);
             check_type(
                 Side::Unsided,
                 spec,
@@ -121,18 +112,8 @@ pub fn check_scalar_at(
     }
 }
 
-// What was copied is not refused.
-fn done(x: Extent) -> Validated
-    ensures { result ≡ Done x.end x.types }
-{
-    Validated::Done {
-        end: x.end,
-        types: x.types,
-    }
-}
-
 // Two lists of fields, pair by pair as far as both go; what is left of the type's stays.
-#[cycle(check_fields_check_scalar_at_check_type)]
+#[cycle(checking)]
 fn check_fields(
     spec: &[u8],
     wanted: Items,
@@ -142,7 +123,7 @@ fn check_fields(
     above: u64,
     out: &mut [u8],
     to: usize,
-) -> Validated
+) -> Result<Extent, Reason>
     requires { TwoLists spec.now wanted source.now own others above × (to + type_bytes * (max_types - others) ≤ length out.old) }
     ensures { (w : TwoLists spec.now wanted source.now own others above) → FieldsDone w to out.old result out.new }
 {
@@ -151,18 +132,16 @@ fn check_fields(
     let mut end = to;
     let mut before = others;
     let mut rest = types_in(source, own.at, own.count, own.moves);
-    let mut left = own.count;
-    let mut todo = wanted.count;
-    while 0 < todo {
-        if left == 0 {
-            return Validated::Done {
+    for k in 0..wanted.count {
+        if k == own.count {
+            return Ok(Extent {
                 end,
                 types: before - others,
-            };
+            });
         }
         let span = span_at(source, j);
         rest -= span.types;
-        let w = check_type(
+        let field = check_type(
             Side::Unsided,
             spec,
             i,
@@ -172,20 +151,16 @@ fn check_fields(
             above,
             &mut *out,
             end,
-        );
-        let Validated::Done { end: e, types } = w else {
-            return w;
-        };
+        )?;
         i = next_type(spec, i, wanted.moves);
         j = next_place(j, span.end, own.moves);
-        end = e;
-        before += types;
-        left -= 1;
-        todo -= 1;
+        end = field.end;
+        before += field.types;
     }
+    let left = own.count - wanted.count;
     let tail = copy_fields(source, j, left, own.moves, &mut *out, end);
-    Validated::Done {
+    Ok(Extent {
         end: tail.end,
         types: before - others + tail.types,
-    }
+    })
 }

@@ -7,17 +7,17 @@ ghost use Rattle.validate.specs.Walk.{def_head, HeadIs};
 
 use known::name_at;
 use lent::lay;
-use limits::BOX_DEF;
+use limits::Form;
 use writer::put_box;
 
 // Its box, the name that stands at `name`, and the count of its fields.
+#[tactic(auto, using(crate::proofs::HeadLaws::title_fits))]
 pub fn put_def(s: &[u8], name: usize, count: u8, out: &mut [u8], to: usize) -> usize
     requires { HasName s.now name × (to + box_bytes ≤ length out.old) }
     ensures { (label : Option (List ℕ)) → NameAt s.now name label → HeadIs to (def_head label count) out.old result out.new }
 {
-    let title = name_at(s, name);
-    let end = title.end;
-    let start = put_box(&mut *out, to, BOX_DEF);
+    let end = name_at(s, name).end;
+    let start = put_box(&mut *out, to, Form::Def);
     lay(&s[name..end], &mut *out, start);
     let last = start + (end - name);
     out[last] = count;

@@ -12,12 +12,16 @@ mod plain;
 mod plans;
 mod shapes;
 
+ghost use Rattle.validate.specs.Refuses.{MisreadAs, NotReading};
+
 pub use calls::{check_scalar, check_shape, validate, validate_known};
+use limits::refusal::Refusal;
 pub use plain::validate_plain;
-use record::DynShape;
+use record::Misread;
+use std::convert::From;
 
 // The side that a validation is for, or none.
-#[derive(Clone, Copy)]
+#[derive(Clone, Copy, Debug, PartialEq, Eq)]
 pub enum Side {
     Unsided,
     Left,
@@ -25,36 +29,48 @@ pub enum Side {
 }
 
 // The input that was being read, or neither.
-#[derive(Clone, Copy)]
+#[derive(Clone, Copy, Debug, PartialEq, Eq)]
 pub enum Input {
     Spec,
     CheckedType,
     Neither,
 }
 
-// How many bytes a separate validation wrote to its result; or its refusal, with the input that was being read.
-#[derive(Clone, Copy)]
-pub enum Separate {
-    Wrote(usize),
-    Refused {
-        number: u8,
-        place: usize,
-        reading: Input,
-    },
+// The refusal of a validation, and the input that was being read.
+#[derive(Clone, Copy, Debug, PartialEq, Eq)]
+pub struct Unvalidated {
+    pub refusal: Refusal,
+    pub reading: Input,
 }
 
-// Whether a spec's shape clashes with a type's, and the number of the refusal if it does.
-#[derive(Clone, Copy)]
-enum Clash {
-    Clear,
-    Numbered { number: u8 },
+// Of the two inputs the spec is the first.
+impl From<Misread> for Unvalidated {
+    ghost from_gives = { MisreadAs };
+
+    fn from(read: Misread) -> Unvalidated {
+        match read {
+            Misread::First(refusal) => Unvalidated {
+                refusal,
+                reading: Input::Spec,
+            },
+            Misread::Second(refusal) => Unvalidated {
+                refusal,
+                reading: Input::CheckedType,
+            },
+        }
+    }
 }
 
-// The same, and the shape that the type has if it does not, in front, so that its sizes stand aligned.
-#[derive(Clone, Copy)]
-struct ShapeChecked {
-    pub shape: DynShape,
-    pub clash: Clash,
+// What a rule refuses when neither is being read any more.
+impl From<Refusal> for Unvalidated {
+    ghost from_gives = { NotReading };
+
+    fn from(refusal: Refusal) -> Unvalidated {
+        Unvalidated {
+            refusal,
+            reading: Input::Neither,
+        }
+    }
 }
 
 // A list of types: where it stands, how many they are, and whether they stand one after the other or all at that place.
@@ -65,13 +81,10 @@ struct Items {
     pub moves: bool,
 }
 
-// What a spec's scalar asks of a type's: a refusal; the type's scalar as it is; the spec's; the contents of two All boxes, at
+// What a spec's scalar makes of a type's: the type's scalar as it is; the spec's; the contents of two All boxes, at
 // their places; or a Def whose fields are those of two lists, pair by pair as far as both go.
 #[derive(Clone, Copy)]
 enum Plan {
-    Refuse {
-        number: u8,
-    },
     Keep,
     Take,
     Inside {
@@ -94,11 +107,4 @@ enum Plan {
 struct Extent {
     pub end: usize,
     pub types: u64,
-}
-
-// The same, or the number of a refusal.
-#[derive(Clone, Copy)]
-enum Validated {
-    Done { end: usize, types: u64 },
-    Refused { number: u8 },
 }

@@ -19,11 +19,7 @@ pub fn next_type(s: &[u8], at: usize, moves: bool) -> usize
     requires { HasType s.now at max_depth }
     ensures { (t : Ty) → TypeAt s.now at max_depth t → result ≡ next_place moves at t }
 {
-    if !moves {
-        return at;
-    }
-    let span = span_at(s, at);
-    span.end
+    if moves { span_at(s, at).end } else { at }
 }
 
 // How many types a list of as many is.
@@ -32,13 +28,11 @@ pub fn types_in(s: &[u8], start: usize, count: u64, moves: bool) -> u64
     ensures { (f : Fields) → ListAt moves s.now start f → field_count f ≡ count → result ≡ among f }
 {
     let mut at = start;
-    let mut types = 0u64;
-    let mut left = count;
-    while 0 < left {
+    let mut types = 0;
+    for _ in 0..count {
         let span = span_at(s, at);
         types += span.types;
         at = next_place(at, span.end, moves);
-        left -= 1;
     }
     types
 }

@@ -3,6 +3,7 @@ ghost use Rattle.std.specs.Prelude.{◌≡◌, true, false, List, ℕ, ◌+◌, 
 ghost use Rattle.model.specs.Limits.{max_types, max_depth};
 ghost use Rattle.model.specs.Types.{Shape, Scalar, Ty, ty, scalar_of};
 ghost use Rattle.record.specs.Answers.{shape_for};
+ghost use Rattle.limits.specs.Codes.{code_for};
 ghost use Rattle.rules.specs.Order.{code_of};
 ghost use Rattle.rules.specs.Shapes.{is_any};
 ghost use Rattle.rules.specs.Types.{wholly_any};
@@ -10,30 +11,29 @@ ghost use Rattle.validation.specs.AsFields.{fields_for};
 ghost use Rattle.validation.specs.MeasureLaws.{limited};
 ghost use Rattle.known.specs.Known.{TypeAt, HasType};
 ghost use Rattle.validate.specs.Plans.{Viewed, HasView, SomeView, Pair, Planned, PlannedKeep, PlannedTake, PlannedAll, PlannedDef, PlannedCopies, PlannedNamed};
-ghost use Rattle.validate.specs.declared.Plan.TheVariants.{Pairs};
 
 use crate::{Items, Plan};
-use kind_table::superset_codes;
+use kind_table::superset;
 use known::{View, any_shape_at, look, scalar_at, shape_at, span_at};
-use limits::refusal::{TOO_MANY, WRONG_SCALAR};
-use limits::{ANY, BOX, MAX_DEPTH, MAX_FIELDS, MAX_TYPES, UNKNOWN};
+use limits::refusal::Reason;
+use limits::{Kind, MAX_DEPTH, MAX_FIELDS, MAX_TYPES, UNKNOWN};
 use record::DynShape;
 use writer::size_count;
 
-// The code of a scalar.
-fn code_of(v: View) -> u64
-    ensures { (s : List ℕ) (k : Scalar) → Viewed s k v → result ≡ code_of k }
+// The kind of a scalar.
+fn kind_of(v: View) -> Kind
+    ensures { (s : List ℕ) (k : Scalar) → Viewed s k v → code_for result ≡ code_of k }
 {
     match v {
-        View::Plain { code, end: _ } => code,
-        View::BoxAny { end: _ } => BOX,
-        View::BoxAll { content: _ } => BOX,
+        View::Plain { kind, end: _ } => kind,
+        View::BoxAny { end: _ } => Kind::Box,
+        View::BoxAll { content: _ } => Kind::Box,
         View::BoxDef {
             name: _,
             named: _,
             fields: _,
             count: _,
-        } => BOX,
+        } => Kind::Box,
     }
 }
 
@@ -41,10 +41,7 @@ fn code_of(v: View) -> u64
 fn wholly_any(any: bool, v: View) -> bool
     ensures { (s : List ℕ) (p : Shape) (k : Scalar) → any ≡ is_any p → Viewed s k v → result ≡ wholly_any (ty p k) }
 {
-    if !any {
-        return false;
-    }
-    code_of(v) == ANY
+    any && kind_of(v) == Kind::Any
 }
 
 // Whether the scalar of the type at `at` keeps to the limits where `others` types stand elsewhere and `above` types around it.
@@ -53,75 +50,58 @@ fn limited_at(s: &[u8], at: usize, others: u64, above: u64) -> bool
     ensures { (t : Ty) → TypeAt s.now at max_depth t → result ≡ limited others above (scalar_of t) }
 {
     let span = span_at(s, at);
-    if MAX_TYPES < others + span.types {
-        return false;
-    }
-    above + span.depth <= MAX_DEPTH
+    others + span.types <= MAX_TYPES && above + span.depth <= MAX_DEPTH
 }
 
 // The type keeps its scalar if the spec is a superset.
-fn keep_if(over: bool) -> Plan
+fn keep_if(over: bool) -> Result<Plan, Reason>
     ensures { PlannedKeep over result }
 {
     if over {
-        return Plan::Keep;
+        return Ok(Plan::Keep);
     }
-    Plan::Refuse {
-        number: WRONG_SCALAR,
-    }
+    Err(Reason::WrongScalar)
 }
 
 // The spec's scalar is taken if the whole keeps to the limits with it.
-fn take_if(spec: &[u8], i: usize, others: u64, above: u64) -> Plan
+fn take_if(spec: &[u8], i: usize, others: u64, above: u64) -> Result<Plan, Reason>
     requires { HasType spec.now i max_depth × (others ≤ max_types) × (above ≤ max_depth) }
     ensures { PlannedTake spec.now i others above result }
 {
     if limited_at(spec, i, others, above) {
-        return Plan::Take;
+        return Ok(Plan::Take);
     }
-    Plan::Refuse { number: TOO_MANY }
+    Err(Reason::TooMany)
 }
 
 // The number of fields: the spec's, or the static size of a closed shape of one.
+#[tactic(auto, using(crate::proofs::PlanLaws::fields_open, crate::proofs::PlanLaws::fields_many, crate::proofs::PlanLaws::fields_unknown, crate::proofs::PlanLaws::fields_one))]
 fn fields_for(t: DynShape, n: u64) -> u64
     ensures { result ≡ fields_for (shape_for t) n }
 {
-    if !t.closed {
+    if !t.closed || size_count(t.dims) != 1 {
         return n;
     }
-    let dims = t.dims;
-    if size_count(dims) != 1 {
-        return n;
-    }
-    let size = dims.sizes[0];
-    if size == UNKNOWN {
-        return n;
-    }
-    size
-}
-
-// The fields of two lists, pair by pair.
-fn pair_up(wanted: Items, own: Items, fresh: bool, name: usize, borrowed: bool) -> Plan
-    ensures { result ≡ Pairs wanted own fresh name borrowed }
-{
-    Plan::Pairs {
-        wanted,
-        own,
-        fresh,
-        name,
-        borrowed,
-    }
+    let size = t.dims.sizes[0];
+    if size == UNKNOWN { n } else { size }
 }
 
 // An All spec, whose content stands at `content`.
-fn plan_all(spec: &[u8], i: usize, content: usize, v: View, others: u64, above: u64) -> Plan
+fn plan_all(
+    spec: &[u8],
+    i: usize,
+    content: usize,
+    v: View,
+    others: u64,
+    above: u64,
+) -> Result<Plan, Reason>
     requires { SomeView v × HasType spec.now i max_depth × (others ≤ max_types) × (above ≤ max_depth) }
     ensures { PlannedAll spec.now i content v others above result }
 {
     match v {
-        View::Plain { code, end: _ } => keep_if(superset_codes(BOX, code)),
+        View::Plain { kind, end: _ } => keep_if(superset(Kind::Box, kind)),
         View::BoxAny { end: _ } => take_if(spec, i, others, above),
-        View::BoxAll { content: other } => Plan::Inside { content, other },
+        View::BoxAll { content: other } => Ok(Plan::Inside { content, other }),
         View::BoxDef {
             name,
             named: _,
@@ -138,7 +118,13 @@ fn plan_all(spec: &[u8], i: usize, content: usize, v: View, others: u64, above: 
                 count,
                 moves: true,
             };
-            pair_up(wanted, own, false, name, false)
+            Ok(Plan::Pairs {
+                wanted,
+                own,
+                fresh: false,
+                name,
+                borrowed: false,
+            })
         }
     }
 }
@@ -153,14 +139,14 @@ fn plan_unnamed(
     v: View,
     others: u64,
     above: u64,
-) -> Plan
+) -> Result<Plan, Reason>
     requires { SomeView v × HasType spec.now i max_depth × (others ≤ max_types) × (above ≤ max_depth) }
     ensures { PlannedDef spec.now i name false fields limit v others above result }
 {
     match v {
-        View::Plain { code, end: _ } => keep_if(superset_codes(BOX, code)),
+        View::Plain { kind, end: _ } => keep_if(superset(Kind::Box, kind)),
         View::BoxAny { end: _ } => take_if(spec, i, others, above),
-        View::BoxAll { content: _ } => Plan::Keep,
+        View::BoxAll { content: _ } => Ok(Plan::Keep),
         View::BoxDef {
             name: title,
             named: _,
@@ -177,7 +163,13 @@ fn plan_unnamed(
                 count,
                 moves: true,
             };
-            pair_up(wanted, own, false, title, false)
+            Ok(Plan::Pairs {
+                wanted,
+                own,
+                fresh: false,
+                name: title,
+                borrowed: false,
+            })
         }
     }
 }
@@ -194,20 +186,15 @@ fn plan_copies(
     limit: u64,
     others: u64,
     above: u64,
-) -> Plan
+) -> Result<Plan, Reason>
     requires { (others ≤ max_types) × (above ≤ max_depth) × (many ≤ max_types) × (deep ≤ max_depth) }
     ensures { PlannedCopies n many deep other fresh name fields limit others above result }
 {
-    if MAX_FIELDS < n {
-        return Plan::Refuse { number: TOO_MANY };
+    if MAX_FIELDS < n || MAX_TYPES < others + 1 + n * many {
+        return Err(Reason::TooMany);
     }
-    if MAX_TYPES < others + 1 + n * many {
-        return Plan::Refuse { number: TOO_MANY };
-    }
-    if 0 < n {
-        if MAX_DEPTH < above + 1 + deep {
-            return Plan::Refuse { number: TOO_MANY };
-        }
+    if 0 < n && MAX_DEPTH < above + 1 + deep {
+        return Err(Reason::TooMany);
     }
     let wanted = Items {
         at: fields,
@@ -219,7 +206,13 @@ fn plan_copies(
         count: n,
         moves: false,
     };
-    pair_up(wanted, own, fresh, name, true)
+    Ok(Plan::Pairs {
+        wanted,
+        own,
+        fresh,
+        name,
+        borrowed: true,
+    })
 }
 
 // A Def spec with a name, which runs `as_mut_fields` on the type, of which the shape t and the view v are known.
@@ -232,17 +225,17 @@ fn plan_named(
     v: View,
     others: u64,
     above: u64,
-) -> Plan
+) -> Result<Plan, Reason>
     requires { HasView ty.now v × (others ≤ max_types) × (above ≤ max_depth) }
     ensures { PlannedNamed name fields limit (shape_for t) ty.now v others above result }
 {
     let n = fields_for(t, limit);
     match v {
-        View::Plain { code, end: _ } => {
-            if code == ANY {
+        View::Plain { kind, end: _ } => {
+            if kind == Kind::Any {
                 return plan_copies(n, 1, 1, 0, true, name, fields, limit, others, above);
             }
-            keep_if(superset_codes(BOX, code))
+            keep_if(superset(Kind::Box, kind))
         }
         View::BoxAny { end: _ } => {
             plan_copies(n, 1, 1, 0, true, name, fields, limit, others, above)
@@ -270,15 +263,34 @@ fn plan_named(
                 moves: true,
             };
             if named {
-                return pair_up(wanted, own, false, title, false);
+                return Ok(Plan::Pairs {
+                    wanted,
+                    own,
+                    fresh: false,
+                    name: title,
+                    borrowed: false,
+                });
             }
-            pair_up(wanted, own, false, name, true)
+            Ok(Plan::Pairs {
+                wanted,
+                own,
+                fresh: false,
+                name,
+                borrowed: true,
+            })
         }
     }
 }
 
 // What a spec's scalar asks of a type's.
-pub fn plan_scalar(spec: &[u8], i: usize, ty: &[u8], j: usize, others: u64, above: u64) -> Plan
+pub fn plan_scalar(
+    spec: &[u8],
+    i: usize,
+    ty: &[u8],
+    j: usize,
+    others: u64,
+    above: u64,
+) -> Result<Plan, Reason>
     requires { Pair spec.now i ty.now j others above }
     ensures { (w : Pair spec.now i ty.now j others above) → Planned w result }
 {
@@ -288,8 +300,8 @@ pub fn plan_scalar(spec: &[u8], i: usize, ty: &[u8], j: usize, others: u64, abov
         return take_if(spec, i, others, above);
     }
     match a {
-        View::Plain { code, end: _ } => keep_if(superset_codes(code, code_of(b))),
-        View::BoxAny { end: _ } => keep_if(superset_codes(BOX, code_of(b))),
+        View::Plain { kind, end: _ } => keep_if(superset(kind, kind_of(b))),
+        View::BoxAny { end: _ } => keep_if(superset(Kind::Box, kind_of(b))),
         View::BoxAll { content } => plan_all(spec, i, content, b, others, above),
         View::BoxDef {
             name,

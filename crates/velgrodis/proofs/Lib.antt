@@ -1,3 +1,3 @@
 -- Laws that the proofs cite.
-mod CodeLaws
-mod SizeLaws
+pub mod CodeLaws
+pub mod SizeLaws

@@ -4,3 +4,4 @@ pub mod ReadBack
 pub mod Codes
 pub mod Chosen
 pub mod Examples
+pub mod Crossing

@@ -3,40 +3,37 @@ ghost use Rattle.std.specs.Prelude.{map, ◌≡◌};
 ghost use Rattle.format.specs.Records.{dim_number};
 ghost use Rattle.format.specs.Outcome.{accepted, deliver};
 ghost use Rattle.record.specs.Answers.{dims_of};
-ghost use Rattle.val.specs.Answers.{dims_answered};
-ghost use Rattle.velgrodis.specs.Answers.{handed, written, listed, deliver_sizes};
+ghost use Rattle.lent.specs.Written.{delivered};
+ghost use Rattle.val.specs.Answers.{maybe_dims};
+ghost use Rattle.velgrodis.specs.Answers.{handed, listed, deliver_sizes};
 
 use crate::Answer;
-use crate::answers::{give, nothing, refuse};
-use limits::refusal::TOO_SHORT;
+use crate::answers::Crosses;
+use limits::refusal::{Reason, Refusal};
 use record::Dims;
-use val::{DimsAnswer, MaybeDims};
 use writer::size_count;
 
-pub fn of_dims(d: DimsAnswer, sizes: &mut [u64]) -> Answer
-    ensures { handed result sizes.new ≡ listed (deliver_sizes (dims_answered d) sizes.old) }
+// None needs no room.
+#[tactic(auto, unfolding(crate::specs::Answers::deliver_sizes))]
+pub fn cross_dims(answer: Result<Option<Dims>, Refusal>, sizes: &mut [u64]) -> Answer
+    ensures { handed result sizes.new ≡ listed (deliver_sizes (maybe_dims answer) sizes.old) }
 {
-    let answer = d.answer;
-    let dims = d.dims;
     match answer {
-        MaybeDims::Sizes => lay_sizes(dims, &mut *sizes),
-        MaybeDims::Nothing => nothing(),
-        MaybeDims::Refused { number, place } => refuse(number, place),
+        Ok(Some(dims)) => lay_sizes(dims, &mut *sizes).cross(),
+        Ok(None) => None::<usize>.cross(),
+        Err(refusal) => refusal.cross(),
     }
 }
 
-// Sizes, all ones for unknown, to the front of what is lent for them.
-fn lay_sizes(dims: Dims, sizes: &mut [u64]) -> Answer
-    ensures { handed result sizes.new ≡ written (deliver (accepted (map dim_number (dims_of dims))) sizes.old) }
+// Sizes, all ones for unknown, to the front of what is lent for them. Answers how many they are.
+#[tactic(auto, using(crate::proofs::SizeLaws::sizes))]
+fn lay_sizes(dims: Dims, sizes: &mut [u64]) -> Result<usize, Refusal>
+    ensures { delivered result sizes.new ≡ deliver (accepted (map dim_number (dims_of dims))) sizes.old }
 {
     let n = size_count(dims);
     if sizes.len() < n {
-        return refuse(TOO_SHORT, 0);
+        return Err(Refusal(Reason::TooShort, 0));
     }
-    let mut i = 0;
-    while i < n {
-        sizes[i] = dims.sizes[i];
-        i += 1;
-    }
-    give(n as u64, 0)
+    sizes[..n].copy_from_slice(&dims.sizes[..n]);
+    Ok(n)
 }

@@ -7,53 +7,43 @@ ghost use Rattle.velgrodis.specs.Codes.{side_for, sided};
 ghost use Rattle.velgrodis.specs.Chosen.{side_chosen};
 
 use crate::Validation;
-use crate::answers::{of_separate, reading_neither, refuse};
-use limits::refusal::OUT_OF_RANGE;
+use crate::answers::{Crosses, cross_validation, reading_neither};
+use limits::refusal::{Reason, Refusal};
 use validate::Side;
-
-// The side that a number stands for, if it stands for one.
-#[derive(Clone, Copy)]
-pub enum Sided {
-    For(Side),
-    Unsaid,
-}
 
 // Side 0 is none, 1 left, 2 right.
 pub fn vg_validate(side: u64, spec: &[u8], ty: &[u8], res: &mut [u8]) -> Validation
     ensures { validation_handed result res.new ≡ validation_of (sided validate side spec.now ty.now res.old) }
 {
-    let Sided::For(s) = choose_side(side) else {
-        return reading_neither(refuse(OUT_OF_RANGE, 0));
+    let Some(side) = choose_side(side) else {
+        return reading_neither(Refusal(Reason::OutOfRange, 0).cross());
     };
-    of_separate(validate::validate(s, spec, ty, &mut *res))
+    cross_validation(validate::validate(side, spec, ty, &mut *res))
 }
 
 pub fn vg_check_shape(side: u64, spec: &[u8], ty: &[u8], res: &mut [u8]) -> Validation
     ensures { validation_handed result res.new ≡ validation_of (sided check_shape_only side spec.now ty.now res.old) }
 {
-    let Sided::For(s) = choose_side(side) else {
-        return reading_neither(refuse(OUT_OF_RANGE, 0));
+    let Some(side) = choose_side(side) else {
+        return reading_neither(Refusal(Reason::OutOfRange, 0).cross());
     };
-    of_separate(validate::check_shape(s, spec, ty, &mut *res))
+    cross_validation(validate::check_shape(side, spec, ty, &mut *res))
 }
 
 pub fn vg_check_scalar(spec: &[u8], ty: &[u8], res: &mut [u8]) -> Validation
     ensures { validation_handed result res.new ≡ validation_of (separately check_scalar_only spec.now ty.now res.old) }
 {
-    of_separate(validate::check_scalar(spec, ty, &mut *res))
+    cross_validation(validate::check_scalar(spec, ty, &mut *res))
 }
 
-fn choose_side(n: u64) -> Sided
+// The side that a number stands for, if it stands for one.
+fn choose_side(n: u64) -> Option<Side>
     ensures { side_chosen result ≡ side_for n }
 {
-    if n == 0 {
-        return Sided::For(Side::Unsided);
+    match n {
+        0 => Some(Side::Unsided),
+        1 => Some(Side::Left),
+        2 => Some(Side::Right),
+        _ => None,
     }
-    if n == 1 {
-        return Sided::For(Side::Left);
-    }
-    if n == 2 {
-        return Sided::For(Side::Right);
-    }
-    Sided::Unsaid
 }

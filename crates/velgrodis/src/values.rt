@@ -1,77 +1,76 @@
 // Calls on values handed in. The number `kind` says which of those lent is the value: 0 the number x, 1 the list, 2 the type.
-ghost use Rattle.std.specs.Prelude.{List, ◌≡◌, ℕ, Float};
+ghost use Rattle.std.specs.Prelude.{◌≡◌};
 ghost use Rattle.format.specs.Records.{write_scalar, write_ty};
 ghost use Rattle.format.specs.Outcome.{accepted, deliver, mapped, bound};
 ghost use Rattle.val.specs.Values.{value_ty, value_spec, nums_scalar, value_scalar, value_row_count, value_rank, value_as_dim, value_as_dims, value_row, value_first_row, value_last_row, deliver_row};
 ghost use Rattle.velgrodis.specs.Answers.{handed, written, listed, counted, sized, sized_or_none, row_handed, rowed, deliver_sizes};
 ghost use Rattle.velgrodis.specs.Codes.{handed_in};
-ghost use Rattle.velgrodis.specs.Chosen.{value_chosen};
+ghost use Rattle.velgrodis.specs.Chosen.{ValueFor};
 
 use crate::Answer;
-use crate::answers::{of_count, of_dim, of_row, of_size, of_written, refuse};
-use crate::lists::of_dims;
-use limits::refusal::OUT_OF_RANGE;
+use crate::answers::{Crosses, cross_row};
+use crate::lists::cross_dims;
+use limits::refusal::{Reason, Refusal};
 use val::Value;
 
-// The value that a number stands for, if it stands for one.
-#[derive(Clone, Copy)]
-pub enum Chosen {
-    Is(Value),
-    Unsaid,
-}
-
+#[tactic(auto, using(crate::proofs::CodeLaws::unsaid_laws))]
 pub fn vg_val_ty(kind: u64, x: f64, list: &[f64], ty: &[u8], res: &mut [u8]) -> Answer
     ensures { handed result res.new ≡ written (deliver (mapped write_ty (bound value_ty (handed_in kind x list.now ty.now))) res.old) }
 {
-    let Chosen::Is(v) = choose_value(kind, x) else {
-        return refuse(OUT_OF_RANGE, 0);
+    let Some(v) = choose_value(kind, x) else {
+        return Refusal(Reason::OutOfRange, 0).cross();
     };
-    of_written(val::ty(v, list, ty, &mut *res))
+    val::ty(v, list, ty, &mut *res).cross()
 }
 
+#[tactic(auto, using(crate::proofs::CodeLaws::unsaid_laws))]
 pub fn vg_val_spec(kind: u64, x: f64, list: &[f64], ty: &[u8], res: &mut [u8]) -> Answer
     ensures { handed result res.new ≡ written (deliver (mapped write_ty (bound value_spec (handed_in kind x list.now ty.now))) res.old) }
 {
-    let Chosen::Is(v) = choose_value(kind, x) else {
-        return refuse(OUT_OF_RANGE, 0);
+    let Some(v) = choose_value(kind, x) else {
+        return Refusal(Reason::OutOfRange, 0).cross();
     };
-    of_written(val::spec(v, list, ty, &mut *res))
+    val::spec(v, list, ty, &mut *res).cross()
 }
 
+#[tactic(auto, using(crate::proofs::CodeLaws::unsaid_laws))]
 pub fn vg_val_scalar(kind: u64, x: f64, list: &[f64], ty: &[u8], res: &mut [u8]) -> Answer
     ensures { handed result res.new ≡ written (deliver (mapped write_scalar (mapped value_scalar (handed_in kind x list.now ty.now))) res.old) }
 {
-    let Chosen::Is(v) = choose_value(kind, x) else {
-        return refuse(OUT_OF_RANGE, 0);
+    let Some(v) = choose_value(kind, x) else {
+        return Refusal(Reason::OutOfRange, 0).cross();
     };
-    of_written(val::scalar(v, list, ty, &mut *res))
+    val::scalar(v, list, ty, &mut *res).cross()
 }
 
 pub fn vg_nums_scalar(list: &[f64], res: &mut [u8]) -> Answer
     ensures { handed result res.new ≡ written (deliver (accepted (write_scalar (nums_scalar list.now))) res.old) }
 {
-    of_written(val::nums_scalar(list, &mut *res))
+    val::nums_scalar(list, &mut *res).cross()
 }
 
+#[tactic(auto, using(crate::proofs::CodeLaws::past_three))]
 pub fn vg_val_row_count(kind: u64, x: f64, list: &[f64], ty: &[u8]) -> Answer
     ensures { result ≡ sized (bound value_row_count (handed_in kind x list.now ty.now)) }
 {
-    let Chosen::Is(v) = choose_value(kind, x) else {
-        return refuse(OUT_OF_RANGE, 0);
+    let Some(v) = choose_value(kind, x) else {
+        return Refusal(Reason::OutOfRange, 0).cross();
     };
-    of_size(val::row_count(v, list, ty))
+    val::row_count(v, list, ty).cross()
 }
 
+#[tactic(auto, using(crate::proofs::CodeLaws::past_three))]
 pub fn vg_val_rank(kind: u64, x: f64, list: &[f64], ty: &[u8]) -> Answer
     ensures { result ≡ counted (mapped value_rank (handed_in kind x list.now ty.now)) }
 {
-    let Chosen::Is(v) = choose_value(kind, x) else {
-        return refuse(OUT_OF_RANGE, 0);
+    let Some(v) = choose_value(kind, x) else {
+        return Refusal(Reason::OutOfRange, 0).cross();
     };
-    of_count(val::rank(v, list, ty))
+    val::rank(v, list, ty).cross()
 }
 
 // A row that is a number goes to `number`, one that is a type to the result.
+#[tactic(auto, using(crate::proofs::CodeLaws::unsaid_laws))]
 pub fn vg_val_row(
     kind: u64,
     x: f64,
@@ -82,12 +81,13 @@ pub fn vg_val_row(
 ) -> Answer
     ensures { row_handed result number.new res.new ≡ rowed number.old (deliver_row (mapped value_row (handed_in kind x list.now ty.now)) res.old) }
 {
-    let Chosen::Is(v) = choose_value(kind, x) else {
-        return refuse(OUT_OF_RANGE, 0);
+    let Some(v) = choose_value(kind, x) else {
+        return Refusal(Reason::OutOfRange, 0).cross();
     };
-    of_row(val::into_row(v, list, ty, &mut *res), &mut *number)
+    cross_row(val::into_row(v, list, ty, &mut *res), &mut *number)
 }
 
+#[tactic(auto, using(crate::proofs::CodeLaws::unsaid_laws))]
 pub fn vg_val_first_row(
     kind: u64,
     x: f64,
@@ -98,12 +98,13 @@ pub fn vg_val_first_row(
 ) -> Answer
     ensures { row_handed result number.new res.new ≡ rowed number.old (deliver_row (mapped value_first_row (handed_in kind x list.now ty.now)) res.old) }
 {
-    let Chosen::Is(v) = choose_value(kind, x) else {
-        return refuse(OUT_OF_RANGE, 0);
+    let Some(v) = choose_value(kind, x) else {
+        return Refusal(Reason::OutOfRange, 0).cross();
     };
-    of_row(val::into_first_row(v, list, ty, &mut *res), &mut *number)
+    cross_row(val::into_first_row(v, list, ty, &mut *res), &mut *number)
 }
 
+#[tactic(auto, using(crate::proofs::CodeLaws::unsaid_laws))]
 pub fn vg_val_last_row(
     kind: u64,
     x: f64,
@@ -114,43 +115,42 @@ pub fn vg_val_last_row(
 ) -> Answer
     ensures { row_handed result number.new res.new ≡ rowed number.old (deliver_row (mapped value_last_row (handed_in kind x list.now ty.now)) res.old) }
 {
-    let Chosen::Is(v) = choose_value(kind, x) else {
-        return refuse(OUT_OF_RANGE, 0);
+    let Some(v) = choose_value(kind, x) else {
+        return Refusal(Reason::OutOfRange, 0).cross();
     };
-    of_row(val::into_last_row(v, list, ty, &mut *res), &mut *number)
+    cross_row(val::into_last_row(v, list, ty, &mut *res), &mut *number)
 }
 
 // The size that a number stands for, all ones for unknown; none for what is no number.
+#[tactic(auto, using(crate::proofs::CodeLaws::past_three))]
 pub fn vg_as_dim(kind: u64, x: f64, list: &[f64], ty: &[u8]) -> Answer
     ensures { result ≡ sized_or_none (bound value_as_dim (handed_in kind x list.now ty.now)) }
 {
-    let Chosen::Is(v) = choose_value(kind, x) else {
-        return refuse(OUT_OF_RANGE, 0);
+    let Some(v) = choose_value(kind, x) else {
+        return Refusal(Reason::OutOfRange, 0).cross();
     };
-    of_dim(val::as_dim(v, list, ty))
+    val::as_dim(v, list, ty).cross()
 }
 
 // The sizes that a list stands for go to `sizes`; none for what is no list.
+#[tactic(auto, using(crate::proofs::CodeLaws::unsaid_laws))]
 pub fn vg_as_dims(kind: u64, x: f64, list: &[f64], ty: &[u8], sizes: &mut [u64]) -> Answer
     ensures { handed result sizes.new ≡ listed (deliver_sizes (bound value_as_dims (handed_in kind x list.now ty.now)) sizes.old) }
 {
-    let Chosen::Is(v) = choose_value(kind, x) else {
-        return refuse(OUT_OF_RANGE, 0);
+    let Some(v) = choose_value(kind, x) else {
+        return Refusal(Reason::OutOfRange, 0).cross();
     };
-    of_dims(val::as_dims(v, list, ty), &mut *sizes)
+    cross_dims(val::as_dims(v, list, ty), &mut *sizes)
 }
 
-fn choose_value(kind: u64, x: f64) -> Chosen
-    ensures { (list : List Float) (bytes : List ℕ) → value_chosen result list bytes ≡ handed_in kind x list bytes }
+// The value that a number stands for, if it stands for one.
+fn choose_value(kind: u64, x: f64) -> Option<Value>
+    ensures { ValueFor result kind x }
 {
-    if kind == 0 {
-        return Chosen::Is(Value::Num(x));
+    match kind {
+        0 => Some(Value::Num(x)),
+        1 => Some(Value::List),
+        2 => Some(Value::Of),
+        _ => None,
     }
-    if kind == 1 {
-        return Chosen::Is(Value::List);
-    }
-    if kind == 2 {
-        return Chosen::Is(Value::Of);
-    }
-    Chosen::Unsaid
 }

@@ -5,7 +5,7 @@ use native.Mathlib.Numerals.{add-one, unary_clauses}
 use mathlib.Core.List.{List, [], ◌∷◌, ◌++◌, map, append_assoc, append-nil}
 use mathlib.Core.Path.{◌≡◌, refl, sym, ◌∙◌, ap}
 use lib.ListN.{length, get_or, set, take, length-map, length-take, get_or-map}
-use lib.Seq.{sets, sets-eq, take-suc, take_all, get_or-take, length-take-le, paste-zero}
+use lib.Seq.{sets, sets-eq, take-suc, take_all, get_or-take, length-take-le}
 use Rattle.format.specs.Suffices.{length-write_dims}
 use Rattle.model.specs.Types.{Dim}
 use Rattle.format.specs.Reader.{bytes_of}
@@ -18,8 +18,8 @@ module _ (out : List ℕ) (at a b c d e f g h : ℕ) where
   abbrev stored : List ℕ
   stored = set (set (set (set (set (set (set (set out at a) (at + 1) b) (at + 2) c) (at + 3) d) (at + 4) e) (at + 5) f) (at + 6) g) (at + 7) h
 
-  pub eight-stores : at + 8 ≤ length out → stored ≡ over out at (a ∷ b ∷ c ∷ d ∷ e ∷ f ∷ g ∷ h ∷ [])
-  eight-stores fits =
+  pub eight_stores : at + 8 ≤ length out → stored ≡ over out at (a ∷ b ∷ c ∷ d ∷ e ∷ f ∷ g ∷ h ∷ [])
+  eight_stores fits =
       let stores : stored ≡ sets out at (a ∷ b ∷ c ∷ d ∷ e ∷ f ∷ g ∷ h ∷ []) = simp unary_clauses in
       stores ∙ sets-eq (a ∷ b ∷ c ∷ d ∷ e ∷ f ∷ g ∷ h ∷ []) out at fits
 
@@ -48,11 +48,8 @@ module _ (out : List ℕ) (start : ℕ) (sizes : List ℕ) (count : ℕ) where
   length_some : (i : ℕ) → i ≤ length dims → length (write_dims (take i dims)) ≡ 8 * i
   length_some i h = length-write_dims (take i dims) ∙ ap (λ n. 8 * n) (length-take-le i dims h)
 
-  pub lay-none : Laid out 0
-  lay-none = paste-zero out start []
-
-  pub lay-more : {now : List ℕ} {i : ℕ} → i < length dims → start + 8 * length dims ≤ length out → Laid now i → Laid (over now (start + 8 * i) (bytes_of 8 (get_or sizes i 0))) (i + 1)
-  lay-more {now} {i} h fits laid =
+  pub lay_more : {now : List ℕ} {i : ℕ} → i < length dims → start + 8 * length dims ≤ length out → Laid now i → Laid (over now (start + 8 * i) (bytes_of 8 (get_or sizes i 0))) (i + 1)
+  lay_more {now} {i} h fits laid =
       let w : List ℕ = write_dims (take i dims) in
       let b : List ℕ = bytes_of 8 (get_or sizes i 0) in
       let l : length w ≡ 8 * i = length_some i (omega arith) in
@@ -63,8 +60,8 @@ module _ (out : List ℕ) (start : ℕ) (sizes : List ℕ) (count : ℕ) where
 
   -- past the last of them nothing more is written
   module _ (i : ℕ) {now : List ℕ} (past : length dims ≤ i) (laid : Laid now i) where
-    pub lay-all : now ≡ over out start (write_dims dims)
-    lay-all = laid ∙ ap (λ ds. over out start (write_dims ds)) (take_all i dims past)
+    pub lay_all : now ≡ over out start (write_dims dims)
+    lay_all = laid ∙ ap (λ ds. over out start (write_dims ds)) (take_all i dims past)
 
-    pub lay-past : Laid now (i + 1)
-    lay-past = lay-all ∙ sym (ap (λ ds. over out start (write_dims ds)) (take_all (i + 1) dims (omega arith)))
+    pub lay_past : Laid now (i + 1)
+    lay_past = lay_all ∙ sym (ap (λ ds. over out start (write_dims ds)) (take_all (i + 1) dims (omega arith)))

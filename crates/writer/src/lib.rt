@@ -1,28 +1,26 @@
-// Writing records: a shape by value, a plain scalar, the start of a box, and the shape and the scalar of a whole type. And a reading as the answer
-// of a call.
+// Writing records: a shape by value, a plain scalar, the start of a box, and the shape and the scalar of a whole type.
 #![tactic(auto)]
 
-mod readings;
-
-ghost use Rattle.std.specs.Prelude.{◌≡◌, [], ◌∷◌, ◌++◌, ◌+◌, ◌*◌, ◌≤◌, ◌<◌, length};
+ghost use Rattle.std.specs.Prelude.{◌≡◌, [], ◌∷◌, ◌++◌, ◌+◌, ◌*◌, ◌≤◌, length};
 ghost use Rattle.format.specs.Suffices.{shape_bytes};
 ghost use Rattle.model.specs.Limits.{max_sizes};
 ghost use Rattle.format.specs.Reader.{bytes_of};
 ghost use Rattle.format.specs.Records.{shape_mark, mark_bytes, box_start, count_of, write_dims, write_shape};
 ghost use Rattle.format.specs.Outcome.{accepted, deliver, mapped, lone, shape_record, scalar_record};
+ghost use Rattle.limits.specs.Codes.{code_for, form_code};
 ghost use Rattle.lent.specs.Over.{over};
 ghost use Rattle.lent.specs.Written.{delivered};
 ghost use Rattle.record.specs.Answers.{dims_of, closing_for, shape_for};
 ghost use Rattle.writer.specs.Kinds.{kind_record, closed_record};
 
 use known::{scalar_at, shape_at};
-use lent::{Written, hand_over};
-use limits::refusal::TOO_SHORT;
-use limits::{ABSENT, BOX, MAX_SIZES, marks};
-pub use readings::{as_counted, as_tested, as_written};
-use record::{Dims, DynShape, Lone, read_lone};
+use lent::hand_over;
+use limits::refusal::{Reason, Refusal};
+use limits::{ABSENT, Form, Kind, MAX_SIZES, marks};
+use record::{Dims, DynShape, read_lone};
 
 // Eight bytes, low byte first.
+#[tactic(auto, using(crate::proofs::Laws::eight_stores), unfolding(format::specs::Reader::bytes_of))]
 pub fn put_number(out: &mut [u8], at: usize, n: u64)
     requires { at + 8 ≤ length out.old }
     ensures { out.new ≡ over out.old at (bytes_of 8 n) }
@@ -48,38 +46,33 @@ pub fn put_number(out: &mut [u8], at: usize, n: u64)
 pub fn size_count(d: Dims) -> usize
     ensures { (result ≡ length (dims_of d)) × (result ≤ max_sizes) }
 {
-    let n = d.count;
-    if n < MAX_SIZES { n } else { MAX_SIZES }
+    d.count.min(MAX_SIZES)
 }
 
+#[tactic(auto, using(crate::proofs::Laws::lay_more, crate::proofs::Laws::lay_all))]
 fn put_dims(out: &mut [u8], start: usize, d: Dims) -> usize
     requires { start + 8 * length (dims_of d) ≤ length out.old }
     ensures { (result ≡ start + 8 * length (dims_of d)) × (out.new ≡ over out.old start (write_dims (dims_of d))) }
 {
     let n = size_count(d);
-    let mut at = start;
-    let mut i = 0;
-    while i < n {
-        put_number(&mut *out, at, d.sizes[i]);
-        at += 8;
-        i += 1;
+    for i in 0..n {
+        put_number(&mut *out, start + 8 * i, d.sizes[i]);
     }
-    at
+    start + 8 * n
 }
 
 // The same over all eight places, so that the compiler unrolls the loop: a list that was just made then goes from registers to the bytes, and
 // need not stand in memory. For one that comes within a shape, and stands there, the longer code is slower.
+#[tactic(auto, using(crate::proofs::Laws::lay_more, crate::proofs::Laws::lay_all, crate::proofs::Laws::lay_past))]
 fn put_places(out: &mut [u8], start: usize, d: Dims) -> usize
     requires { start + 8 * length (dims_of d) ≤ length out.old }
     ensures { (result ≡ start + 8 * length (dims_of d)) × (out.new ≡ over out.old start (write_dims (dims_of d))) }
 {
     let n = size_count(d);
-    let mut i = 0;
-    while i < MAX_SIZES {
+    for i in 0..MAX_SIZES {
         if i < n {
             put_number(&mut *out, start + 8 * i, d.sizes[i]);
         }
-        i += 1;
     }
     start + 8 * n
 }
@@ -96,6 +89,7 @@ fn closing_count(shape: DynShape) -> u8
 }
 
 // The length of a shape's record.
+#[tactic(auto, using(crate::proofs::Records::length_record))]
 pub fn shape_length(shape: DynShape) -> usize
     ensures { (result ≡ length (write_shape (shape_for shape))) × (result ≤ shape_bytes) }
 {
@@ -109,6 +103,7 @@ pub fn shape_length(shape: DynShape) -> usize
 }
 
 // A shape's mark and its counts, from `at` on.
+#[tactic(auto, using(crate::proofs::Records::four_stores))]
 pub fn put_head(out: &mut [u8], at: usize, opening: u8, closing: u8)
     requires { at + 4 ≤ length out.old }
     ensures { out.new ≡ over out.old at (mark_bytes shape_mark ++ (opening ∷ closing ∷ [])) }
@@ -120,6 +115,7 @@ pub fn put_head(out: &mut [u8], at: usize, opening: u8, closing: u8)
 }
 
 // A shape's record, from `at` on. Answers the place after it.
+#[tactic(auto, using(crate::proofs::Records::length_record, crate::proofs::Records::shape_closed, crate::proofs::Records::shape_open))]
 pub fn put_shape(out: &mut [u8], at: usize, shape: DynShape) -> usize
     requires { at + length (write_shape (shape_for shape)) ≤ length out.old }
     ensures { (result ≡ at + length (write_shape (shape_for shape))) × (out.new ≡ over out.old at (write_shape (shape_for shape))) }
@@ -138,21 +134,23 @@ pub fn put_shape(out: &mut [u8], at: usize, shape: DynShape) -> usize
 // Bytes of a plain scalar's record.
 const PLAIN_BYTES: usize = 3;
 
-// A plain scalar's record, by the code of its kind, from `at` on. Answers the place after it.
-pub fn put_plain(out: &mut [u8], at: usize, kind: u8) -> usize
+// A plain scalar's record, from `at` on. Answers the place after it.
+#[tactic(auto, using(crate::proofs::Records::three_stores))]
+pub fn put_plain(out: &mut [u8], at: usize, kind: Kind) -> usize
     requires { at + 3 ≤ length out.old }
-    ensures { (result ≡ at + 3) × (out.new ≡ over out.old at (kind_record kind)) }
+    ensures { (result ≡ at + 3) × (out.new ≡ over out.old at (kind_record (code_for kind))) }
 {
     out[at] = marks::SCALAR.first;
     out[at + 1] = marks::SCALAR.second;
-    out[at + 2] = kind;
+    out[at + 2] = kind.code();
     at + PLAIN_BYTES
 }
 
 // A type whose shape is closed and whose scalar is plain, from `at` on. Answers the place after it.
-pub fn put_closed(out: &mut [u8], at: usize, dims: Dims, kind: u8) -> usize
-    requires { at + length (closed_record (dims_of dims) kind) ≤ length out.old }
-    ensures { (result ≡ at + length (closed_record (dims_of dims) kind)) × (out.new ≡ over out.old at (closed_record (dims_of dims) kind)) }
+#[tactic(auto, using(crate::proofs::PlainLaws::length_closed, crate::proofs::PlainLaws::closed_type))]
+pub fn put_closed(out: &mut [u8], at: usize, dims: Dims, kind: Kind) -> usize
+    requires { at + length (closed_record (dims_of dims) (code_for kind)) ≤ length out.old }
+    ensures { (result ≡ at + length (closed_record (dims_of dims) (code_for kind))) × (out.new ≡ over out.old at (closed_record (dims_of dims) (code_for kind))) }
 {
     put_head(&mut *out, at, size_count(dims) as u8, ABSENT as u8);
     let next = put_places(&mut *out, at + 4, dims);
@@ -160,94 +158,80 @@ pub fn put_closed(out: &mut [u8], at: usize, dims: Dims, kind: u8) -> usize
 }
 
 // A box's record up to its form, from `at` on. Answers the place after it.
-pub fn put_box(out: &mut [u8], at: usize, form: u64) -> usize
-    requires { (at + length (box_start form) ≤ length out.old) × (form < 256) }
-    ensures { (result ≡ at + length (box_start form)) × (out.new ≡ over out.old at (box_start form)) }
+#[tactic(auto, using(crate::proofs::Records::six_stores))]
+pub fn put_box(out: &mut [u8], at: usize, form: Form) -> usize
+    requires { at + length (box_start (form_code form)) ≤ length out.old }
+    ensures { (result ≡ at + length (box_start (form_code form))) × (out.new ≡ over out.old at (box_start (form_code form))) }
 {
     out[at] = marks::SCALAR.first;
     out[at + 1] = marks::SCALAR.second;
-    out[at + 2] = BOX as u8;
+    out[at + 2] = Kind::Box.code();
     out[at + 3] = marks::BOX.first;
     out[at + 4] = marks::BOX.second;
-    out[at + 5] = form as u8;
+    out[at + 5] = form.code();
     at + 6
 }
 
 // A shape's record, to the front of the result.
-pub fn write_shape(shape: DynShape, res: &mut [u8]) -> Written
+#[tactic(auto, using(lent::specs::Delivers::deliver_bytes, lent::specs::Delivers::deliver_nothing))]
+pub fn write_shape(shape: DynShape, res: &mut [u8]) -> Result<usize, Refusal>
     ensures { delivered result res.new ≡ deliver (accepted (write_shape (shape_for shape))) res.old }
 {
-    let n = shape_length(shape);
-    if res.len() < n {
-        return Written::Refused {
-            number: TOO_SHORT,
-            place: 0,
-        };
+    if res.len() < shape_length(shape) {
+        return Err(Refusal(Reason::TooShort, 0));
     }
-    put_shape(&mut *res, 0, shape);
-    Written::Wrote(n)
+    Ok(put_shape(&mut *res, 0, shape))
 }
 
 // A plain scalar's record, to the front of the result.
-pub fn write_kind(kind: u8, res: &mut [u8]) -> Written
-    ensures { delivered result res.new ≡ deliver (accepted (kind_record kind)) res.old }
+#[tactic(auto, using(lent::specs::Delivers::deliver_bytes, lent::specs::Delivers::deliver_nothing))]
+pub fn write_kind(kind: Kind, res: &mut [u8]) -> Result<usize, Refusal>
+    ensures { delivered result res.new ≡ deliver (accepted (kind_record (code_for kind))) res.old }
 {
     if res.len() < PLAIN_BYTES {
-        return Written::Refused {
-            number: TOO_SHORT,
-            place: 0,
-        };
+        return Err(Refusal(Reason::TooShort, 0));
     }
-    Written::Wrote(put_plain(&mut *res, 0, kind))
+    Ok(put_plain(&mut *res, 0, kind))
 }
 
 // A type whose scalar is plain, to the front of the result.
-pub fn write_plain(shape: DynShape, kind: u8, res: &mut [u8]) -> Written
-    ensures { delivered result res.new ≡ deliver (accepted (write_shape (shape_for shape) ++ kind_record kind)) res.old }
+#[tactic(auto, using(lent::specs::Delivers::deliver_bytes, lent::specs::Delivers::deliver_nothing, crate::proofs::PlainLaws::length_plain, crate::proofs::PlainLaws::plain_type))]
+pub fn write_plain(shape: DynShape, kind: Kind, res: &mut [u8]) -> Result<usize, Refusal>
+    ensures { delivered result res.new ≡ deliver (accepted (write_shape (shape_for shape) ++ kind_record (code_for kind))) res.old }
 {
     let n = shape_length(shape);
     if res.len() < n + PLAIN_BYTES {
-        return Written::Refused {
-            number: TOO_SHORT,
-            place: 0,
-        };
+        return Err(Refusal(Reason::TooShort, 0));
     }
     put_shape(&mut *res, 0, shape);
-    Written::Wrote(put_plain(&mut *res, n, kind))
+    Ok(put_plain(&mut *res, n, kind))
 }
 
 // A type whose shape is closed and whose scalar is plain, to the front of the result: it is written at once, and no closing list is made for it.
-pub fn write_closed(dims: Dims, kind: u8, res: &mut [u8]) -> Written
-    ensures { delivered result res.new ≡ deliver (accepted (closed_record (dims_of dims) kind)) res.old }
+#[tactic(auto, using(lent::specs::Delivers::deliver_bytes, lent::specs::Delivers::deliver_nothing, crate::proofs::PlainLaws::length_closed))]
+pub fn write_closed(dims: Dims, kind: Kind, res: &mut [u8]) -> Result<usize, Refusal>
+    ensures { delivered result res.new ≡ deliver (accepted (closed_record (dims_of dims) (code_for kind))) res.old }
 {
     if res.len() < 4 + 8 * size_count(dims) + PLAIN_BYTES {
-        return Written::Refused {
-            number: TOO_SHORT,
-            place: 0,
-        };
+        return Err(Refusal(Reason::TooShort, 0));
     }
-    Written::Wrote(put_closed(&mut *res, 0, dims, kind))
+    Ok(put_closed(&mut *res, 0, dims, kind))
 }
 
 // The record of a type's shape.
-pub fn shape_record(ty: &[u8], res: &mut [u8]) -> Written
+#[tactic(auto, using(record::proofs::LoneLaws::delivered_reading))]
+pub fn shape_record(ty: &[u8], res: &mut [u8]) -> Result<usize, Refusal>
     ensures { delivered result res.new ≡ deliver (mapped shape_record (lone ty.now)) res.old }
 {
-    let read = read_lone(ty);
-    let Lone::Accepted = read else {
-        return as_written(read);
-    };
+    read_lone(ty)?;
     write_shape(shape_at(ty, 0), &mut *res)
 }
 
 // The record of a type's scalar.
-pub fn scalar_record(ty: &[u8], res: &mut [u8]) -> Written
+#[tactic(auto, using(record::proofs::LoneLaws::delivered_reading))]
+pub fn scalar_record(ty: &[u8], res: &mut [u8]) -> Result<usize, Refusal>
     ensures { delivered result res.new ≡ deliver (mapped scalar_record (lone ty.now)) res.old }
 {
-    let read = read_lone(ty);
-    let Lone::Accepted = read else {
-        return as_written(read);
-    };
-    let start = scalar_at(ty, 0);
-    hand_over(&ty[start..], &mut *res)
+    read_lone(ty)?;
+    hand_over(&ty[scalar_at(ty, 0)..], &mut *res)
 }

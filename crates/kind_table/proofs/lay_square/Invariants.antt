@@ -1,12 +1,8 @@
-use Prim.Native.Nat.{◌-◌, ◌≤◌}
 use mathlib.Core.Path.{◌≡◌}
 use lib.ListN.{take}
 use Rattle.lent.specs.Over.{over}
-use Rattle.rules.specs.KindTable.{kind_count, in_a_row}
+use Rattle.rules.specs.KindTable.{in_a_row}
 use Rattle.kind_table.proofs.lay_square.Given as goal
 
 abbrev pub invariant-loop-i : goal.invariant-loop-i
-invariant-loop-i l = (l.out ≡ over l.initial.out l.at (in_a_row (take l.i l.square))) × (l.i ≤ kind_count)
-
-abbrev pub decreases-loop-i : goal.decreases-loop-i
-decreases-loop-i l = kind_count - l.i
+invariant-loop-i l = l.out ≡ over l.initial.out l.at (in_a_row (take l.i l.square))

@@ -1,12 +1,10 @@
 use mathlib.Core.Path.{◌≡◌}
-use Prim.Native.Nat.{◌-◌, ◌≤◌, max}
-use lib.ListN.{length, drop}
+use Prim.Native.Nat.{max}
+use lib.ListN.{drop}
 use Rattle.format.specs.Records.{code}
+use Rattle.limits.specs.Codes.{code_for}
 use Rattle.number.specs.Kind.{kind_of_numbers}
 use Rattle.number.proofs.kind_of.Given as goal
 
-abbrev pub invariant-loop-i : goal.invariant-loop-i
-invariant-loop-i l = (l.i ≤ length l.xs) × (max l.kind (code (kind_of_numbers (drop l.i l.xs))) ≡ code (kind_of_numbers l.xs))
-
-abbrev pub decreases-loop-i : goal.decreases-loop-i
-decreases-loop-i l = length l.xs - l.i
+abbrev pub invariant-loop-x : goal.invariant-loop-x
+invariant-loop-x l = max (code_for l.kind) (code (kind_of_numbers (drop l.x-index l.xs))) ≡ code (kind_of_numbers l.xs)

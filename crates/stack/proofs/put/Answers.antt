@@ -1,6 +1,4 @@
-use Prim.Native.Nat.{◌-◌}
-use native.Mathlib.Omega.{arith}
-use mathlib.Core.Path.{refl}
+use Rattle.std.proofs.Common.{◌-◌, arith, refl}
 use Rattle.stack.proofs.KeepsLaws.{put-takes}
 use Rattle.stack.proofs.put.Goals as goal
 

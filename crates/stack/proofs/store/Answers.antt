@@ -2,7 +2,7 @@ use native.Mathlib.Omega.{arith}
 use mathlib.Core.Path.{refl, ap}
 use lib.ListN.{length}
 use Rattle.stack.specs.Stack.{packed_end, tray_end}
-use Rattle.stack.proofs.ApartLaws.{slot_inside, tray_inside}
+use Rattle.stack.proofs.ApartLaws.{slot_inside}
 use Rattle.stack.proofs.KeepsLaws.{packed_takes, in_tray_takes}
 use Rattle.stack.proofs.store.Goals as goal
 
@@ -22,12 +22,6 @@ returns-then-trays-ty c =
     λ s count t there within e.
     packed_takes args.ends.now args.lengths.now s args.trays.now args.scratch.now count args.k c.requires.0 there t within packed_end (length args.ty.now) (ap length e) args.trays.now _ c.pack.auto.out
     refl (c.pack.ensures t within e) refl c.requires.2.3.stacked.room
-
-pub lay-requires : goal.lay-requires
-lay-requires c =
-    let args = c.args in
-    let e = c.requires.1.2 in
-    rw (c.tray_at-at.ensures, e) (tray_inside args.trays.now c.requires.1.0 (omega (arith, ap length e, c.if-trays-ty.false)) args.k)
 
 pub returns : goal.returns
 returns c =

@@ -1,37 +1,14 @@
-use Prim.Native.Nat.{◌-◌}
-use native.Mathlib.Omega.{arith}
-use mathlib.Core.List.{◌∷◌}
-use mathlib.Core.Path.{◌∙◌}
-use Rattle.format.specs.Outcome.{accepted}
-use Rattle.rules.specs.Types.{join_types}
-use Rattle.stack.specs.Stack.{memory}
-use Rattle.stack.proofs.StackLaws.{stacked_top, stacked-below}
-use Rattle.tops.proofs.RuleLaws.{delivered-puts}
-use Rattle.tops.proofs.TopLaws.{record_there, top_lone, below-lone, good_two, join-within}
+use Rattle.tops.proofs.TopLaws.{top_there, below_there, good_two, join_of_two}
 use Rattle.tops.proofs.join_top.Goals as goal
 
 pub bytes_of-top-requires : goal.bytes_of-top-requires
-bytes_of-top-requires c =
-    let args = c.args in
-    record_there 2 args.ends.now args.lengths.now args.s.now args.trays.now c.requires.0 args.count c.requires.1 (args.count - 1) (omega (arith, c.requires.1.enough)) (omega arith)
+bytes_of-top-requires c = top_there _ _ _ _ _ c.requires
 
 pub bytes_of-below-requires : goal.bytes_of-below-requires
-bytes_of-below-requires c =
-    let args = c.args in
-    record_there 2 args.ends.now args.lengths.now args.s.now args.trays.now c.requires.0 args.count c.requires.1 (args.count - 2) (omega (arith, c.requires.1.enough)) (omega arith)
+bytes_of-below-requires c = below_there _ _ _ _ _ c.requires
 
 pub join_known-requires : goal.join_known-requires
-join_known-requires c =
-    let args = c.args in
-    let m = (memory args.ends.now args.lengths.now args.s.now args.trays.now c.requires.0) in
-    good_two c.requires.1.has _ _ c.requires.1.enough (λ t u ts. top_lone m args.count (c.bytes_of-top.ensures c.requires.0) t (u ∷ ts)) (below-lone m args.count (c.bytes_of-below.ensures c.requires.0))
+join_known-requires c = good_two _ _ _ _ _ c.bytes_of-top.ensures c.bytes_of-below.ensures c.requires
 
 pub returns : goal.returns
-returns c =
-    let args = c.args in
-    λ d t u ts h.
-    let m = (memory args.ends.now args.lengths.now args.s.now args.trays.now d) in
-    let top = top_lone m args.count (c.bytes_of-top.ensures d) t (u ∷ ts) h in
-    let below = below-lone m args.count (c.bytes_of-below.ensures d) t u ts h in
-    delivered-puts (accepted (join_types t u)) c.join_known.result _ args.out.now (c.join_known.ensures ∙ rw (top, below))
-    (join-within t u (stacked_top m args.count h).within (stacked-below m args.count h).within)
+returns c = join_of_two _ _ _ _ _ c.bytes_of-top.ensures c.bytes_of-below.ensures _ _ _ c.join_known.ensures

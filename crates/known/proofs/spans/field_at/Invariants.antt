@@ -5,8 +5,5 @@ use Rattle.known.specs.Known.{FieldsAt}
 use Rattle.known.proofs.SpanLaws.{Reaching}
 use Rattle.known.proofs.spans.field_at.Given as goal
 
-abbrev pub invariant-loop-left : goal.invariant-loop-left
-invariant-loop-left l = (f : Fields) → FieldsAt l.s l.fields max_depth f → l.n < field_count f → Reaching l.s l.fields max_depth l.n f l.at l.left
-
-abbrev pub decreases-loop-left : goal.decreases-loop-left
-decreases-loop-left l = l.left
+abbrev pub invariant-loop : goal.invariant-loop
+invariant-loop l = (f : Fields) → FieldsAt l.s l.fields max_depth f → l.n < field_count f → Reaching l.s l.fields max_depth l.n f l.at l.counter

@@ -1,4 +1,4 @@
-use Prim.Native.Nat.{ℕ, ◌+◌, ◌-◌, ◌≤◌}
+use Prim.Native.Nat.{ℕ, ◌+◌}
 use mathlib.Core.List.{List}
 use mathlib.Core.Path.{◌≡◌}
 use lib.ListN.{drop}
@@ -8,7 +8,6 @@ use Rattle.names.specs.Table.{NameStands, InForce, place_of}
 use Rattle.names.proofs.table.find.Given as goal
 
 abbrev pub invariant-loop-k : goal.invariant-loop-k
-invariant-loop-k l = (l.k ≤ l.count) × ((bounds : List ℕ) (ns : Names) (n : TableName) → InForce l.s l.places bounds l.count ns → NameStands l.s l.name n → place_of ns n ≡ l.k + place_of (drop l.k ns) n)
-
-abbrev pub decreases-loop-k : goal.decreases-loop-k
-decreases-loop-k l = l.count - l.k
+invariant-loop-k l =
+    (bounds : List ℕ) (ns : Names) (n : TableName) → InForce l.s l.places bounds l.count ns → NameStands l.s l.name n
+    → place_of ns n ≡ l.k + place_of (drop l.k ns) n

@@ -1,43 +1,18 @@
-use mathlib.Core.List.{[]}
 use mathlib.Core.Path.{refl}
-use Rattle.machine.specs.Sheet.{fresh}
-use Rattle.run.proofs.SheetLaws.{state-has, state-names, state-fresh, run-left, run-stopped, stopped-has, stopped-names, run-refused}
+use Rattle.run.proofs.SheetLaws.{state_fresh, left_at_end, ran_has, ran_on, unran}
 use Rattle.run.proofs.sheet.run_small.Goals as goal
 
-pub run_steps-ran-requires : goal.run_steps-ran-requires
-run_steps-ran-requires c =
-    let args = c.args in
-    (state-has (state-fresh args.lengths.now args.sheet.now _ args.scratch.now c.requires.0 c.requires.1), state-names (state-fresh args.lengths.now args.sheet.now [] args.scratch.now c.requires.0 c.requires.1))
+pub returns-in_err-reached : goal.returns-in_err-reached
+returns-in_err-reached c = unran _ _ c.in_err-reached.ensures (state_fresh _ _ _ _ c.requires) refl _ c.from_residual.ensures.1 _ _
 
 pub hand_over-requires : goal.hand_over-requires
-hand_over-requires c =
-    let args = c.args in
-    let runs = c.run_steps-ran.ensures (fresh []) (state-fresh args.lengths.now args.sheet.now _ args.scratch.now c.requires.0 c.requires.1) in
-    stopped-has c.run_steps-ran.result _ _ _ _ runs c.in-At.is
+hand_over-requires c = (ran_has c.in_ok-reached.ensures (state_fresh _ _ _ _ c.requires)).0
 
-pub returns-then-sheet-at : goal.returns-then-sheet-at
-returns-then-sheet-at c =
-    let args = c.args in
-    let runs = c.run_steps-ran.ensures (fresh []) (state-fresh args.lengths.now args.sheet.now _ args.scratch.now c.requires.0 c.requires.1) in
-    let stop = (run-stopped c.run_steps-ran.result _ _ _ _ runs c.in-At.is).going in
-    c.hand_over.ensures stop.state.stack stop.here.stacked (run-left args.sheet.now stop.state _ c.if-sheet-at.true stop.same)
+pub returns-then-sheet-reached : goal.returns-then-sheet-reached
+returns-then-sheet-reached c = ran_on c.in_ok-reached.ensures (state_fresh _ _ _ _ c.requires) refl (left_at_end c.if-sheet-reached.true c.hand_over.ensures)
 
 pub run_roomy-requires : goal.run_roomy-requires
-run_roomy-requires c =
-    let args = c.args in
-    let runs = c.run_steps-ran.ensures (fresh []) (state-fresh args.lengths.now args.sheet.now _ args.scratch.now c.requires.0 c.requires.1) in
-    let is = c.in-At.is in
-    (stopped-has c.run_steps-ran.result _ _ _ _ runs is, stopped-names c.run_steps-ran.result _ _ _ _ runs is)
+run_roomy-requires c = ran_has c.in_ok-reached.ensures (state_fresh _ _ _ _ c.requires)
 
-pub returns-else-sheet-at : goal.returns-else-sheet-at
-returns-else-sheet-at c =
-    let args = c.args in
-    let runs = c.run_steps-ran.ensures (fresh []) (state-fresh args.lengths.now args.sheet.now _ args.scratch.now c.requires.0 c.requires.1) in
-    let stop = (run-stopped c.run_steps-ran.result _ _ _ _ runs c.in-At.is).going in
-    c.run_roomy.ensures stop.state stop.here stop.same
-
-pub returns-in-Refused : goal.returns-in-Refused
-returns-in-Refused c =
-    let args = c.args in
-    let runs = c.run_steps-ran.ensures (fresh []) (state-fresh args.lengths.now args.sheet.now _ args.scratch.now c.requires.0 c.requires.1) in
-    record { called = run-refused c.run_steps-ran.result _ _ _ _ runs refl c.in-Refused.is _; measured = tt }
+pub returns : goal.returns
+returns c = ran_on c.in_ok-reached.ensures (state_fresh _ _ _ _ c.requires) refl c.run_roomy.ensures

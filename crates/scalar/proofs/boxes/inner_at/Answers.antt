@@ -1,22 +1,18 @@
-use Rattle.scalar.proofs.BoxLaws.{inner-plain, inner-any, inner-all, inner-def}
+use mathlib.Core.Path.{refl, sym}
+use Rattle.rules.specs.Order.{code_of}
 use Rattle.scalar.proofs.boxes.inner_at.Goals as goal
 
 pub returns-in-Plain : goal.returns-in-Plain
-returns-in-Plain c =
-    let args = c.args in
-    inner-plain args.s.now args.at c.look.ensures c.in-Plain.is
+unfolding code_of
+returns-in-Plain c = λ d k h. let x = c.in-Plain.ensures d k h in rw x.is (sym x.coded, tt)
 
 pub returns-in-BoxAny : goal.returns-in-BoxAny
-returns-in-BoxAny c =
-    let args = c.args in
-    inner-any args.s.now args.at c.look.ensures c.in-BoxAny.is
+unfolding code_of
+returns-in-BoxAny c = λ d k h. rw (c.in-BoxAny.ensures d k h).is (refl, tt)
 
 pub returns-in-BoxAll : goal.returns-in-BoxAll
-returns-in-BoxAll c =
-    let args = c.args in
-    inner-all args.s.now args.at c.look.ensures c.in-BoxAll.is
+returns-in-BoxAll c = λ d k h. let x = c.in-BoxAll.ensures d k h in record { shape = x.shape; scalar = x.scalar; is = x.is; there = x.there }
 
 pub returns-in-BoxDef : goal.returns-in-BoxDef
-returns-in-BoxDef c =
-    let args = c.args in
-    inner-def args.s.now args.at c.look.ensures c.in-BoxDef.is
+unfolding code_of
+returns-in-BoxDef c = λ d k h. rw (c.in-BoxDef.ensures d k h).is (refl, tt)

@@ -1,11 +1,9 @@
-use Prim.Native.Nat.{◌-◌}
+use mathlib.Core.Path.{◌≡◌}
+use lib.ListN.{length}
 use Rattle.record.specs.Answers.{dims_of}
 use Rattle.rules.specs.Shapes.{merge_dims}
 use Rattle.shape.proofs.DimsLaws.{Listed}
 use Rattle.shape.proofs.dims.merge_dims.Given as goal
 
 abbrev pub invariant-loop-i : goal.invariant-loop-i
-invariant-loop-i l = Listed (merge_dims (dims_of l.a) (dims_of l.b)) l.count l.sizes l.i
-
-abbrev pub decreases-loop-i : goal.decreases-loop-i
-decreases-loop-i l = 8 - l.i
+invariant-loop-i l = (length l.sizes ≡ 8) × Listed (merge_dims (dims_of l.a) (dims_of l.b)) l.count l.sizes l.i

@@ -1,26 +1,6 @@
 use native.Mathlib.Omega.{arith}
-use mathlib.Core.Bool.{true}
-use mathlib.Core.Path.{sym, ap, ◌∙◌}
-use Rattle.format.specs.Outcome.{accepted, mapped}
-use Rattle.record.specs.Answers.{lone_of}
-use Rattle.rules.specs.Shapes.{is_any}
-use Rattle.shape_calls.proofs.CallLaws.{OneRead, shape-told, shape-there, shape_is}
+use Rattle.shape_calls.proofs.CallLaws.{any_told}
 use Rattle.shape_calls.proofs.bytes.shape_is_any.Goals as goal
 
-pub returns-in_default : goal.returns-in_default
-returns-in_default c =
-    let known : OneRead c.args.a.now c.read_lone-read.result =
-    record { small = λ i. omega (arith, c.shared_slice_known-1.given i); reads = c.read_lone-read.ensures } in
-    c.as_tested.ensures ∙ ap (mapped (λ _. true)) (ap lone_of c.in_default.is) ∙ sym (shape-told (λ s. accepted (is_any s)) known c.in_default.is)
-
-pub any_shape_at-requires : goal.any_shape_at-requires
-any_shape_at-requires c =
-    let known : OneRead c.args.a.now c.read_lone-read.result =
-    record { small = λ i. omega (arith, c.shared_slice_known-1.given i); reads = c.read_lone-read.ensures } in
-    shape-there (λ s. accepted (is_any s)) known c.in-Accepted.is
-
 pub returns : goal.returns
-returns c =
-    let known : OneRead c.args.a.now c.read_lone-read.result =
-    record { small = λ i. omega (arith, c.shared_slice_known-1.given i); reads = c.read_lone-read.ensures } in
-    shape_is (λ s. accepted (is_any s)) known c.in-Accepted.is (λ d t h. c.tell.ensures ∙ ap accepted (c.any_shape_at.ensures d t h))
+returns c = any_told _ (λ i. omega (arith, c.type_inv.a i)) c.in_ok-read_lone.ensures c.any_shape_at.ensures

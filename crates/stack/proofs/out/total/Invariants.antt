@@ -1,17 +1,8 @@
-use Prim.Native.Nat.{ℕ, ◌-◌, ◌*◌, ◌≤◌}
-use mathlib.Core.List.{List}
-use mathlib.Core.Path.{◌≡◌}
-use lib.ListN.{length}
+use Rattle.std.proofs.Common.{◌≡◌, ℕ, ◌*◌, ◌≤◌, ◌<◌, get_or, take, sum}
 use Rattle.model.specs.Limits.{max_bytes}
-use Rattle.model.specs.Types.{Ty}
-use Rattle.stack.specs.Stack.{memory, size, Stacked}
-use Rattle.stack.proofs.OutLaws.{lowest_bytes}
 use Rattle.stack.proofs.out.total.Given as goal
 
-abbrev pub invariant-loop-k : goal.invariant-loop-k
-invariant-loop-k l =
-    (l.k ≤ l.count) × (l.size ≤ l.k * max_bytes)
-    × ((ends s h d : List ℕ) (ts : List Ty) → Stacked (memory ends l.lengths s h d) l.count ts → l.size ≡ length (lowest_bytes l.count l.k ts))
-
-abbrev pub decreases-loop-k : goal.decreases-loop-k
-decreases-loop-k l = l.count - l.k
+abbrev pub invariant-loop-length : goal.invariant-loop-length
+invariant-loop-length l =
+    (l.size ≤ l.length-index * max_bytes) × (l.size ≡ sum (take l.length-index (take l.count l.lengths)))
+    × ((k : ℕ) → k < l.count → get_or l.lengths k 0 ≤ max_bytes)

@@ -1,10 +1,11 @@
 use native.Mathlib.Omega.{arith}
 use mathlib.Core.Path.{sym, ap, ◌∙◌}
-use Rattle.lent.specs.Delivers.{deliver-refused}
-use Rattle.validate.specs.Answers.{side_of}
-use Rattle.known.proofs.WholeLaws.{scalar-inside, second_good}
-use Rattle.format.specs.Outcome.{deliver}
+use Rattle.std.specs.Prelude.{Ok, Err}
 use Rattle.model.specs.Limits.{max_depth}
+use Rattle.format.specs.Outcome.{deliver}
+use Rattle.lent.specs.Delivers.{deliver-refused}
+use Rattle.known.proofs.WholeLaws.{scalar-inside, second_good}
+use Rattle.validate.specs.Answers.{side_of}
 use Rattle.validate.proofs.CallLaws.{shape-clash, shape-merged}
 use Rattle.validate.proofs.WholeLaws.{lones}
 use Rattle.validate.proofs.WalkLaws.{shapes-checked}
@@ -13,53 +14,35 @@ use Rattle.validate.proofs.calls.deliver_shape.Goals as goal
 
 pub shape_at-requires : goal.shape_at-requires
 shape_at-requires c =
-    let args = c.args in
-    let pre = c.requires in
-    let both = lones args.spec.now args.ty.now (λ i. omega (arith, c.type_inv.spec i)) (λ i. omega (arith, c.type_inv.ty i)) pre in
+    let both = lones c.args.spec.now c.args.ty.now (λ i. omega (arith, c.type_inv.spec i)) (λ i. omega (arith, c.type_inv.ty i)) c.requires in
     (max_depth, has both.pair.spec-there)
 
 pub shape_at-requires-2 : goal.shape_at-requires-2
 shape_at-requires-2 c =
-    let args = c.args in
-    let pre = c.requires in
-    let both = lones args.spec.now args.ty.now (λ i. omega (arith, c.type_inv.spec i)) (λ i. omega (arith, c.type_inv.ty i)) pre in
+    let both = lones c.args.spec.now c.args.ty.now (λ i. omega (arith, c.type_inv.spec i)) (λ i. omega (arith, c.type_inv.ty i)) c.requires in
     (max_depth, has both.pair.type-there)
 
-pub scalar_at-start-requires : goal.scalar_at-start-requires
-scalar_at-start-requires c =
-    let args = c.args in
-    let pre = c.requires in
-    let both = lones args.spec.now args.ty.now (λ i. omega (arith, c.type_inv.spec i)) (λ i. omega (arith, c.type_inv.ty i)) pre in
+pub scalar_at-requires : goal.scalar_at-requires
+scalar_at-requires c =
+    let both = lones c.args.spec.now c.args.ty.now (λ i. omega (arith, c.type_inv.spec i)) (λ i. omega (arith, c.type_inv.ty i)) c.requires in
     (max_depth, has both.pair.type-there)
 
 pub slice_bounds-write_parts-count : goal.slice_bounds-write_parts-count
-slice_bounds-write_parts-count c =
-    let args = c.args in
-    let pre = c.requires in
-    scalar-inside args.ty.now (λ i. omega (arith, c.type_inv.ty i)) c.scalar_at-start.ensures (second_good args.spec.now args.ty.now pre)
+slice_bounds-write_parts-count c = scalar-inside c.args.ty.now (λ i. omega (arith, c.type_inv.ty i)) c.scalar_at.ensures (second_good c.args.spec.now c.args.ty.now c.requires)
 
 pub slice_bounds-write_parts-start : goal.slice_bounds-write_parts-start
-slice_bounds-write_parts-start c =
-    let args = c.args in
-    let pre = c.requires in
-    scalar-inside args.ty.now (λ i. omega (arith, c.type_inv.ty i)) c.scalar_at-start.ensures (second_good args.spec.now args.ty.now pre)
+slice_bounds-write_parts-start c = scalar-inside c.args.ty.now (λ i. omega (arith, c.type_inv.ty i)) c.scalar_at.ensures (second_good c.args.spec.now c.args.ty.now c.requires)
 
-pub returns-in-Clear : goal.returns-in-Clear
-returns-in-Clear c =
-    let args = c.args in
-    let pre = c.requires in
-    let both = lones args.spec.now args.ty.now (λ i. omega (arith, c.type_inv.spec i)) (λ i. omega (arith, c.type_inv.ty i)) pre in
-    let checked = shapes-checked both.pair (side_of args.side) c.shape_at.result c.shape_at-2.result c.check_shapes-checked.result
-    c.check_shapes-checked.ensures c.shape_at.ensures c.shape_at-2.ensures in
-    let is = shape-merged both (side_of args.side) c.check_shapes-checked.result checked
-    (λ i. omega (arith, c.type_inv.ty i)) c.scalar_at-start.ensures c.in-Clear.is in
-    c.write_parts.ensures ∙ ap (λ o. deliver o args.res.now) (sym is)
+pub returns-in-Ok : goal.returns-in-Ok
+returns-in-Ok c =
+    let both = lones c.args.spec.now c.args.ty.now (λ i. omega (arith, c.type_inv.spec i)) (λ i. omega (arith, c.type_inv.ty i)) c.requires in
+    let side = side_of c.args.side in
+    let merged = shapes-checked both.pair side c.shape_at.result c.shape_at-2.result (Ok c.in-Ok.shape) c.in-Ok.ensures c.shape_at.ensures c.shape_at-2.ensures in
+    c.write_parts.ensures ∙ ap (λ o. deliver o c.args.res.now) (sym (shape-merged both side (λ i. omega (arith, c.type_inv.ty i)) c.scalar_at.ensures c.in-Ok.shape merged))
 
-pub returns-in-Numbered : goal.returns-in-Numbered
-returns-in-Numbered c =
-    let args = c.args in
-    let pre = c.requires in
-    let both = lones args.spec.now args.ty.now (λ i. omega (arith, c.type_inv.spec i)) (λ i. omega (arith, c.type_inv.ty i)) pre in
-    let checked = shapes-checked both.pair (side_of args.side) c.shape_at.result c.shape_at-2.result c.check_shapes-checked.result
-    c.check_shapes-checked.ensures c.shape_at.ensures c.shape_at-2.ensures in
-    sym (deliver-refused _ (shape-clash both (side_of args.side) c.check_shapes-checked.result checked c.in-Numbered.is))
+pub returns-in-Err : goal.returns-in-Err
+returns-in-Err c =
+    let both = lones c.args.spec.now c.args.ty.now (λ i. omega (arith, c.type_inv.spec i)) (λ i. omega (arith, c.type_inv.ty i)) c.requires in
+    let side = side_of c.args.side in
+    let clash = shapes-checked both.pair side c.shape_at.result c.shape_at-2.result (Err c.in-Err.reason) c.in-Err.ensures c.shape_at.ensures c.shape_at-2.ensures in
+    sym (deliver-refused c.args.res.now (shape-clash both side c.in-Err.reason clash))

@@ -1,22 +1,9 @@
-use mathlib.Core.Path.{◌∙◌}
 use Rattle.validation.specs.Validate.{validate}
-use Rattle.validate.proofs.SeparateLaws.{tells_input, both_good, tells_neither}
 use Rattle.validate.specs.Answers.{side_of}
+use Rattle.validate.proofs.SeparateLaws.{tells_input}
 use Rattle.validate.proofs.calls.validate.Goals as goal
 
-pub returns-in_default : goal.returns-in_default
-returns-in_default c =
+pub returns-in_err-read_two : goal.returns-in_err-read_two
+returns-in_err-read_two c =
     let args = c.args in
-    c.refuse_reading.ensures _ ∙ tells_input (validate (side_of args.side)) args.spec.now args.ty.now c.read_two-read.result c.read_two-read.ensures c.in_default.not-Accepted args.res.now
-
-pub deliver_validated-requires : goal.deliver_validated-requires
-deliver_validated-requires c =
-    let args = c.args in
-    both_good (validate (side_of args.side)) args.spec.now args.ty.now c.read_two-read.result c.read_two-read.ensures c.in-Accepted.is
-
-pub returns : goal.returns
-returns c =
-    let args = c.args in
-    c.after_reading.ensures _
-    ∙ tells_neither (validate (side_of args.side)) args.spec.now args.ty.now c.read_two-read.result c.read_two-read.ensures
-    c.in-Accepted.is args.res.now c.deliver_validated.ensures
+    tells_input args.spec.now args.ty.now (validate (side_of args.side)) c.in_err-read_two.field-0.0 c.from_residual.result args.res.now c.in_err-read_two.ensures c.from_residual.ensures.1

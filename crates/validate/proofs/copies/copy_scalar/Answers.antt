@@ -1,67 +1,26 @@
-use Prim.Native.Nat.{◌-◌}
 use native.Mathlib.Omega.{arith}
 use mathlib.Core.Path.{refl}
-use borrow.Author.Rules.{rules}
-use Rattle.model.specs.Limits.{max_depth}
-use Rattle.validate.proofs.CopyLaws.{part-long, type-ends, some-types, scalar-starts, scalar-room, scalar-copied}
-use Rattle.validate.proofs.ListLaws.{has}
+use Rattle.std.proofs.lemmas.Grind.{common_steps}
+use Rattle.validate.proofs.CopyLaws.{scalar_fits, scalar-copied}
 use Rattle.validate.proofs.copies.copy_scalar.Goals as goal
 
-pub scalar_at-start-requires : goal.scalar_at-start-requires
-scalar_at-start-requires c =
-    (max_depth, has c.requires.there)
-
 pub slice_bounds-lay-count : goal.slice_bounds-lay-count
-slice_bounds-lay-count c =
-    let args = c.args in
-    let span = c.span_at-span.ensures c.requires.type c.requires.there in
-    scalar-starts args.s.now args.at c.scalar_at-start.ensures c.span_at-span.result c.requires.type c.requires.there span
+slice_bounds-lay-count c = (scalar_fits c.span_at-span.ensures c.scalar_at-start.ensures c.requires).0
 
 pub slice_bounds-lay-start : goal.slice_bounds-lay-start
-slice_bounds-lay-start c =
-    let args = c.args in
-    let span = c.span_at-span.ensures c.requires.type c.requires.there in
-    scalar-starts args.s.now args.at c.scalar_at-start.ensures c.span_at-span.result c.requires.type c.requires.there span
+slice_bounds-lay-start c = (scalar_fits c.span_at-span.ensures c.scalar_at-start.ensures c.requires).0
 
 pub slice_bounds-lay-end : goal.slice_bounds-lay-end
-slice_bounds-lay-end c =
-    let args = c.args in
-    let span = c.span_at-span.ensures c.requires.type c.requires.there in
-    type-ends args.s.now args.at c.span_at-span.result c.requires.type c.requires.there span
+slice_bounds-lay-end c = (scalar_fits c.span_at-span.ensures c.scalar_at-start.ensures c.requires).1
 
 pub lay-requires : goal.lay-requires
-lay-requires c =
-    let args = c.args in
-    let span = c.span_at-span.ensures c.requires.type c.requires.there in
-    let room = scalar-room args.s.now args.at c.scalar_at-start.ensures c.span_at-span.result c.requires.type c.requires.there span args.to c.requires.space in
-    let starts = scalar-starts args.s.now args.at c.scalar_at-start.ensures c.span_at-span.result c.requires.type c.requires.there span in
-    let ends = type-ends args.s.now args.at c.span_at-span.result c.requires.type c.requires.there span in
-    let long = part-long args.s.now c.scalar_at-start.result (c.span_at-span.result.end - c.scalar_at-start.result) (omega (arith, starts, ends)) in
-    omega (arith, room, long)
+lay-requires c = let fits = scalar_fits c.span_at-span.ensures c.scalar_at-start.ensures c.requires in grind (arith, common_steps)
 
 pub overflow_sub-result : goal.overflow_sub-result
-overflow_sub-result c =
-    let args = c.args in
-    let span = c.span_at-span.ensures c.requires.type c.requires.there in
-    scalar-starts args.s.now args.at c.scalar_at-start.ensures c.span_at-span.result c.requires.type c.requires.there span
-
-pub overflow_add-result : goal.overflow_add-result
-overflow_add-result c =
-    let args = c.args in
-    let span = c.span_at-span.ensures c.requires.type c.requires.there in
-    let room = scalar-room args.s.now args.at c.scalar_at-start.ensures c.span_at-span.result c.requires.type c.requires.there span args.to c.requires.space in
-    search rules
-
-pub overflow_sub-result-2 : goal.overflow_sub-result-2
-overflow_sub-result-2 c =
-    let args = c.args in
-    let span = c.span_at-span.ensures c.requires.type c.requires.there in
-    some-types args.s.now args.at c.span_at-span.result c.requires.type c.requires.there span
+overflow_sub-result c = (scalar_fits c.span_at-span.ensures c.scalar_at-start.ensures c.requires).0
 
 pub returns : goal.returns
-returns c =
+returns c = λ t h.
     let args = c.args in
-    let span = c.span_at-span.ensures c.requires.type c.requires.there in
-    λ t h.
-    scalar-copied args.s.now args.at c.scalar_at-start.ensures c.span_at-span.result t h (c.span_at-span.ensures t h) args.out.now args.to
-    (scalar-room args.s.now args.at c.scalar_at-start.ensures c.span_at-span.result c.requires.type c.requires.there span args.to c.requires.space) c.lay.ensures _ refl refl
+    let fits = scalar_fits c.span_at-span.ensures c.scalar_at-start.ensures c.requires in
+    scalar-copied args.s.now args.at c.scalar_at-start.ensures c.span_at-span.result t h (c.span_at-span.ensures t h) args.out.now args.to fits.3 c.lay.ensures _ refl refl

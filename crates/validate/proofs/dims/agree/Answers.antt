@@ -1,35 +1,24 @@
 use native.Mathlib.Omega.{arith}
-use mathlib.Core.Path.{refl, sym, ◌∙◌}
-use borrow.Author.Rules.{rules}
 use Rattle.record.specs.Answers.{dims_of}
-use Rattle.rules.specs.Sizes.{compatible}
-use Rattle.validation.proofs.CheckShapeSteps.{agree-end, agree_end'}
-use Rattle.validate.proofs.DimsLaws.{sizes-more, sizes-stop}
+use Rattle.record.proofs.ByValue.{size-at}
+use Rattle.validate.proofs.DimsLaws.{agree-more, agree-stop, agree-ended}
 use Rattle.validate.proofs.dims.agree.Goals as goal
 
-pub loop-i-init : goal.loop-i-init
-loop-i-init c = (search rules, refl)
-
-pub returns-then-n-i : goal.returns-then-n-i
-returns-then-n-i c =
-    let args = c.args in
-    sym (c.loop-i.invariant.1 ∙ agree_end' compatible c.loop-i.i (dims_of args.a) (dims_of args.b) (omega (arith, c.size_count-n.ensures.0)))
-
-pub returns-then-not-compatible : goal.returns-then-not-compatible
-returns-then-not-compatible c =
-    let args = c.args in
-    sym (c.loop-i.invariant.1 ∙ sizes-stop args.a args.b c.loop-i.i c.size_count-m.ensures.0 c.size_count-n.ensures.0
-    (omega arith) (omega arith) c.compatible.ensures c.if-not-compatible.true)
+pub returns-then-not-test : goal.returns-then-not-test
+returns-then-not-test g c = λ rule by.
+    let a = c.args.a in
+    let b = c.args.b in
+    let i = c.loop-i.i in
+    agree-stop rule (dims_of a) (dims_of b) i (c.loop-i.invariant rule by) (omega arith) (omega arith) (size-at a i (omega arith)) (size-at b i (omega arith))
+    (by _ _ _ c.test.ensures) c.if-not-test.true
 
 pub loop-i-preserved : goal.loop-i-preserved
-loop-i-preserved c =
-    let args = c.args in (
-      omega arith,
-      c.loop-i.invariant.1 ∙ sizes-more args.a args.b c.loop-i.i c.size_count-m.ensures.0 c.size_count-n.ensures.0
-          (omega arith) (omega arith) c.compatible.ensures c.if-not-compatible.false,
-    )
+loop-i-preserved g c = λ rule by.
+    let a = c.args.a in
+    let b = c.args.b in
+    let i = c.loop-i.i in
+    agree-more rule (dims_of a) (dims_of b) i (c.loop-i.invariant rule by) (omega arith) (omega arith) (size-at a i (omega arith)) (size-at b i (omega arith))
+    (by _ _ _ c.test.ensures) c.if-not-test.false
 
 pub returns : goal.returns
-returns c =
-    let args = c.args in
-    sym (c.loop-i.invariant.1 ∙ agree-end compatible c.loop-i.i (dims_of args.a) (dims_of args.b) (omega (arith, c.size_count-m.ensures.0)))
+returns g c = λ rule by. agree-ended rule (dims_of c.args.a) (dims_of c.args.b) c.loop-i.i (c.loop-i.invariant rule by) (omega arith)

@@ -1,35 +1,36 @@
 use native.Mathlib.Omega.{arith}
-use mathlib.Core.Path.{refl, sym, ◌∙◌}
-use borrow.Author.Rules.{rules}
+use mathlib.Core.List.{reverse}
+use lib.ListN.{drop}
 use Rattle.record.specs.Answers.{dims_of}
-use Rattle.rules.specs.Sizes.{compatible}
-use Rattle.validation.proofs.CheckShapeSteps.{agree_ends_end, agree_ends_end'}
-use Rattle.validate.proofs.DimsLaws.{ends_more, ends-stop}
+use Rattle.validate.proofs.DimsLaws.{size_rest, rest_long, agree-more, agree-stop, agree-ended}
 use Rattle.validate.proofs.dims.agree_ends.Goals as goal
 
-pub loop-i-init : goal.loop-i-init
-loop-i-init c = (search rules, refl)
-
-pub returns-then-n-i : goal.returns-then-n-i
-returns-then-n-i c =
-    let args = c.args in
-    sym (c.loop-i.invariant.1 ∙ agree_ends_end' compatible c.loop-i.i (dims_of args.a) (dims_of args.b) (omega (arith, c.size_count-n.ensures.0)))
-
-pub returns-then-not-compatible : goal.returns-then-not-compatible
-returns-then-not-compatible c =
-    let args = c.args in
-    sym (c.loop-i.invariant.1 ∙ ends-stop args.a args.b c.loop-i.i c.size_count-m.ensures.0 c.size_count-n.ensures.0
-    (omega arith) (omega arith) c.compatible.ensures c.if-not-compatible.true)
+pub returns-then-not-test : goal.returns-then-not-test
+returns-then-not-test g c = λ rule by.
+    let a = c.args.a in
+    let b = c.args.b in
+    let i = c.loop-i.i in
+    let x = size_rest a 0 c.size_count-m.ensures.0 i (omega arith) in
+    let y = size_rest b c.args.skipped c.size_count-n.ensures.0 i (omega arith) in
+    let m = rest_long a 0 c.size_count-m.ensures.0 in
+    let n = rest_long b c.args.skipped c.size_count-n.ensures.0 in
+    agree-stop rule (reverse (dims_of a)) (reverse (drop c.args.skipped (dims_of b))) i (c.loop-i.invariant rule by) (omega arith) (omega arith) x y (by _ _ _ c.test.ensures) c.if-not-test.true
 
 pub loop-i-preserved : goal.loop-i-preserved
-loop-i-preserved c =
-    let args = c.args in (
-      omega arith,
-      c.loop-i.invariant.1 ∙ ends_more args.a args.b c.loop-i.i c.size_count-m.ensures.0 c.size_count-n.ensures.0
-          (omega arith) (omega arith) c.compatible.ensures c.if-not-compatible.false,
-    )
+loop-i-preserved g c = λ rule by.
+    let a = c.args.a in
+    let b = c.args.b in
+    let i = c.loop-i.i in
+    let x = size_rest a 0 c.size_count-m.ensures.0 i (omega arith) in
+    let y = size_rest b c.args.skipped c.size_count-n.ensures.0 i (omega arith) in
+    let m = rest_long a 0 c.size_count-m.ensures.0 in
+    let n = rest_long b c.args.skipped c.size_count-n.ensures.0 in
+    agree-more rule (reverse (dims_of a)) (reverse (drop c.args.skipped (dims_of b))) i (c.loop-i.invariant rule by) (omega arith) (omega arith) x y (by _ _ _ c.test.ensures) c.if-not-test.false
 
 pub returns : goal.returns
-returns c =
-    let args = c.args in
-    sym (c.loop-i.invariant.1 ∙ agree_ends_end compatible c.loop-i.i (dims_of args.a) (dims_of args.b) (omega (arith, c.size_count-m.ensures.0)))
+returns g c = λ rule by.
+    let a = c.args.a in
+    let b = c.args.b in
+    let m = rest_long a 0 c.size_count-m.ensures.0 in
+    let n = rest_long b c.args.skipped c.size_count-n.ensures.0 in
+    agree-ended rule (reverse (dims_of a)) (reverse (drop c.args.skipped (dims_of b))) c.loop-i.i (c.loop-i.invariant rule by) (omega arith)

@@ -1,14 +1,14 @@
-use Prim.Native.Nat.{◌-◌, ◌≤◌}
-use mathlib.Core.Path.{◌≡◌}
+use mathlib.Core.Bool.{Bool}
 use mathlib.Core.List.{reverse}
+use mathlib.Core.Path.{◌≡◌}
 use lib.ListN.{drop}
+use Rattle.model.specs.Types.{Dim}
 use Rattle.record.specs.Answers.{dims_of}
-use Rattle.rules.specs.Sizes.{compatible}
 use Rattle.validation.specs.CheckShape.{agree}
+use Rattle.validate.specs.Dims.{TestsBy}
 use Rattle.validate.proofs.dims.agree_ends.Given as goal
 
 abbrev pub invariant-loop-i : goal.invariant-loop-i
-invariant-loop-i l = (l.i ≤ l.m) × (agree compatible (reverse (dims_of l.a)) (reverse (dims_of l.b)) ≡ agree compatible (drop l.i (reverse (dims_of l.a))) (drop l.i (reverse (dims_of l.b))))
-
-abbrev pub decreases-loop-i : goal.decreases-loop-i
-decreases-loop-i l = l.m - l.i
+invariant-loop-i g l =
+    (rule : Dim → Dim → Bool) → TestsBy (goal.F-post g l.test) rule
+    → agree rule (reverse (dims_of l.a)) (reverse (drop l.skipped (dims_of l.b))) ≡ agree rule (drop l.i (reverse (dims_of l.a))) (drop l.i (reverse (drop l.skipped (dims_of l.b))))

@@ -1,34 +1,20 @@
 use mathlib.Core.Path.{◌∙◌}
-use native.Mathlib.Omega.{arith}
 use Rattle.known.proofs.KnownLaws.{has-scalar}
 use Rattle.model.specs.Limits.{max_depth}
 use Rattle.validate.specs.Plans.{scalar_after}
-use Rattle.rules.proofs.KindTableLaws.{coded-below}
-use Rattle.validate.proofs.PlanLaws.{some-view, code-plain, tested, within, view_of, as_plain, as_box-any, plan_any, plan_plain, plan_box_any, spec_ty, type_ty, pair-bounds, wholly, all_against, def_against}
+use Rattle.validate.proofs.PlanLaws.{some-view, tested, within, view_of, as_plain, as_box-any, plan_any, plan_plain, plan_box_any, spec_ty, type_ty, pair-bounds, wholly, all_against, def_against}
 use Rattle.validate.proofs.ListLaws.{has}
 use Rattle.validate.proofs.plans.plan_scalar.Goals as goal
-
-pub scalar_at-requires : goal.scalar_at-requires
-scalar_at-requires c =
-    (max_depth, has c.requires.spec-there)
 
 pub look-a-requires : goal.look-a-requires
 look-a-requires c =
     let args = c.args in
     (within, has-scalar args.spec.now args.i c.scalar_at.ensures max_depth (has c.requires.spec-there))
 
-pub scalar_at-requires-2 : goal.scalar_at-requires-2
-scalar_at-requires-2 c =
-    (max_depth, has c.requires.type-there)
-
 pub look-b-requires : goal.look-b-requires
 look-b-requires c =
     let args = c.args in
     (within, has-scalar args.ty.now args.j c.scalar_at-2.ensures max_depth (has c.requires.type-there))
-
-pub any_shape_at-requires : goal.any_shape_at-requires
-any_shape_at-requires c =
-    (max_depth, has c.requires.type-there)
 
 pub take_if-requires : goal.take_if-requires
 take_if-requires c =
@@ -43,29 +29,12 @@ returns-then-wholly_any c =
     let whole = wholly w own c.any_shape_at.ensures c.wholly_any.ensures in
     c.take_if.ensures args.ty.now (scalar_after w) (spec_ty w) w.type-scalar w.spec-there (plan_any w (whole ∙ c.if-wholly_any.true))
 
-pub superset_codes-requires : goal.superset_codes-requires
-superset_codes-requires c =
-    let w = c.requires in
-    let wanted = view_of c.scalar_at.ensures c.look-a.ensures (spec_ty w) w.spec-there in
-    let own = view_of c.scalar_at-2.ensures c.look-b.ensures (type_ty w) w.type-there in
-    (coded-below _ (code-plain wanted c.in-Plain.is), coded-below _ (c.code_of.ensures c.args.ty.now w.type-scalar own))
-
-pub superset_codes-requires-in-BoxAny : goal.superset_codes-requires-in-BoxAny
-superset_codes-requires-in-BoxAny c =
-    let w = c.requires in
-    let own = view_of c.scalar_at-2.ensures c.look-b.ensures (type_ty w) w.type-there in
-    (omega arith, coded-below _ (c.code_of-in-BoxAny.ensures c.args.ty.now w.type-scalar own))
-
 pub plan_all-requires : goal.plan_all-requires
 plan_all-requires c =
     let w = c.requires in
     let b = pair-bounds w in
     let own = view_of c.scalar_at-2.ensures c.look-b.ensures (type_ty w) w.type-there in
     (some-view own, has w.spec-there, b.0, b.1)
-
-pub shape_at-t-requires : goal.shape_at-t-requires
-shape_at-t-requires c =
-    (max_depth, has c.requires.type-there)
 
 pub plan_named-requires : goal.plan_named-requires
 plan_named-requires c =
@@ -96,9 +65,9 @@ returns-in-Plain c =
     let own = view_of c.scalar_at-2.ensures c.look-b.ensures (type_ty w) w.type-there in
     let wanted = view_of c.scalar_at.ensures c.look-a.ensures (spec_ty w) w.spec-there in
     let whole = wholly w own c.any_shape_at.ensures c.wholly_any.ensures in
-    let code = c.code_of.ensures args.ty.now w.type-scalar own in
+    let code = c.kind_of.ensures args.ty.now w.type-scalar own in
     c.keep_if.ensures args.spec.now args.ty.now args.others args.above (scalar_after w) w.spec-scalar w.type-scalar
-    (tested (scalar_after w) w.type-scalar (plan_plain w (whole ∙ c.if-wholly_any.false) (as_plain wanted c.in-Plain.is) code) c.superset_codes.ensures)
+    (tested (scalar_after w) w.type-scalar (plan_plain w (whole ∙ c.if-wholly_any.false) (as_plain wanted c.in-Plain.is) code) c.superset.ensures)
 
 pub returns-in-BoxAny : goal.returns-in-BoxAny
 returns-in-BoxAny c =
@@ -107,9 +76,9 @@ returns-in-BoxAny c =
     let own = view_of c.scalar_at-2.ensures c.look-b.ensures (type_ty w) w.type-there in
     let wanted = view_of c.scalar_at.ensures c.look-a.ensures (spec_ty w) w.spec-there in
     let whole = wholly w own c.any_shape_at.ensures c.wholly_any.ensures in
-    let code = c.code_of-in-BoxAny.ensures args.ty.now w.type-scalar own in
+    let code = c.kind_of-in-BoxAny.ensures args.ty.now w.type-scalar own in
     c.keep_if-in-BoxAny.ensures args.spec.now args.ty.now args.others args.above (scalar_after w) w.spec-scalar w.type-scalar
-    (tested (scalar_after w) w.type-scalar (plan_box_any w (whole ∙ c.if-wholly_any.false) (as_box-any wanted c.in-BoxAny.is) code) c.superset_codes-in-BoxAny.ensures)
+    (tested (scalar_after w) w.type-scalar (plan_box_any w (whole ∙ c.if-wholly_any.false) (as_box-any wanted c.in-BoxAny.is) code) c.superset-in-BoxAny.ensures)
 
 pub returns-in-BoxAll : goal.returns-in-BoxAll
 returns-in-BoxAll c =

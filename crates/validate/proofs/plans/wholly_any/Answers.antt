@@ -1,8 +1,9 @@
-use Rattle.validate.proofs.PlanLaws.{not-any, any-by-code}
+use mathlib.Core.Path.{◌∙◌}
+use Rattle.validate.proofs.PlanLaws.{tests_any, not_any, any_by_code}
 use Rattle.validate.proofs.plans.wholly_any.Goals as goal
 
-pub returns-then-not-any : goal.returns-then-not-any
-returns-then-not-any c = λ s p k e h. not-any p k e c.if-not-any.true
+pub returns-then-any : goal.returns-then-any
+returns-then-any c = λ s p k e h. c.eq.ensures ∙ tests_any c.kind_of.result ∙ any_by_code p k e c.if-any.true (c.kind_of.ensures s k h)
 
-pub returns : goal.returns
-returns c = λ s p k e h. any-by-code p k e c.if-not-any.false (c.code_of.ensures s k h)
+pub returns-else-any : goal.returns-else-any
+returns-else-any c = λ s p k e h. not_any p k e c.if-any.false

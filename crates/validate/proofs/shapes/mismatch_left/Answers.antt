@@ -1,14 +1,19 @@
 use mathlib.Core.Path.{◌∙◌}
+use borrow.Author.Rules.{rules}
+use borrow.Author.Tests.{not-true, not-false}
 use Rattle.record.specs.Answers.{dims_of}
+use Rattle.rules.specs.Sizes.{compatible}
 use Rattle.validate.proofs.ShapesLaws.{left-closed, left_open}
+use Rattle.validate.proofs.shapes.mismatch_left.Goals.{then-not-t, else-not-t}
 use Rattle.validate.proofs.shapes.mismatch_left.Goals as goal
-
-pub returns-then-t : goal.returns-then-t
-returns-then-t c =
-    let args = c.args in
-    c.judge.ensures ∙ left-closed (dims_of args.o) args.t c.if-t.true c.size_count-then-t.ensures.0 c.size_count.ensures.0 c.agree.ensures
 
 pub returns : goal.returns
 returns c =
-    let args = c.args in
-    c.judge-2.ensures ∙ left_open (dims_of args.o) args.t c.if-t.false c.agree-2.ensures
+    let o = dims_of c.args.o in
+    let t = c.args.t in
+    let sizes = c.agree.ensures compatible (λ x y r e. search rules) in
+    c.judge.ensures
+    ∙ elim c.if-not-t.branch [
+      | then-not-t w ↦ left_open o t (not-true t.closed w.if-not-t.true) (w.few-is ∙ w.if-not-t.true) sizes
+      | else-not-t w ↦ left-closed o t (not-false t.closed w.if-not-t.false) w.few-is w.size_count-else-not-t.ensures.0 w.size_count.ensures.0 sizes
+    ]

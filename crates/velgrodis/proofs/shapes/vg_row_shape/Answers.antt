@@ -1,7 +1,0 @@
-use mathlib.Core.Path.{ap, ◌∙◌}
-use Rattle.velgrodis.specs.Answers.{written}
-use Rattle.velgrodis.proofs.shapes.vg_row_shape.Goals as goal
-
-pub returns : goal.returns
-returns c =
-    c.of_written.ensures _ ∙ ap written c.row_shape.ensures

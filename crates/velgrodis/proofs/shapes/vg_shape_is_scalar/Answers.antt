@@ -1,6 +1,0 @@
-use mathlib.Core.Path.{ap, ◌∙◌}
-use Rattle.velgrodis.specs.Answers.{tested}
-use Rattle.velgrodis.proofs.shapes.vg_shape_is_scalar.Goals as goal
-
-pub returns : goal.returns
-returns c = c.of_tested.ensures ∙ ap tested c.shape_is_scalar.ensures

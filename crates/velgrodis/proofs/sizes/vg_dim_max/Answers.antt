@@ -1,6 +1,0 @@
-use mathlib.Core.Path.{ap, ◌∙◌}
-use Rattle.velgrodis.specs.Answers.{sized}
-use Rattle.velgrodis.proofs.sizes.vg_dim_max.Goals as goal
-
-pub returns : goal.returns
-returns c = c.of_size.ensures ∙ ap sized c.dim_max.ensures

@@ -1,6 +1,0 @@
-use mathlib.Core.Path.{ap, ◌∙◌}
-use Rattle.velgrodis.specs.Answers.{tested}
-use Rattle.velgrodis.proofs.sizes.vg_dim_row_compatible.Goals as goal
-
-pub returns : goal.returns
-returns c = c.of_tested.ensures ∙ ap tested c.dim_row_compatible.ensures

@@ -1,5 +1,6 @@
 mod ShapeLaws
-mod ScalarLaws
+pub mod ScalarLaws
 mod SpanLaws
 pub mod KnownLaws
+pub mod KnownFacts
 pub mod WholeLaws

@@ -72,12 +72,12 @@ module _ (s : List ℕ) (at d : ℕ) (k : Scalar) (h : ScalarAt s at d k) where
     seen_parts : {C : Type 0} → ((n : Option (List ℕ)) (g : Fields) → k ≡ box_def n g → ScalarAt s at d (box_def n g) → C) → C
     seen_parts go = is_box-def k (sym e) λ n g is. go n g is (subst (ScalarAt s at d) is h)
 
-    name_there : HasName s (at + 6)
+    pub name_there : HasName s (at + 6)
     name_there = seen_parts λ n g is there. record { name = n; there = def-name s at d there }
 
     -- its name, read
     module _ (r : Name) (named : (n : Option (List ℕ)) → NameAt s (at + 6) n → NameIs s (at + 6) n r) where
-      count_there : r.end < length s
+      pub count_there : r.end < length s
       count_there = seen_parts λ n g is there. omega (arith, (named n (def-name s at d there)).ends, def-within s at d there)
 
       pub seen_def : SeenDef s at d k (at + 6) r.named (r.end + 1) (get_or s r.end 0)

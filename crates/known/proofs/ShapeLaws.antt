@@ -6,7 +6,8 @@ use mathlib.Core.Bool.{Bool, false, ◌&&◌}
 use mathlib.Core.List.{List, [], ◌∷◌, ◌++◌, map}
 use mathlib.Core.Option.{Option, none, some}
 use mathlib.Core.Path.{◌≡◌, refl, sym, ◌∙◌, ap}
-use lib.ListN.{length, get_or, take, drop, length-append}
+use lib.ListN.{length, get_or, take, drop, length-append, length-drop, take-append-drop}
+use lib.Seq.{take_all}
 use lib.Dec.{eqb, lit<}
 use borrow.Author.Tests.{ne_eqb}
 use Rattle.std.proofs.lemmas.Bool.{false≢true}
@@ -41,26 +42,64 @@ size_is s at d w within h = go d within (stands-first s at (bytes_of 8 (dim_numb
     go (static n) within h = rw (same n (omega arith) h, ne_eqb n ones (λ x. omega arith))
     go unknown within h = rw (same ones (lit< tt) h)
 
+rest_sizes : (s : List ℕ) (at : ℕ) (d : Dim) (ds : List Dim) → DimsAt s at (d ∷ ds) → DimsAt s (at + 8) ds
+rest_sizes s at d ds h =
+    let eight : at + length (bytes_of 8 (dim_number d)) ≡ at + 8 = omega (arith, length-bytes_of 8 (dim_number d)) in
+    let behind : Stands s (at + 8) (write_dims ds) = rw eight at (stands-second s at (bytes_of 8 (dim_number d)) (write_dims ds) h.stands) in
+    record { stands = behind; records = (omega (arith, h.records.0), h.records.1.1) }
+
 nth_size : (s : List ℕ) (ds : List Dim) (at k : ℕ) → DimsAt s at ds → k < length ds → dim_of (eight_bytes s (at + 8 * k)) ≡ get_or ds k unknown
 nth_size s [] at k h l = absurd (omega arith)
 nth_size s (d ∷ ds) at zero h l = let first : at + 8 * 0 ≡ at = omega arith in rw first (size_is s at d (write_dims ds) h.records.1.0 h.stands)
-nth_size s (d ∷ ds) at (suc k) h l =
-    let eight : at + length (bytes_of 8 (dim_number d)) ≡ at + 8 = omega (arith, length-bytes_of 8 (dim_number d)) in
-    let behind : Stands s (at + 8) (write_dims ds) = rw eight at (stands-second s at (bytes_of 8 (dim_number d)) (write_dims ds) h.stands) in
-    let place : at + 8 * suc k ≡ at + 8 + 8 * k = omega arith in
-    rw place (nth_size s ds (at + 8) k (record { stands = behind; records = (omega (arith, h.records.0), h.records.1.1) }) (omega arith))
+nth_size s (d ∷ ds) at (suc k) h l = let place : at + 8 * suc k ≡ at + 8 + 8 * k = omega arith in rw place (nth_size s ds (at + 8) k (rest_sizes s at d ds h) (omega arith))
 
--- all of them, of an array that has at its places the numbers that stand there
+dims_behind : (s : List ℕ) (ds : List Dim) (at k : ℕ) → DimsAt s at ds → k ≤ length ds → DimsAt s (at + 8 * k) (drop k ds)
+dims_behind s ds at zero h l = let first : at + 8 * 0 ≡ at = omega arith in rw first h
+dims_behind s [] at (suc k) h l = absurd (omega arith)
+dims_behind s (d ∷ ds) at (suc k) h l = let place : at + 8 * suc k ≡ at + 8 + 8 * k = omega arith in rw place (dims_behind s ds (at + 8) k (rest_sizes s at d ds h) (omega arith))
+
+-- the first n of them, of an array that has at its places the numbers that stand there
+first_sizes : (s : List ℕ) (at : ℕ) (ds : List Dim) (sizes : List ℕ) (n : ℕ) → DimsAt s at ds → length sizes ≡ max_sizes → n ≤ length ds →
+    ((k : ℕ) → k < n → get_or sizes k 0 ≡ eight_bytes s (at + 8 * k)) → map dim_of (take n sizes) ≡ take n ds
+first_sizes s at ds sizes n h long few filled =
+    let taken : length (take n sizes) ≡ n = length-take-le n sizes (omega (arith, h.records.0)) in
+    let many : length (map dim_of (take n sizes)) ≡ n = length-map (take n sizes) dim_of ∙ taken in
+    ext_get_or unknown (map dim_of (take n sizes)) (take n ds) (many ∙ sym (length-take-le n ds few)) λ k l.
+    let low : k < n = omega arith in
+    get_or-map dim_of (take n sizes) k 0 unknown (omega arith)
+    ∙ ap dim_of (get_or-take n sizes k 0 low ∙ filled k low)
+    ∙ nth_size s ds at k h (omega arith)
+    ∙ sym (get_or-take n ds k unknown low)
+
+-- the first i are gathered, and the rest of them stands at `at`
+pub record Gathered (s : List ℕ) (count : ℕ) (ds : List Dim) (sizes : List ℕ) (i at : ℕ) : Type 0 where
+  pub rest : List Dim
+  pub there : DimsAt s at rest
+  pub counted : i + length rest ≡ count
+  pub gathered : ds ≡ map dim_of (take i sizes) ++ rest
+
+-- All the places of the array are gone through: up to the count each step puts one more size, and past it none.
+pub record Gathering (s : List ℕ) (start count : ℕ) (ds : List Dim) (sizes : List ℕ) (i : ℕ) : Type 0 where
+  pub during : i ≤ count → Gathered s count ds sizes i (start + 8 * i)
+  pub after : count ≤ i → map dim_of (take count sizes) ≡ ds
+
+-- by what stands at the array's places, however many were gone through
+pub gathering : (s : List ℕ) (start : ℕ) (ds : List Dim) (sizes : List ℕ) {count : ℕ} → DimsAt s start ds → length ds ≡ count → length sizes ≡ max_sizes → {i : ℕ} →
+    ((k : ℕ) → k < i → k < count → get_or sizes k 0 ≡ eight_bytes s (start + 8 * k)) → Gathering s start count ds sizes i
+gathering s start ds sizes {count} h e long {i} filled = record {
+  during = λ less. record {
+    rest = drop i ds;
+    there = dims_behind s ds start i h (omega (arith, e));
+    counted = omega (arith, length-drop i ds, e);
+    gathered = sym (take-append-drop i ds) ∙ ap (λ x. x ++ drop i ds) (sym (first_sizes s start ds sizes i h long (omega (arith, e)) λ k low. filled k low (omega arith)));
+  };
+  after = λ past. first_sizes s start ds sizes count h long (omega (arith, e)) (λ k low. filled k (omega arith) low) ∙ take_all count ds (omega (arith, e));
+}
+
+-- all of them, once all places are gone through
 pub dims_gathered : (s : List ℕ) (at : ℕ) (ds : List Dim) (sizes : List ℕ) {count : ℕ} → DimsAt s at ds → length ds ≡ count → length sizes ≡ max_sizes → {i : ℕ} → max_sizes ≤ i →
     ((k : ℕ) → k < i → k < count → get_or sizes k 0 ≡ eight_bytes s (at + 8 * k)) → map dim_of (take count sizes) ≡ ds
-dims_gathered s at ds sizes {count} h e long all filled =
-    let taken : length (take count sizes) ≡ count = length-take-le count sizes (omega (arith, h.records.0)) in
-    let many : length (map dim_of (take count sizes)) ≡ count = length-map (take count sizes) dim_of ∙ taken in
-    ext_get_or unknown (map dim_of (take count sizes)) ds (many ∙ sym e) λ k l.
-    let low : k < count = omega arith in
-    get_or-map dim_of (take count sizes) k 0 unknown (omega arith)
-    ∙ ap dim_of (get_or-take count sizes k 0 low ∙ filled k (omega (arith, h.records.0)) low)
-    ∙ nth_size s ds at k h (omega arith)
+dims_gathered s at ds sizes h e long all filled = (gathering s at ds sizes h e long filled).after (omega (arith, e, h.records.0))
 
 abbrev pub At_dims : List ℕ → ℕ → List Dim → Type 0 → Type 0
 At_dims s at ds P = (write_dims ds ++ drop (at + length (write_dims ds)) s ≡ write_dims ds ++ drop (at + length (write_dims ds)) s) × P

@@ -1,6 +1,6 @@
 -- A shape's bytes, in either layout: its counts, and then all its sizes, opening and closing ones as one list.
-use Rattle.std.specs.Prelude.{ℕ, ◌+◌, List, [], ◌∷◌, ◌++◌, ◌≡◌, refl, length}
-use Rattle.std.proofs.Common.{append_assoc, sym, ◌∙◌, ap, lit<, length-append}
+use Rattle.std.specs.Prelude.{ℕ, ◌+◌, ◌≤◌, List, [], ◌∷◌, ◌++◌, ◌≡◌, refl, length}
+use Rattle.std.proofs.Common.{arith, append_assoc, sym, ◌∙◌, ap, lit<, length-append}
 use Rattle.model.specs.Limits.{max_sizes}
 use Rattle.model.specs.Types.{Dim, Shape, shape}
 use Rattle.model.specs.Within.{All, DimWithin, ShapeWithin}
@@ -61,3 +61,6 @@ sizes-within (shape o c) h = all_append o (list_of c) h.0.1 (closing-within c h.
 
 pub sizes-counted : (o : Shape) → ShapeWithin o → length (sizes_of o) ≡ opening_count o + list_count (closing_count o)
 sizes-counted (shape o c) h = length-append o (list_of c) ∙ ap (λ n. length o + n) (sym (list_count_ok max_sizes (lit< tt) c (closing-within c h.1).0))
+
+pub sizes-few : (o : Shape) → ShapeWithin o → length (sizes_of o) ≤ max_sizes + max_sizes
+sizes-few (shape o c) h = omega (arith, length-append o (list_of c), h.0.0, (closing-within c h.1).0)

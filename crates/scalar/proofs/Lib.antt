@@ -1,4 +1,5 @@
 mod BoxLaws
+pub mod BoxFacts
 pub mod UnionLaws
 mod UnrefineLaws
 pub mod WholeLaws

@@ -3,3 +3,4 @@ pub mod ApartLaws
 pub mod KeepsLaws
 pub mod LyingLaws
 pub mod StackLaws
+pub mod StackFacts

@@ -43,7 +43,7 @@ use Rattle.cursor.specs.declared.Step as cursor
 use Rattle.cursor.specs.declared.Step.TheVariants.{Put as APut, Row as ARow, Pervading as APervading, Join as AJoin, Validating as AValidating, Declaring as ADeclaring, Using as AUsing}
 use Rattle.tops.specs.Answers.{Workable, OfTop, OfTwo, at_start}
 use Rattle.tops.proofs.TopLaws.{has_one, has-two, row_within, join-within, pervade-within, validated-within}
-use Rattle.step.specs.Answers.{NameTable, Works, StepsTo, RuleWaits, StepWaits, StepsOrWaits, with_names, Ready, StepWorks, RuleWorks, UseWorks, NameKept, Ruled, LaysDown, after_rule}
+use Rattle.step.specs.Answers.{NameTable, name_table, Works, StepsTo, RuleWaits, StepWaits, StepsOrWaits, with_names, Ready, StepWorks, RuleWorks, UseWorks, NameKept, Ruled, LaysDown, after_rule}
 use Rattle.step.specs.declared.Worked.{Worked}
 use Rattle.step.specs.declared.Stepped.{Stepped}
 
@@ -261,6 +261,25 @@ abbrev pub StepsFrom : Memory → ℕ → NameTable → ℕ → ℕ → Result S
 StepsFrom m count t named at r m₁ t₁ out =
     (st : State Stack) → Stacked m count st.stack → InForce m.sheet t.places t.bounds named st.names → StepsOrWaits r m₁ t₁ at out st
 
+-- one of the five rules on a sheet s, of which four may wait
+module _ (s : List ℕ) (at : ℕ) {m : Memory} {count named : ℕ} {places bounds : List ℕ} (st : State Stack) (h : Stacked m count st.stack) (force : InForce s places bounds named st.names) where
+  module _ (r : Result Worked Refusal) (m₁ : Memory) (same : m₁.sheet ≡ s) (x : Step) {n : ℕ} (e : step_from s count at at ≡ got (working x) n) where
+    abbrev t : NameTable
+    t = name_table places bounds
+
+    worked : Works r m₁ (placed (step x st.stack) at n) → StepsTo (with_names r named) m₁ t (work_from s st at at)
+    worked works =
+        let read = written_read s (length st.stack) st.names at at (working x) n (ap (λ k. step_from s k at at) (stacked-count m count h) ∙ e) refl refl in
+        rw (work_rule s st at at (working x) n read, steps-one x st.stack)
+        (lifted m₁ t named st (working x) (rw same force) at n r (step x st.stack) works)
+
+    pub worked_or_waits : (out : List ℕ) → RuleWorks x at n m count out r m₁ → StepsOrWaits (with_names r named) m₁ t at out st
+    worked_or_waits out works =
+        ⊎_elim
+        (λ w. inl (subst (λ l. StepsTo (with_names r named) m₁ t (work_from l st at at)) (sym same) (worked w)))
+        (λ waits. inr (lifted_waits m₁ t named st (rw same force) at out r waits))
+        (works st.stack h)
+
 module _ (m : Memory) (count : ℕ) (t : NameTable) (named at : ℕ) where
   module _ (st : State Stack) (h : Stacked m count st.stack) (force : InForce m.sheet t.places t.bounds named st.names) where
     -- as it is read on that stack
@@ -269,14 +288,6 @@ module _ (m : Memory) (count : ℕ) (t : NameTable) (named at : ℕ) where
 
     unworked : {k p : ℕ} → step_from m.sheet count at at ≡ stopped k p → work_from m.sheet st at at ≡ stopped k p
     unworked {k} {p} e = work-unread m.sheet st at at k p (written-unread m.sheet (length st.stack) st.names at at k p (here e))
-
-    -- one of the five rules
-    ruled : (x : Step) {n : ℕ} → step_from m.sheet count at at ≡ got (working x) n → (r : Result Worked Refusal) (m₁ : Memory) → m₁.sheet ≡ m.sheet
-        → Works r m₁ (placed (step x st.stack) at n) → StepsTo (with_names r named) m₁ t (work_from m.sheet st at at)
-    ruled x {n} e r m₁ same works =
-        let read = written_read m.sheet (length st.stack) st.names at at (working x) n (here e) refl refl in
-        rw (work_rule m.sheet st at at (working x) n read, steps-one x st.stack)
-        (lifted m₁ t named st (working x) (rw same force) at n r (step x st.stack) works)
 
     -- a use: the put of the type in force, or 15
     used : (name : TableName) {n : ℕ} → step_from m.sheet count at at ≡ got (using_name name) n → (r : Result Worked Refusal) (m₁ : Memory) → m₁.sheet ≡ m.sheet
@@ -317,12 +328,7 @@ module _ (m : Memory) (count : ℕ) (t : NameTable) (named at : ℕ) where
     module _ (q : Result Stepped Refusal) (m₁ : Memory) (same : m₁.sheet ≡ m.sheet) (out : List ℕ) where
       module _ (r : Result Worked Refusal) (named_as : q ≡ with_names r named) where
         rule_steps : (y : Step) {n : ℕ} → step_from m.sheet count at at ≡ got (working y) n → RuleWorks y at n m count out r m₁ → StepsFrom m count t named at q m₁ t out
-        rule_steps y e works st h force =
-            rw named_as
-            (⊎_elim
-            (λ w. inl (subst (λ l. StepsTo (with_names r named) m₁ t (work_from l st at at)) (sym same) (ruled st h force y e r m₁ same w)))
-            (λ waits. inr (lifted_waits m₁ t named st (rw same force) at out r waits))
-            (works st.stack h))
+        rule_steps y e works st h force = rw named_as (worked_or_waits m.sheet at st h force r m₁ same y e out works)
 
         pub row_steps : {n : ℕ} → x ≡ ARow n → RuleWorks row at n m count out r m₁ → StepsFrom m count t named at q m₁ t out
         row_steps is works = rule_steps row (read_as m count at x read is) works

@@ -120,14 +120,21 @@ plain_row w o (ty s k) shaped coded apart = is_plain k (λ e. apart (coded ∙ e
 not_box : (l : codes.Kind) → true ≡ not (sameb the_type l Box) → code_for l ≡ box_code → ⊥
 not_box l e f = grind arith
 
--- its scalar begins at `at`
+-- its scalar begins at `at`, and its kind has the code x
+module _ (s : List ℕ) (small : Bytes s) (good : mapped nothing (lone s) ≡ accepted 0) {at : ℕ} (begins : Begins s at) {x : ℕ} (kind : (d : ℕ) (k : Scalar) → ScalarAt s at d k → x ≡ code_of k) {o : List Dim} {closed : Bool}
+    (opening : (d : ℕ) (t : Ty) → TypeAt s 0 d t → o ≡ opening_of (shape_of t))
+    (says : (d : ℕ) (t : Ty) → TypeAt s 0 d t → closed ≡ is_closed (shape_of t)) where
+  pub row-closed : closed ≡ true → (x ≡ box_code → ⊥) → (w : Which) {r : List Dim} → r ≡ drop 1 o → mapped (λ t. write_ty (row_by (chosen w) t)) (lone s) ≡ accepted (closed_record r x)
+  row-closed e apart w is = passed-accepted (lone s) good λ t read.
+      let shaped = closed-shape opening says max_depth t (type-there s small t read) e in
+      let coded = kind (max_depth - 1) (scalar_of t) (scalar-there s small begins t read) in
+      rw (read, is) (ap accepted (plain_row w o t shaped coded apart))
+
+-- of a kind
 module _ (s : List ℕ) (small : Bytes s) (good : mapped nothing (lone s) ≡ accepted 0) {at : ℕ} (begins : Begins s at) (l : codes.Kind) (kind : (d : ℕ) (k : Scalar) → ScalarAt s at d k → code_for l ≡ code_of k) {o : List Dim}
     (opening : (d : ℕ) (t : Ty) → TypeAt s 0 d t → o ≡ opening_of (shape_of t))
     (closed : (d : ℕ) (t : Ty) → TypeAt s 0 d t → true ≡ is_closed (shape_of t)) where
   pub row_closed : true ≡ not (sameb the_type l Box) → (w : Which) {r : List Dim} → r ≡ drop 1 o → accepted (closed_record r (code_for l)) ≡ mapped (λ t. write_ty (row_by (chosen w) t)) (lone s)
-  row_closed apart w is = passed-accepted (lone s) good λ t read.
-      let shaped = closed-shape opening closed max_depth t (type-there s small t read) refl in
-      let coded = kind (max_depth - 1) (scalar_of t) (scalar-there s small begins t read) in
-      rw (read, is) (ap accepted (sym (plain_row w o t shaped coded (not_box l apart))))
+  row_closed apart w is = sym (row-closed s small good begins kind opening closed refl (not_box l apart) w is)
 
 pub ruleset parted = (parts_length, parts_laid, deliver_bytes, deliver_nothing)

@@ -43,7 +43,7 @@ pub fn join_known(a: &[u8], b: &[u8], res: &mut [u8]) -> Result<usize, Refusal>
         if let Some(kind) = union_kind(a, b) {
             return write_closed(
                 join_dims(opening_at(a, 0), opening_at(b, 0)),
-                kind,
+                kind.code(),
                 &mut *res,
             );
         }
@@ -68,7 +68,7 @@ pub fn write_union(shape: DynShape, a: &[u8], b: &[u8], res: &mut [u8]) -> Resul
     ensures { delivered result res.new ≡ deliver (of_scalars (λ k l. write_ty (ty (shape_for shape) (rules.union k l))) a.now b.now) res.old }
 {
     match unite(a, b) {
-        United::Kind(kind) => write_plain(shape, kind, &mut *res),
+        United::Kind(kind) => write_plain(shape, kind.code(), &mut *res),
         United::First(i) => write_parts(shape, b"", &a[i..], &mut *res),
         United::Second(j) => write_parts(shape, b"", &b[j..], &mut *res),
         United::BoxAny => write_parts(shape, b"", &BOX_ANY_SCALAR, &mut *res),

@@ -1,4 +1,4 @@
-// Two kinds by their codes, looked up in the table of kinds (document 02, 2026-02), and the table handed out.
+// Two kinds, looked up in the table of kinds (document 02, 2026-02), and the table handed out.
 // The table is a constant, which is made anew on the stack wherever a number is looked up in it. So the most frequent pairs, a kind beside
 // itself, are answered before.
 #![tactic(auto)]

@@ -1,4 +1,4 @@
-// The three rules of two kinds, by their codes, as `scalar.rs` has them. The checker itself looks their answers up in the table.
+// The three rules of two kinds, as `scalar.rs` has them. The checker itself looks their answers up in the table.
 ghost use Rattle.std.specs.Prelude.{◌≡◌};
 ghost use Rattle.limits.specs.Codes.{code_for};
 ghost use Rattle.model.specs.Types.{Scalar};
@@ -18,9 +18,9 @@ pub fn superset_of(k: Kind, l: Kind) -> bool
     if k == Kind::Any {
         return true;
     }
-    let place = kind_place(k);
-    if place <= kind_place(Kind::Complex) {
-        return kind_place(l) <= place;
+    let place = kind_place(k.code() as u64);
+    if place <= kind_place(Kind::Complex.code() as u64) {
+        return kind_place(l.code() as u64) <= place;
     }
     k == Kind::Char && l == Kind::Ascii || k == l
 }

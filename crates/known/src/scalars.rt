@@ -64,11 +64,11 @@ fn look_inside(s: &[u8], at: usize) -> View
     }
 }
 
-// Another kind where a kind stands.
+// The code of another kind where a kind stands.
 #[tactic(auto, using(crate::proofs::ScalarLaws::kind_inside))]
-pub fn put_kind(out: &mut [u8], at: usize, kind: Kind)
+pub fn put_kind(out: &mut [u8], at: usize, kind: u8)
     requires { (d : ℕ) × (k : types.Kind) × ScalarAt out.old at d (plain k) }
-    ensures { (d : ℕ) (k l : types.Kind) → ScalarAt out.old at d (plain k) → code_for kind ≡ code l → out.new ≡ over out.old at (write_scalar (plain l)) }
+    ensures { (d : ℕ) (k l : types.Kind) → ScalarAt out.old at d (plain k) → kind ≡ code l → out.new ≡ over out.old at (write_scalar (plain l)) }
 {
-    out[at + 2] = kind.code();
+    out[at + 2] = kind;
 }

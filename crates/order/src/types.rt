@@ -108,7 +108,7 @@ fn compare_scalars(a: &[u8], i: usize, b: &[u8], j: usize, depth: u64) -> Rankin
 fn rank_kinds(k: Kind, l: Kind, end: usize) -> Ranking
     ensures { result ≡ ranking_of (cmp_kind (code_for k) (code_for l)) end }
 {
-    match kind_place(k).cmp(&kind_place(l)) {
+    match kind_place(k.code() as u64).cmp(&kind_place(l.code() as u64)) {
         Ordering::Less => Ranking::Less,
         Ordering::Equal => Ranking::Same(end),
         Ordering::Greater => Ranking::More,

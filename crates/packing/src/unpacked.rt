@@ -93,7 +93,7 @@ fn unpack_scalar(s: &[u8], from: usize, out: &mut [u8], to: usize) -> Head
     match Kind::of_code(s[from]) {
         Kind::Box => {
             let form = Form::of_code(s[from + 1]);
-            let next = put_box(&mut *out, to, form);
+            let next = put_box(&mut *out, to, form.code());
             match form {
                 Form::Any => Head {
                     from: from + 2,
@@ -110,7 +110,7 @@ fn unpack_scalar(s: &[u8], from: usize, out: &mut [u8], to: usize) -> Head
         }
         kind => Head {
             from: from + 1,
-            to: put_plain(&mut *out, to, kind),
+            to: put_plain(&mut *out, to, kind.code()),
             contents: 0,
         },
     }

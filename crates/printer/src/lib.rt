@@ -71,7 +71,7 @@ fn put_outcome(sheet: &[u8], res: &mut [u8], scratch: &mut [u8], out: &mut [u8])
 {
     if MAX_SHEET < sheet.len() {
         clear(scratch);
-        return put_refusal(Refusal(Reason::TooShort, 0), out, 0);
+        return put_refusal(Reason::TooShort.number() as u64, 0, out, 0);
     }
     put_call(sheet, res, scratch, b"\n", out)
 }
@@ -92,6 +92,6 @@ pub fn put_call(
     let mut lengths = [0usize; MAX_STACK];
     match measure_sheet(sheet, &mut *res, scratch, &mut lengths) {
         Ok(left) => put_left(left.types, &lengths, &res[..left.bytes], between, out, 0),
-        Err(refusal) => put_refusal(refusal, out, 0),
+        Err(Refusal(reason, place)) => put_refusal(reason.number() as u64, place as u64, out, 0),
     }
 }

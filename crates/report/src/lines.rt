@@ -2,23 +2,20 @@
 ghost use Rattle.std.specs.Prelude.{◌≡◌, List, ℕ, ◌+◌, ◌*◌, ◌≤◌, length};
 ghost use Rattle.model.specs.Types.{Ty};
 ghost use Rattle.format.specs.Outcome.{accepted, refused};
-ghost use Rattle.limits.specs.Answers.{number_of};
 ghost use Rattle.report.specs.Laid.{Laid};
 ghost use Rattle.report.specs.Left.{LeftIs, Left};
 ghost use Rattle.report.specs.Report.{headed, type_line, type_lines, reported};
 ghost use Rattle.report.specs.Room.{head_room, line_room, lines_room, text_room};
 
 use crate::parts::{put, put_hex, put_number};
-use limits::refusal::Refusal;
 
 // A refusal.
 #[tactic(auto, unfolding(crate::specs::Report::reported))]
-pub fn put_refusal(refusal: Refusal, out: &mut [u8], at: usize) -> usize
+pub fn put_refusal(number: u64, place: u64, out: &mut [u8], at: usize) -> usize
     requires { at + head_room ≤ length out.old }
-    ensures { (between : List ℕ) → Laid result at out.old out.new (reported between (refused (number_of refusal.0) refusal.1)) }
+    ensures { (between : List ℕ) → Laid result at out.old out.new (reported between (refused number place)) }
 {
-    let Refusal(reason, place) = refusal;
-    put_head(b"no ", reason.number() as u64, place as u64, out, at)
+    put_head(b"no ", number, place, out, at)
 }
 
 // The types left, whose records stand one after the other in `bytes`, each of its length.

@@ -11,7 +11,7 @@ mod whole;
 use limits::Kind;
 pub use refinement::unrefine;
 pub use tests::{compatible_scalars, compatible_with_boxes, superset};
-pub use unions::{union, unite};
+pub use unions::{union, unite, unite_boxes};
 pub use whole::kind_of;
 
 // Where an All box's content begins, or the kind of any other scalar.
@@ -32,7 +32,7 @@ pub enum United {
 
 // Which of two boxes their union is; neither, where it is a box Any.
 #[derive(Clone, Copy)]
-enum Chosen {
+pub enum Chosen {
     First,
     Second,
     Neither,

@@ -39,7 +39,7 @@ fn unrefine_at(out: &mut [u8], at: usize, depth: u64) -> usize
 {
     match look(&*out, at) {
         View::Plain { kind, end } => {
-            put_kind(&mut *out, at, unrefine_kind(kind));
+            put_kind(&mut *out, at, unrefine_kind(kind).code());
             end
         }
         View::BoxAny { end } => end,

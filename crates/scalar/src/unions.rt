@@ -31,7 +31,7 @@ pub fn union(a: &[u8], b: &[u8], res: &mut [u8]) -> Result<usize, Refusal>
 {
     read_two(a, b)?;
     match unite(a, b) {
-        United::Kind(kind) => write_kind(kind, &mut *res),
+        United::Kind(kind) => write_kind(kind.code(), &mut *res),
         United::First(i) => hand_over(&a[i..], &mut *res),
         United::Second(j) => hand_over(&b[j..], &mut *res),
         United::BoxAny => hand_over(&BOX_ANY_SCALAR, &mut *res),
@@ -48,7 +48,7 @@ pub fn unite(a: &[u8], b: &[u8]) -> United
     let j = start_of(b);
     match kind_table::union(kind_at(a, i), kind_at(b, j)) {
         Some(kind) => United::Kind(kind),
-        None => match choose_box(a, i, b, j, MAX_DEPTH - 1) {
+        None => match unite_boxes(a, i, b, j, MAX_DEPTH - 1) {
             Chosen::First => United::First(i),
             Chosen::Second => United::Second(j),
             Chosen::Neither => United::BoxAny,
@@ -57,7 +57,7 @@ pub fn unite(a: &[u8], b: &[u8]) -> United
 }
 
 // Two boxes inside bytes: the first, unless both are All boxes.
-fn choose_box(a: &[u8], i: usize, b: &[u8], j: usize, depth: u64) -> Chosen
+pub fn unite_boxes(a: &[u8], i: usize, b: &[u8], j: usize, depth: u64) -> Chosen
     requires { HasScalar a.now i depth × HasScalar b.now j depth }
     ensures { (k l : Scalar) → ScalarAt a.now i depth k → ScalarAt b.now j depth l → code_of k ≡ box_code → code_of l ≡ box_code → chosen_of result k l ≡ union k l }
 {

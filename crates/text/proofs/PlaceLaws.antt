@@ -1,18 +1,13 @@
 -- Laws of what is put into a buffer.
 use Prim.Native.Nat.{ℕ, ◌+◌, ◌%◌, ◌≤◌, ◌<◌}
 use mathlib.Core.Bool.{true, false}
-use mathlib.Core.List.{List, ◌++◌}
-use mathlib.Core.Path.{◌≡◌, ap}
-use lib.ListN.{length, take, drop}
-use lib.Seq.{paste, take-length}
+use mathlib.Core.List.{List}
+use mathlib.Core.Path.{◌≡◌}
+use lib.ListN.{length}
 use borrow.Author.Tests.{le-leb, lt-leb, eq-eqb, ne_eqb}
 use Rattle.lent.specs.Over.{over}
 use Rattle.text.specs.Digits.{are_digits, unhex}
 use Rattle.text.specs.Place.{placed, no_room, not_hex, place, place_decoded}
-
--- All of it, pasted, is laid over.
-pub paste_all : (d : List ℕ) (at : ℕ) (w : List ℕ) (n : ℕ) → n ≡ length w → paste d at w n ≡ over d at w
-paste_all d at w n e = rw e (ap (λ x. take at d ++ x ++ drop (at + length w) d) (take-length w))
 
 module _ (d : List ℕ) (at : ℕ) (w : List ℕ) where
   pub place_short : length d < at + length w → place d at w ≡ no_room d

@@ -79,7 +79,7 @@ fn are_digits(text: &[u8]) -> bool
     text.iter().all(|&c| hex_digit_value(c).is_some())
 }
 
-#[tactic(auto, using(crate::proofs::ParseLaws::digit_below, crate::proofs::ParseLaws::decoded_more, crate::proofs::ParseLaws::decoded_lengths, crate::proofs::PlaceLaws::paste_all))]
+#[tactic(auto, using(crate::proofs::ParseLaws::digit_below, crate::proofs::ParseLaws::decoded_more, crate::proofs::ParseLaws::decoded_lengths, lent::proofs::LayLaws::paste_all))]
 fn lay_decoded(text: &[u8], out: &mut [u8], at: usize)
     requires text_value { are_digits 16 text.now ≡ true }
     requires text_in_bounds { at + length text.now / 2 ≤ length out.old }

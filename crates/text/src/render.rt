@@ -45,7 +45,7 @@ pub fn put_decimal(n: u64, out: &mut [u8], at: usize) -> Option<usize>
     put_bytes(&digits[..k], out, at)
 }
 
-#[tactic(auto, using(crate::proofs::PlaceLaws::paste_all, crate::proofs::RenderLaws::lengths, crate::proofs::RenderLaws::hex_more))]
+#[tactic(auto, using(lent::proofs::LayLaws::paste_all, crate::proofs::RenderLaws::lengths, crate::proofs::RenderLaws::hex_more))]
 fn lay_hex(bytes: &[u8], out: &mut [u8], at: usize)
     requires { at + 2 * length bytes.now ≤ length out.old }
     ensures { out.new ≡ over out.old at (hex_of bytes.now) }

@@ -152,7 +152,7 @@ fn pervade_plain(
         (plainly (code_for kind) (pervade_in_sheets a_fill b_fill (shape (dims_of a) none) (shape (dims_of b) none))) out.old }
 {
     match pervade_closed(a, b, a_fill, b_fill, Pervading::InSheets) {
-        Some(dims) => write_closed(dims, kind, &mut *out),
+        Some(dims) => write_closed(dims, kind.code(), &mut *out),
         None => Err(Refusal(Reason::Unpervaded, 0)),
     }
 }

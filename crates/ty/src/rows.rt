@@ -72,7 +72,7 @@ pub fn row_known(ty: &[u8], which: Which, res: &mut [u8]) -> Result<usize, Refus
     if closed_at(ty, 0) {
         let kind = kind_at(ty, scalar_at(ty, 0));
         if kind != Kind::Box {
-            return write_closed(rest_dims(opening_at(ty, 0)), kind, &mut *res);
+            return write_closed(rest_dims(opening_at(ty, 0)), kind.code(), &mut *res);
         }
     }
     row_any(ty, which, &mut *res)

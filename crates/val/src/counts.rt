@@ -47,7 +47,8 @@ pub fn rank(v: Value, list: &[f64], bytes: &[u8]) -> Result<u64, Refusal>
     }
 }
 
-// The shape of a type.
+// The shape of a type. A part of each call, so that it goes from the bytes to the count and is not copied.
+#[inline(always)]
 #[tactic(auto, using(crate::proofs::CountLaws::shaped))]
 fn type_shape(ty: &[u8]) -> Result<DynShape, Refusal>
     ensures { mapped shape_for (told result) ≡ mapped shape_of (lone ty.now) }

@@ -21,7 +21,7 @@ pub fn ty(v: Value, list: &[f64], bytes: &[u8], res: &mut [u8]) -> Result<usize,
     ensures { delivered result res.new ≡ deliver (mapped write_ty (bound value_ty (value_of v list.now bytes.now))) res.old }
 {
     match v {
-        Value::Num(_) => write_closed(no_dims(), Kind::Num, &mut *res),
+        Value::Num(_) => write_closed(no_dims(), Kind::Num.code(), &mut *res),
         Value::List => ty_of_list(list, &mut *res),
         Value::Of => write_same(bytes, &mut *res),
     }
@@ -32,7 +32,7 @@ fn ty_of_list(list: &[f64], res: &mut [u8]) -> Result<usize, Refusal>
     ensures { delivered result res.new ≡ deliver (mapped write_ty (value_ty (numbers list.now))) res.old }
 {
     let length = row_count_of_list(list)?;
-    write_closed(one_dim(length), Kind::Num, &mut *res)
+    write_closed(one_dim(length), Kind::Num.code(), &mut *res)
 }
 
 // A number is the size that it stands for, a list its sizes, either of Any; a type is itself.
@@ -52,7 +52,7 @@ fn spec_of_number(x: f64, res: &mut [u8]) -> Result<usize, Refusal>
     ensures { delivered result res.new ≡ deliver (mapped write_ty (value_spec (number x))) res.old }
 {
     match listed_dim(x) {
-        Ok(size) => write_closed(one_dim(size), Kind::Any, &mut *res),
+        Ok(size) => write_closed(one_dim(size), Kind::Any.code(), &mut *res),
         Err(reason) => Err(Refusal(reason, 0)),
     }
 }
@@ -61,7 +61,7 @@ fn spec_of_number(x: f64, res: &mut [u8]) -> Result<usize, Refusal>
 fn spec_of_list(list: &[f64], res: &mut [u8]) -> Result<usize, Refusal>
     ensures { delivered result res.new ≡ deliver (mapped write_ty (value_spec (numbers list.now))) res.old }
 {
-    write_closed(dims_of(list)?, Kind::Any, &mut *res)
+    write_closed(dims_of(list)?, Kind::Any.code(), &mut *res)
 }
 
 // The kind that fits the values of numbers; a type's own scalar.
@@ -70,7 +70,7 @@ pub fn scalar(v: Value, list: &[f64], bytes: &[u8], res: &mut [u8]) -> Result<us
     ensures { delivered result res.new ≡ deliver (mapped write_scalar (mapped value_scalar (value_of v list.now bytes.now))) res.old }
 {
     match v {
-        Value::Num(x) => write_kind(kind_of_number(x), &mut *res),
+        Value::Num(x) => write_kind(kind_of_number(x).code(), &mut *res),
         Value::List => nums_scalar(list, &mut *res),
         Value::Of => scalar_record(bytes, &mut *res),
     }
@@ -80,5 +80,5 @@ pub fn scalar(v: Value, list: &[f64], bytes: &[u8], res: &mut [u8]) -> Result<us
 pub fn nums_scalar(list: &[f64], res: &mut [u8]) -> Result<usize, Refusal>
     ensures { delivered result res.new ≡ deliver (accepted (write_scalar (nums_scalar list.now))) res.old }
 {
-    write_kind(kind_of(list), &mut *res)
+    write_kind(kind_of(list).code(), &mut *res)
 }

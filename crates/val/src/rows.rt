@@ -34,7 +34,8 @@ pub fn into_last_row(v: Value, list: &[f64], bytes: &[u8], res: &mut [u8]) -> Re
     row_by(v, RowKind::Last, list, bytes, &mut *res)
 }
 
-// All three rows: a number's is itself.
+// All three rows: a number's is itself. A part of each call, which for a number has little else to do.
+#[inline(always)]
 #[tactic(auto, unfolding(crate::specs::Values::deliver_row))]
 fn row_by(
     v: Value,
@@ -80,7 +81,7 @@ fn row_of_list(list: &[f64], res: &mut [u8]) -> Result<Row, Refusal>
     if list.len() == 1 {
         return Ok(Row::Number(list[0]));
     }
-    write_closed(no_dims(), Kind::Num, &mut *res).map(Row::Wrote)
+    write_closed(no_dims(), Kind::Num.code(), &mut *res).map(Row::Wrote)
 }
 
 #[tactic(auto, using(crate::proofs::RowLaws::first_none, crate::proofs::RowLaws::first_some), unfolding(crate::specs::Values::deliver_row))]

@@ -21,10 +21,10 @@ head-behind before head {to} {r} {after} room h =
     let l : to + length head ≤ length before = omega (arith, h.ends, h.short) in
     ap (λ n. take n after) h.ends ∙ ap (take (to + length head)) h.laid ∙ take-over before to head l
 
--- ---- a box's head, as it is written
+-- ---- a box's head, as it is written by the code x of its form
 
-pub box-laid : (form : ℕ) {out : List ℕ} {to r : ℕ} {after : List ℕ} → (r ≡ to + length (box_start form)) × (after ≡ over out to (box_start form)) → HeadIs to (box_start form) out r after
-box-laid form h = record { ends = h.0; short = omega (arith, h.0); laid = h.1 }
+pub box-laid : (form : ℕ) {x : ℕ} → x ≡ form → {out : List ℕ} {to r : ℕ} {after : List ℕ} → (r ≡ to + length (box_start x)) × (after ≡ over out to (box_start x)) → HeadIs to (box_start form) out r after
+box-laid form e {out} {to} h = record { ends = h.0; short = omega (arith, h.0); laid = h.1 ∙ ap (λ n. over out to (box_start n)) e }
 
 -- ---- a Def's head
 

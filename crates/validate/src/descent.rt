@@ -65,7 +65,7 @@ pub fn check_scalar_at(
         Plan::Keep => Ok(copy_scalar(ty, j, &mut *out, to)),
         Plan::Take => Ok(copy_scalar(spec, i, &mut *out, to)),
         Plan::Inside { content, other } => {
-            let inner = put_box(&mut *out, to, Form::All);
+            let inner = put_box(&mut *out, to, Form::All.code());
             check_type(
                 Side::Unsided,
                 spec,

@@ -17,7 +17,7 @@ pub fn put_def(s: &[u8], name: usize, count: u8, out: &mut [u8], to: usize) -> u
     ensures { (label : Option (List ℕ)) → NameAt s.now name label → HeadIs to (def_head label count) out.old result out.new }
 {
     let end = name_at(s, name).end;
-    let start = put_box(&mut *out, to, Form::Def);
+    let start = put_box(&mut *out, to, Form::Def.code());
     lay(&s[name..end], &mut *out, start);
     let last = start + (end - name);
     out[last] = count;

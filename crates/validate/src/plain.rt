@@ -36,7 +36,7 @@ pub fn validate_plain(
         return Err(Refusal(Reason::WrongScalar, 0));
     }
     match mismatch_closed(wanted, dims) {
-        Ok(()) => write_closed(merge_dims(dims, wanted), kind, &mut *res),
+        Ok(()) => write_closed(merge_dims(dims, wanted), kind.code(), &mut *res),
         Err(reason) => Err(Refusal(reason, 0)),
     }
 }

@@ -7,7 +7,6 @@ ghost use Rattle.model.specs.Limits.{max_sizes};
 ghost use Rattle.format.specs.Reader.{bytes_of};
 ghost use Rattle.format.specs.Records.{shape_mark, mark_bytes, box_start, count_of, write_dims, write_shape};
 ghost use Rattle.format.specs.Outcome.{accepted, deliver, mapped, lone, shape_record, scalar_record};
-ghost use Rattle.limits.specs.Codes.{code_for, form_code};
 ghost use Rattle.lent.specs.Over.{over};
 ghost use Rattle.lent.specs.Written.{delivered};
 ghost use Rattle.record.specs.Answers.{dims_of, closing_for, shape_for};
@@ -16,7 +15,7 @@ ghost use Rattle.writer.specs.Kinds.{kind_record, closed_record};
 use known::{scalar_at, shape_at};
 use lent::hand_over;
 use limits::refusal::{Reason, Refusal};
-use limits::{ABSENT, Form, Kind, MAX_SIZES, marks};
+use limits::{ABSENT, Kind, MAX_SIZES, marks};
 use record::{Dims, DynShape, read_lone};
 
 // Eight bytes, low byte first.
@@ -134,23 +133,23 @@ pub fn put_shape(out: &mut [u8], at: usize, shape: DynShape) -> usize
 // Bytes of a plain scalar's record.
 const PLAIN_BYTES: usize = 3;
 
-// A plain scalar's record, from `at` on. Answers the place after it.
+// A plain scalar's record, by the code of its kind, from `at` on. Answers the place after it.
 #[tactic(auto, using(crate::proofs::Records::three_stores))]
-pub fn put_plain(out: &mut [u8], at: usize, kind: Kind) -> usize
+pub fn put_plain(out: &mut [u8], at: usize, kind: u8) -> usize
     requires { at + 3 ≤ length out.old }
-    ensures { (result ≡ at + 3) × (out.new ≡ over out.old at (kind_record (code_for kind))) }
+    ensures { (result ≡ at + 3) × (out.new ≡ over out.old at (kind_record kind)) }
 {
     out[at] = marks::SCALAR.first;
     out[at + 1] = marks::SCALAR.second;
-    out[at + 2] = kind.code();
+    out[at + 2] = kind;
     at + PLAIN_BYTES
 }
 
 // A type whose shape is closed and whose scalar is plain, from `at` on. Answers the place after it.
 #[tactic(auto, using(crate::proofs::PlainLaws::length_closed, crate::proofs::PlainLaws::closed_type))]
-pub fn put_closed(out: &mut [u8], at: usize, dims: Dims, kind: Kind) -> usize
-    requires { at + length (closed_record (dims_of dims) (code_for kind)) ≤ length out.old }
-    ensures { (result ≡ at + length (closed_record (dims_of dims) (code_for kind))) × (out.new ≡ over out.old at (closed_record (dims_of dims) (code_for kind))) }
+pub fn put_closed(out: &mut [u8], at: usize, dims: Dims, kind: u8) -> usize
+    requires { at + length (closed_record (dims_of dims) kind) ≤ length out.old }
+    ensures { (result ≡ at + length (closed_record (dims_of dims) kind)) × (out.new ≡ over out.old at (closed_record (dims_of dims) kind)) }
 {
     put_head(&mut *out, at, size_count(dims) as u8, ABSENT as u8);
     let next = put_places(&mut *out, at + 4, dims);
@@ -159,16 +158,16 @@ pub fn put_closed(out: &mut [u8], at: usize, dims: Dims, kind: Kind) -> usize
 
 // A box's record up to its form, from `at` on. Answers the place after it.
 #[tactic(auto, using(crate::proofs::Records::six_stores))]
-pub fn put_box(out: &mut [u8], at: usize, form: Form) -> usize
-    requires { at + length (box_start (form_code form)) ≤ length out.old }
-    ensures { (result ≡ at + length (box_start (form_code form))) × (out.new ≡ over out.old at (box_start (form_code form))) }
+pub fn put_box(out: &mut [u8], at: usize, form: u8) -> usize
+    requires { at + length (box_start form) ≤ length out.old }
+    ensures { (result ≡ at + length (box_start form)) × (out.new ≡ over out.old at (box_start form)) }
 {
     out[at] = marks::SCALAR.first;
     out[at + 1] = marks::SCALAR.second;
     out[at + 2] = Kind::Box.code();
     out[at + 3] = marks::BOX.first;
     out[at + 4] = marks::BOX.second;
-    out[at + 5] = form.code();
+    out[at + 5] = form;
     at + 6
 }
 
@@ -185,8 +184,8 @@ pub fn write_shape(shape: DynShape, res: &mut [u8]) -> Result<usize, Refusal>
 
 // A plain scalar's record, to the front of the result.
 #[tactic(auto, using(lent::specs::Delivers::deliver_bytes, lent::specs::Delivers::deliver_nothing))]
-pub fn write_kind(kind: Kind, res: &mut [u8]) -> Result<usize, Refusal>
-    ensures { delivered result res.new ≡ deliver (accepted (kind_record (code_for kind))) res.old }
+pub fn write_kind(kind: u8, res: &mut [u8]) -> Result<usize, Refusal>
+    ensures { delivered result res.new ≡ deliver (accepted (kind_record kind)) res.old }
 {
     if res.len() < PLAIN_BYTES {
         return Err(Refusal(Reason::TooShort, 0));
@@ -196,8 +195,8 @@ pub fn write_kind(kind: Kind, res: &mut [u8]) -> Result<usize, Refusal>
 
 // A type whose scalar is plain, to the front of the result.
 #[tactic(auto, using(lent::specs::Delivers::deliver_bytes, lent::specs::Delivers::deliver_nothing, crate::proofs::PlainLaws::length_plain, crate::proofs::PlainLaws::plain_type))]
-pub fn write_plain(shape: DynShape, kind: Kind, res: &mut [u8]) -> Result<usize, Refusal>
-    ensures { delivered result res.new ≡ deliver (accepted (write_shape (shape_for shape) ++ kind_record (code_for kind))) res.old }
+pub fn write_plain(shape: DynShape, kind: u8, res: &mut [u8]) -> Result<usize, Refusal>
+    ensures { delivered result res.new ≡ deliver (accepted (write_shape (shape_for shape) ++ kind_record kind)) res.old }
 {
     let n = shape_length(shape);
     if res.len() < n + PLAIN_BYTES {
@@ -209,8 +208,8 @@ pub fn write_plain(shape: DynShape, kind: Kind, res: &mut [u8]) -> Result<usize,
 
 // A type whose shape is closed and whose scalar is plain, to the front of the result: it is written at once, and no closing list is made for it.
 #[tactic(auto, using(lent::specs::Delivers::deliver_bytes, lent::specs::Delivers::deliver_nothing, crate::proofs::PlainLaws::length_closed))]
-pub fn write_closed(dims: Dims, kind: Kind, res: &mut [u8]) -> Result<usize, Refusal>
-    ensures { delivered result res.new ≡ deliver (accepted (closed_record (dims_of dims) (code_for kind))) res.old }
+pub fn write_closed(dims: Dims, kind: u8, res: &mut [u8]) -> Result<usize, Refusal>
+    ensures { delivered result res.new ≡ deliver (accepted (closed_record (dims_of dims) kind)) res.old }
 {
     if res.len() < 4 + 8 * size_count(dims) + PLAIN_BYTES {
         return Err(Refusal(Reason::TooShort, 0));

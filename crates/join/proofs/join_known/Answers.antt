@@ -1,6 +1,10 @@
 use native.Mathlib.Omega.{arith}
 use mathlib.Core.Logic.{◌⊎◌, inl, inr}
+use mathlib.Core.Path.{sym, ap, ◌∙◌}
+use Rattle.format.specs.Outcome.{accepted}
 use Rattle.lent.specs.Delivers.{deliver-as}
+use Rattle.record.specs.Answers.{dims_of}
+use Rattle.writer.specs.Kinds.{closed_record}
 use Rattle.join.proofs.Laws.{Closed, closed_type, joined, joined-closed}
 use Rattle.join.proofs.join_known.Goals.{then-closed_at-via-then-closed_at, then-closed_at-via-else-closed_at+then-closed_at-2}
 use Rattle.join.proofs.join_known.Goals as goal
@@ -13,7 +17,8 @@ returns-in-Some c =
       | then-closed_at-via-else-closed_at+then-closed_at-2 w ↦ inr (closed_type c.args.b.now w.if-closed_at-2.true w.closed_at-else-closed_at.ensures)
     ] in
     deliver-as c.args.res.now c.write_closed.ensures
-    (joined-closed _ _ c.requires (λ i. omega (arith, c.type_inv.a i)) (λ i. omega (arith, c.type_inv.b i)) c.in-Some.ensures (grind arith) _ _ closed c.opening_at.ensures c.opening_at-in-Some.ensures _ c.join_dims.ensures)
+    (joined-closed _ _ c.requires (λ i. omega (arith, c.type_inv.a i)) (λ i. omega (arith, c.type_inv.b i)) c.in-Some.ensures (grind arith) _ _ closed c.opening_at.ensures c.opening_at-in-Some.ensures _ c.join_dims.ensures
+    ∙ ap (λ x. accepted (closed_record (dims_of c.join_dims.result) x)) (sym c.code.ensures))
 
 pub returns : goal.returns
 returns c =

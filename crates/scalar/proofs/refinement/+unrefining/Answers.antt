@@ -1,4 +1,5 @@
 use native.Mathlib.Omega.{arith}
+use mathlib.Core.Path.{◌∙◌}
 use Rattle.known.proofs.KnownLaws.{deep, has-scalar}
 use Rattle.scalar.proofs.UnrefineLaws.{kind_there, content_there, fields_there, plain_done, any_done, all_done, def_done, behind_done, fields_begun, field_there, fields_more, fields_done}
 use Rattle.scalar.proofs.refinement.+unrefining.Goals as goal
@@ -7,7 +8,7 @@ pub unrefine_at-put_kind-requires : goal.unrefine_at-put_kind-requires
 unrefine_at-put_kind-requires t c = kind_there _ _ _ c.requires c.in-Plain.ensures
 
 pub unrefine_at-returns-in-Plain : goal.unrefine_at-returns-in-Plain
-unrefine_at-returns-in-Plain t c = λ k h. plain_done _ _ _ k h (c.in-Plain.ensures _ k h) c.unrefine_kind.ensures c.put_kind.ensures
+unrefine_at-returns-in-Plain t c = λ k h. plain_done _ _ _ k h (c.in-Plain.ensures _ k h) (λ l e. c.code.ensures ∙ c.unrefine_kind.ensures l e) c.put_kind.ensures
 
 pub unrefine_at-returns-in-BoxAny : goal.unrefine_at-returns-in-BoxAny
 unrefine_at-returns-in-BoxAny t c = λ k h. any_done _ _ _ k h (c.in-BoxAny.ensures _ k h)

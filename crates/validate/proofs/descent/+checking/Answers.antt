@@ -70,7 +70,7 @@ check_scalar_at-check_type-requires t c =
     let args = c.args in
     let left = some_left args.others args.above c.requires.0.type-scalar c.requires.0.limits in
     let v = plan_inside c.requires.0 (c.in_ok-plan_scalar.ensures c.requires.0) c.in-Inside.is in
-    let head = box-laid 1 c.put_box-inner.ensures in
+    let head = box-laid 1 c.code.ensures c.put_box-inner.ensures in
     (omega (arith, c.decreases, left.1), (v.inner, held-room c.requires.0 args.to args.out.now c.requires.1 c.put_box-inner.result c.put_box-inner.new.out head.short c.put_box-inner.auto.out))
 
 pub check_scalar_at-overflow_cast-own : goal.check_scalar_at-overflow_cast-own
@@ -135,7 +135,7 @@ pub check_scalar_at-returns-in-Inside : goal.check_scalar_at-returns-in-Inside
 check_scalar_at-returns-in-Inside t c = λ w.
     let v = plan_inside w (c.in_ok-plan_scalar.ensures w) c.in-Inside.is in
     inside-done w c.args.to c.args.out.now c.requires.1 c.put_box-inner.result c.put_box-inner.new.out c.check_type.result c.check_type.new.out v
-    (box-laid 1 c.put_box-inner.ensures) (c.check_type.ensures v.inner)
+    (box-laid 1 c.code.ensures c.put_box-inner.ensures) (c.check_type.ensures v.inner)
 
 pub check_scalar_at-returns-else-fresh : goal.check_scalar_at-returns-else-fresh
 check_scalar_at-returns-else-fresh t c = λ w.

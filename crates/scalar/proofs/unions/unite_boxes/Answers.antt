@@ -1,6 +1,6 @@
 use mathlib.Core.Logic.{inl, inr}
 use Rattle.scalar.proofs.BoxLaws.{first_stays, content_there, all_united}
-use Rattle.scalar.proofs.unions.choose_box.Goals as goal
+use Rattle.scalar.proofs.unions.unite_boxes.Goals as goal
 
 pub choose_content-requires : goal.choose_content-requires
 choose_content-requires c = (content_there (c.in-Content.ensures _ _ c.requires.0.there), content_there (c.in-Content-inner_at.ensures _ _ c.requires.1.there))
